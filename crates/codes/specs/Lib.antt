@@ -1,0 +1,6 @@
+pub mod Machine
+pub mod Answer
+pub mod Lent
+pub mod Bytes
+pub mod Codes
+pub mod Limits

@@ -1,0 +1,46 @@
+// Cases of numbers in decimal digits.
+use crate::answer;
+use readers::numbers::First32;
+use readers::numbers::First64;
+use readers::numbers::Number32;
+use readers::numbers::Number64;
+
+pub fn single_u32(input: &[u8], stored: &[u8]) -> bool {
+    match readers::numbers::parse_single_u32(input) {
+        Number32::Value(v) => answer::is_value(stored, v as u64),
+        Number32::Refused(k) => answer::is_refusal(stored, k),
+    }
+}
+
+pub fn single_u64(input: &[u8], stored: &[u8]) -> bool {
+    match readers::numbers::parse_single_u64(input) {
+        Number64::Value(v) => answer::is_value(stored, v),
+        Number64::Refused(k) => answer::is_refusal(stored, k),
+    }
+}
+
+pub fn first_u32(input: &[u8], stored: &[u8]) -> bool {
+    match readers::numbers::parse_u32(input) {
+        First32::Value(v, next) => answer::is_pair(stored, v as u64, next as u64),
+        First32::Refused(k) => answer::is_refusal(stored, k),
+    }
+}
+
+pub fn first_u64(input: &[u8], stored: &[u8]) -> bool {
+    match readers::numbers::parse_u64(input) {
+        First64::Value(v, next) => answer::is_pair(stored, v, next as u64),
+        First64::Refused(k) => answer::is_refusal(stored, k),
+    }
+}
+
+// The largest number comes in two halves. One below 9 is no case: no width is that small.
+pub fn digits(input: &[u8], low: usize, high: usize, foreign: u8, stored: &[u8]) -> bool {
+    let max = low as u64 | ((high as u64) << 32);
+    if max < 9 {
+        return false;
+    }
+    match readers::numbers::parse_digits(input, max, foreign) {
+        Number64::Value(v) => answer::is_value(stored, v),
+        Number64::Refused(k) => answer::is_refusal(stored, k),
+    }
+}

@@ -1,0 +1,199 @@
+// Making nodes and taking them back.
+ghost use mathlib.Core.Path.{_≡_};
+ghost use mathlib.Core.List.{[]};
+ghost use mathlib.Core.Bool.{cond};
+ghost use Prim.Native.Nat.{_-_, _≤_, _<_};
+ghost use lib.ListN.{length};
+ghost use lib.IntN.{pos, negℤ};
+ghost use Rattle.edges.specs.Edge.{IsEdge};
+ghost use Rattle.store.specs.Store.{store};
+ghost use Rattle.store.specs.Rules.{Sizes, Rules, limits};
+ghost use Rattle.making.specs.Kinds.{ofMaking, Turns};
+ghost use Rattle.store.specs.Make as nodes;
+use codes::limits::NODE_LIMIT;
+use edges::Edge;
+use edges::Index;
+use store::search;
+
+// The edge to a node, or no slot for one.
+pub enum Making {
+    Node(Edge),
+    Full,
+}
+
+// The edge to a node, with no minus.
+fn edge_to(n: Index) -> Edge
+    requires { ⌜ IsEdge (pos n) ⌝ }
+    ensures { λ r. ⌜ r ≡ pos n ⌝ }
+{
+    n as Edge
+}
+
+// Is there a slot for one node more?
+fn has_room(count: Index, level: &[u16]) -> bool
+    ensures { λ r. ⌜ r ≡ nodes.roomFor limits (store 0 count (now (level .entry)) [] [] [] []) ⌝ }
+{
+    let n = count as usize + 1;
+    if level.len() < n {
+        return false;
+    }
+    if NODE_LIMIT < n {
+        return false;
+    }
+    true
+}
+
+// One node more, in the next slot and at the front of its chain.
+fn put_node(
+    levels: u16,
+    count: &mut Index,
+    level: &mut [u16],
+    then: &mut [Edge],
+    els: &mut [Edge],
+    next: &mut [Index],
+    heads: &mut [Index],
+    l: u16,
+    t: Edge,
+    e: Edge,
+)
+    requires { ⌜ Sizes limits (store levels (now count) (now level) (now then) (now els) (now next) (now heads)) ⌝ }
+    requires { ⌜ now count < length (now level) ⌝ }
+    ensures { λ r. ⌜ store levels (now (count .exit)) (now (level .exit)) (now (then .exit)) (now (els .exit)) (now (next .exit)) (now (heads .exit)) ≡ nodes.added (store levels (now (count .entry)) (now (level .entry)) (now (then .entry)) (now (els .entry)) (now (next .entry)) (now (heads .entry))) l t e ⌝ }
+{
+    let b = edges::bucket(l, t, e);
+    let c = *count;
+    let i = c as usize;
+    let h = heads[b];
+    level[i] = l;
+    then[i] = t;
+    els[i] = e;
+    next[i] = h;
+    heads[b] = c + 1;
+    *count = c + 1;
+}
+
+// A node with a positive then: found, or the next number.
+fn insert(
+    levels: u16,
+    count: &mut Index,
+    level: &mut [u16],
+    then: &mut [Edge],
+    els: &mut [Edge],
+    next: &mut [Index],
+    heads: &mut [Index],
+    l: u16,
+    t: Edge,
+    e: Edge,
+) -> Making
+    requires { ⌜ Rules limits (store levels (now count) (now level) (now then) (now els) (now next) (now heads)) ⌝ }
+    ensures { λ r. ⌜ ofMaking r ≡ nodes.insert limits (store levels (now (count .entry)) (now (level .entry)) (now (then .entry)) (now (els .entry)) (now (next .entry)) (now (heads .entry))) l t e .answer ⌝ }
+    ensures { λ r. ⌜ store levels (now (count .exit)) (now (level .exit)) (now (then .exit)) (now (els .exit)) (now (next .exit)) (now (heads .exit)) ≡ nodes.insert limits (store levels (now (count .entry)) (now (level .entry)) (now (then .entry)) (now (els .entry)) (now (next .entry)) (now (heads .entry))) l t e .after ⌝ }
+{
+    let c = *count;
+    let n = search::find(levels, c, level, then, els, next, heads, l, t, e);
+    if n != 0 {
+        return Making::Node(edge_to(n));
+    }
+    if !has_room(c, level) {
+        return Making::Full;
+    }
+    let a = edge_to(c + 1);
+    put_node(levels, count, level, then, els, next, heads, l, t, e);
+    Making::Node(a)
+}
+
+// The edge, or the opposite one under a minus.
+fn complement(minus: bool, e: Edge) -> Edge
+    requires { ⌜ IsEdge e ⌝ }
+    ensures { λ r. ⌜ r ≡ cond minus (negℤ e) e ⌝ }
+{
+    if minus { edges::negate(e) } else { e }
+}
+
+// The answer with its edge, or with the opposite one under a minus.
+fn complement_made(minus: bool, made: Making) -> Making
+    requires { ⌜ Turns made ⌝ }
+    ensures { λ r. ⌜ ofMaking r ≡ cond minus (nodes.negated (ofMaking made)) (ofMaking made) ⌝ }
+{
+    match made {
+        Making::Node(a) => Making::Node(complement(minus, a)),
+        Making::Full => Making::Full,
+    }
+}
+
+// The edge of a level, a then and an else. Equal children give that child; a minus on then moves to both the else and the result.
+pub fn make(
+    levels: u16,
+    count: &mut Index,
+    level: &mut [u16],
+    then: &mut [Edge],
+    els: &mut [Edge],
+    next: &mut [Index],
+    heads: &mut [Index],
+    l: u16,
+    t: Edge,
+    e: Edge,
+) -> Making
+    requires { ⌜ Rules limits (store levels (now count) (now level) (now then) (now els) (now next) (now heads)) ⌝ }
+    requires { ⌜ nodes.Makes (store levels (now count) (now level) (now then) (now els) (now next) (now heads)) l t e ⌝ }
+    ensures { λ r. ⌜ ofMaking r ≡ nodes.make limits (store levels (now (count .entry)) (now (level .entry)) (now (then .entry)) (now (els .entry)) (now (next .entry)) (now (heads .entry))) l t e .answer ⌝ }
+    ensures { λ r. ⌜ store levels (now (count .exit)) (now (level .exit)) (now (then .exit)) (now (els .exit)) (now (next .exit)) (now (heads .exit)) ≡ nodes.make limits (store levels (now (count .entry)) (now (level .entry)) (now (then .entry)) (now (els .entry)) (now (next .entry)) (now (heads .entry))) l t e .after ⌝ }
+{
+    if edges::same(t, e) {
+        return Making::Node(t);
+    }
+    let minus = edges::is_minus(t);
+    let a = complement(minus, t);
+    let b = complement(minus, e);
+    let made = insert(levels, count, level, then, els, next, heads, l, a, b);
+    complement_made(minus, made)
+}
+
+// The newest node's slot to zeros, and the head of its chain to where the chain went on.
+fn drop_node(
+    levels: u16,
+    count: &mut Index,
+    level: &mut [u16],
+    then: &mut [Edge],
+    els: &mut [Edge],
+    next: &mut [Index],
+    heads: &mut [Index],
+)
+    requires { ⌜ Sizes limits (store levels (now count) (now level) (now then) (now els) (now next) (now heads)) ⌝ }
+    ensures { λ r. ⌜ store levels (now (count .exit)) (now (level .exit)) (now (then .exit)) (now (els .exit)) (now (next .exit)) (now (heads .exit)) ≡ nodes.dropped (store levels (now (count .entry)) (now (level .entry)) (now (then .entry)) (now (els .entry)) (now (next .entry)) (now (heads .entry))) ⌝ }
+{
+    let n = *count;
+    let c = n - 1;
+    let i = c as usize;
+    let l = level[i];
+    let t = then[i];
+    let e = els[i];
+    let b = edges::bucket(l, t, e);
+    let h = next[i];
+    heads[b] = h;
+    level[i] = 0;
+    then[i] = 0;
+    els[i] = 0;
+    next[i] = 0;
+    *count = c;
+}
+
+// The nodes above number `to` taken back, newest first.
+pub fn take_back(
+    levels: u16,
+    count: &mut Index,
+    level: &mut [u16],
+    then: &mut [Edge],
+    els: &mut [Edge],
+    next: &mut [Index],
+    heads: &mut [Index],
+    to: Index,
+)
+    requires { ⌜ Rules limits (store levels (now count) (now level) (now then) (now els) (now next) (now heads)) ⌝ }
+    requires { ⌜ (1 ≤ to) × (to ≤ now count) ⌝ }
+    ensures { λ r. ⌜ store levels (now (count .exit)) (now (level .exit)) (now (then .exit)) (now (els .exit)) (now (next .exit)) (now (heads .exit)) ≡ nodes.back (now (count .entry) - to) (store levels (now (count .entry)) (now (level .entry)) (now (then .entry)) (now (els .entry)) (now (next .entry)) (now (heads .entry))) ⌝ }
+{
+    while to < *count {
+        drop_node(levels, count, level, then, els, next, heads);
+    }
+}

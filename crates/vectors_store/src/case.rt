@@ -1,0 +1,187 @@
+// One case: a store, which differs from that of the case before in some stretches, and what is asked of it.
+ghost use Prim.Native.Nat.{_+_, _≤_};
+use crate::change;
+use store::answers::Evaluation;
+
+// What came of one case, or why there is none.
+pub enum Outcome {
+    Same,
+    Differs,
+    NoMore,
+    Cut,
+}
+
+// The number that the two bytes from a position on hold, lowest first.
+fn field(head: &[u8; 23], at: usize) -> u16
+    requires { ⌜ at + 2 ≤ 23 ⌝ }
+{
+    change::pair(head[at], head[at + 1])
+}
+
+fn length(head: &[u8; 23], at: usize) -> usize
+    requires { ⌜ at + 2 ≤ 23 ⌝ }
+    ensures { λ r. ⌜ r ≤ 65535 ⌝ }
+{
+    change::size(field(head, at))
+}
+
+// Whether a refusal and an answer are the stored ones. An answer of yes is 1, and all else 0.
+fn is_stored(head: &[u8; 23], refusal: u8, answer: u8) -> bool {
+    head[21] == refusal && head[22] == answer
+}
+
+fn is_kept(head: &[u8; 23], keeps: bool) -> bool {
+    if keeps {
+        is_stored(head, 0, 0)
+    } else {
+        is_stored(head, 3, 0)
+    }
+}
+
+fn is_evaluation(head: &[u8; 23], e: Evaluation) -> bool {
+    match e {
+        Evaluation::Answer(yes) => {
+            if yes {
+                is_stored(head, 0, 1)
+            } else {
+                is_stored(head, 0, 0)
+            }
+        }
+        Evaluation::Refused(n) => is_stored(head, n, 0),
+    }
+}
+
+// A kind that isn't there is a difference.
+fn agrees(
+    head: &[u8; 23],
+    level: &[u16],
+    then: &[i16],
+    els: &[i16],
+    next: &[u16],
+    heads: &[u16],
+    setting: &[u8],
+) -> bool {
+    let levels = field(head, 1);
+    let count = field(head, 3);
+    if head[0] == 1 {
+        return is_kept(
+            head,
+            store::rules::keeps_rules(levels, count, level, then, els, next, heads),
+        );
+    }
+    if head[0] == 2 {
+        let root = change::signed(field(head, 15));
+        return is_evaluation(
+            head,
+            store::answers::evaluate(levels, count, level, then, els, next, heads, root, setting),
+        );
+    }
+    false
+}
+
+// Each list as long as the case has it lent.
+fn with_heads(
+    head: &[u8; 23],
+    lists: &[u16],
+    level: &[u16],
+    then: &[i16],
+    els: &[i16],
+    next: &[u16],
+    setting: &[u8],
+) -> bool {
+    let end = change::HEADS + length(head, 13);
+    if end <= lists.len() {
+        return agrees(
+            head,
+            level,
+            then,
+            els,
+            next,
+            &lists[change::HEADS..end],
+            setting,
+        );
+    }
+    false
+}
+
+fn with_next(
+    head: &[u8; 23],
+    lists: &[u16],
+    level: &[u16],
+    then: &[i16],
+    els: &[i16],
+    setting: &[u8],
+) -> bool {
+    let end = change::NEXT + length(head, 11);
+    if end <= lists.len() {
+        return with_heads(
+            head,
+            lists,
+            level,
+            then,
+            els,
+            &lists[change::NEXT..end],
+            setting,
+        );
+    }
+    false
+}
+
+fn with_level(head: &[u8; 23], lists: &[u16], then: &[i16], els: &[i16], setting: &[u8]) -> bool {
+    let end = length(head, 5);
+    if end <= lists.len() {
+        return with_next(head, lists, &lists[..end], then, els, setting);
+    }
+    false
+}
+
+fn with_els(head: &[u8; 23], lists: &[u16], then: &[i16], setting: &[u8]) -> bool {
+    let n = length(head, 9);
+    let end = change::ELS + n;
+    let mut els = [0i16; change::SLOTS];
+    if n <= els.len() && end <= lists.len() {
+        change::to_edges(&lists[change::ELS..end], &mut els);
+        return with_level(head, lists, then, &els[..n], setting);
+    }
+    false
+}
+
+fn with_then(head: &[u8; 23], lists: &[u16], setting: &[u8]) -> bool {
+    let n = length(head, 7);
+    let end = change::THEN + n;
+    let mut then = [0i16; change::SLOTS];
+    if n <= then.len() && end <= lists.len() {
+        change::to_edges(&lists[change::THEN..end], &mut then);
+        return with_els(head, lists, &then[..n], setting);
+    }
+    false
+}
+
+fn compared(head: &[u8; 23], lists: &[u16], setting: &[u8], n: usize) -> Outcome {
+    if n <= setting.len() {
+        if with_then(head, lists, &setting[..n]) {
+            return Outcome::Same;
+        }
+    }
+    Outcome::Differs
+}
+
+// A case whose head says more than the file has left, or than there is room for, isn't whole.
+pub fn one(fd: i32, lists: &mut [u16]) -> Outcome {
+    let mut head = [0u8; 23];
+    let got = io::read_full(fd, &mut head);
+    if got == 0 {
+        return Outcome::NoMore;
+    }
+    if got < 23 {
+        return Outcome::Cut;
+    }
+    let mut setting = io::large_buffer();
+    let n = length(&head, 17);
+    if change::change(fd, field(&head, 19), lists) {
+        if change::load(fd, &mut setting, n) {
+            return compared(&head, lists, &setting, n);
+        }
+    }
+    Outcome::Cut
+}

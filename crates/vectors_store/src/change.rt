@@ -1,0 +1,118 @@
+// The lists of a store as they are kept from one case to the next, one after the other in one list of numbers: a case has only the
+// stretches that differ from the case before.
+ghost use Prim.Native.Nat.{_≤_};
+
+// Where each list starts: the level list at 0, then, else, next, which have room for as many slots, and the bucket heads.
+pub const SLOTS: usize = 32800;
+
+pub const THEN: usize = 32800;
+
+pub const ELS: usize = 65600;
+
+pub const NEXT: usize = 98400;
+
+pub const HEADS: usize = 131200;
+
+pub const ROOM: usize = 131500;
+
+// Reads n bytes to the start of buf; false where the file has fewer, or buf is too short.
+pub fn load(fd: i32, buf: &mut [u8], n: usize) -> bool {
+    if n <= buf.len() {
+        return io::read_full(fd, &mut buf[..n]) == n;
+    }
+    false
+}
+
+fn wide(b: u8) -> u16 {
+    b as u16
+}
+
+// The number of two bytes, lowest first.
+pub fn pair(low: u8, high: u8) -> u16 {
+    wide(low) | (wide(high) << 8)
+}
+
+pub fn size(x: u16) -> usize
+    ensures { λ r. ⌜ r ≤ 65535 ⌝ }
+{
+    x as usize
+}
+
+// The numbers that the bytes hold, as far as there are any.
+fn put(bytes: &[u8], list: &mut [u16]) {
+    let mut i = 0;
+    while i < list.len() {
+        if bytes.len() / 2 <= i {
+            return;
+        }
+        list[i] = pair(bytes[2 * i], bytes[2 * i + 1]);
+        i += 1;
+    }
+}
+
+// False where the list ends before the stretch.
+fn put_from(bytes: &[u8], list: &mut [u16], start: usize) -> bool {
+    let n = bytes.len() / 2;
+    if list.len() < start {
+        return false;
+    }
+    if list.len() - start < n {
+        return false;
+    }
+    let end = start + n;
+    put(bytes, &mut list[start..end]);
+    true
+}
+
+fn put_first(bytes: &[u8], n: usize, list: &mut [u16], start: usize) -> bool {
+    if n <= bytes.len() {
+        return put_from(&bytes[..n], list, start);
+    }
+    false
+}
+
+// A stretch is where it starts, in three bytes, how many numbers it has, in two, and these. False where the file ends before.
+fn stretch(fd: i32, list: &mut [u16]) -> bool {
+    let mut head = [0u8; 5];
+    if io::read_full(fd, &mut head) < 5 {
+        return false;
+    }
+    let start = size(pair(head[0], head[1])) | (size(pair(head[2], 0)) << 16);
+    let n = 2 * size(pair(head[3], head[4]));
+    let mut bytes = [0u8; ROOM];
+    if load(fd, &mut bytes, n) {
+        return put_first(&bytes, n, list, start);
+    }
+    false
+}
+
+// Makes as many changes.
+pub fn change(fd: i32, stretches: u16, list: &mut [u16]) -> bool {
+    let mut left = stretches;
+    while left > 0 {
+        if !stretch(fd, list) {
+            return false;
+        }
+        left -= 1;
+    }
+    true
+}
+
+// A number of 16 bits, read as two's complement.
+pub fn signed(x: u16) -> i16 {
+    if x < 32768 {
+        return x as i16;
+    }
+    if x == 32768 {
+        return -32768;
+    }
+    edges::negate((65535 - x + 1) as i16)
+}
+
+pub fn to_edges(numbers: &[u16], edges: &mut [i16]) {
+    let mut i = 0;
+    while i < edges.len() && i < numbers.len() {
+        edges[i] = signed(numbers[i]);
+        i += 1;
+    }
+}

@@ -1,0 +1,4 @@
+pub mod Keys
+pub mod Judge
+pub mod Sweep
+pub mod Kinds

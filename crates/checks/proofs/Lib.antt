@@ -1,0 +1,11 @@
+pub mod Seating
+pub mod Ascending
+pub mod Distinct
+pub mod Arranged
+pub mod RootEdges
+pub mod SupportExamples
+pub mod Gathered
+pub mod Placed
+pub mod Alike
+pub mod Free
+pub mod NameExamples

@@ -1,0 +1,4 @@
+pub mod Seats
+pub mod Support
+pub mod Names
+pub mod Roots

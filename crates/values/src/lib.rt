@@ -1,0 +1,209 @@
+// What the last value of each key says. Each was judged by the sweep, so that the other arm of a reader's answer is met only where the
+// key is missing: a number is then 0, a list empty.
+ghost use mathlib.Core.Path.{_≡_};
+ghost use mathlib.Core.List.{map};
+ghost use Prim.Native.Nat.{_^_, _≤_};
+ghost use lib.ListN.{length, take, replicate};
+ghost use Rattle.codes.specs.Limits.{rootLimit};
+ghost use Rattle.readers.specs.Text.{startOf, lenOf};
+ghost use Rattle.fields.specs.Sweep.{Table};
+ghost use Rattle.values.specs.Kinds.{ofPlace, ofSpan, ofVarInfo, SpanWithin};
+ghost use Rattle.values.specs.Values.{spans, spanIn, Known, pad, numberIn, asciiIn, varinfoIn, ddIn, u32sIn, namesIn, rootsIn};
+use codes::VarInfo;
+use codes::limits;
+use fields::keys::Key;
+use readers::lists::Count;
+use readers::numbers::Number32;
+use readers::numbers::Number64;
+use readers::text::Str;
+
+// Where a text stands in the file; an empty one has start 0 and length 0.
+pub struct Place {
+    pub start: u32,
+    pub len: u32,
+}
+
+// Where a value stands in the file.
+pub struct Span {
+    pub start: usize,
+    pub end: usize,
+}
+
+// Fills a list with zeros.
+pub fn clear(dst: &mut [u32])
+    ensures { λ _. ⌜ now (dst .exit) ≡ replicate (length (now (dst .entry))) 0 ⌝ }
+{
+    let mut i = 0;
+    while i < dst.len() {
+        dst[i] = 0;
+        i += 1;
+    }
+}
+
+// Where a key's last value stands.
+fn span_in(f: &[u8], starts: &[u32], ends: &[u32], key: Key) -> Span
+    requires { ⌜ Table (now f) (now starts) (now ends) × Known key ⌝ }
+    ensures { λ r. ⌜ ofSpan r ≡ spanIn (spans (now (starts .entry)) (now (ends .entry))) key ⌝ }
+    ensures { λ r. ⌜ SpanWithin (now (f .entry)) r ⌝ }
+{
+    let k = fields::keys::slot_of(key);
+    Span {
+        start: starts[k] as usize,
+        end: ends[k] as usize,
+    }
+}
+
+// A number of 32 bits.
+pub fn u32_in(f: &[u8], starts: &[u32], ends: &[u32], key: Key) -> u32
+    requires { ⌜ Table (now f) (now starts) (now ends) × Known key ⌝ }
+    ensures { λ r. ⌜ r ≡ numberIn (2 ^ 32) (now (f .entry)) (spans (now (starts .entry)) (now (ends .entry))) key ⌝ }
+{
+    let span = span_in(f, starts, ends, key);
+    let start = span.start;
+    let end = span.end;
+    let Number32::Value(v) = readers::numbers::parse_single_u32(&f[start..end]) else {
+        return 0;
+    };
+    v
+}
+
+// A number of 64 bits.
+pub fn u64_in(f: &[u8], starts: &[u32], ends: &[u32], key: Key) -> u64
+    requires { ⌜ Table (now f) (now starts) (now ends) × Known key ⌝ }
+    ensures { λ r. ⌜ r ≡ numberIn (2 ^ 64) (now (f .entry)) (spans (now (starts .entry)) (now (ends .entry))) key ⌝ }
+{
+    let span = span_in(f, starts, ends, key);
+    let start = span.start;
+    let end = span.end;
+    let Number64::Value(v) = readers::numbers::parse_single_u64(&f[start..end]) else {
+        return 0;
+    };
+    v
+}
+
+// Whether the nodes are text.
+pub fn ascii_in(f: &[u8], starts: &[u32], ends: &[u32]) -> bool
+    requires { ⌜ Table (now f) (now starts) (now ends) ⌝ }
+    ensures { λ r. ⌜ r ≡ asciiIn (now (f .entry)) (spans (now (starts .entry)) (now (ends .entry))) ⌝ }
+{
+    let span = span_in(f, starts, ends, Key::Mode);
+    let start = span.start;
+    let end = span.end;
+    !fields::keys::same(&f[start..end], b"B")
+}
+
+// What the extra word of a text node line holds.
+pub fn varinfo_in(f: &[u8], starts: &[u32], ends: &[u32]) -> VarInfo
+    requires { ⌜ Table (now f) (now starts) (now ends) ⌝ }
+    ensures { λ r. ⌜ ofVarInfo r ≡ varinfoIn (now (f .entry)) (spans (now (starts .entry)) (now (ends .entry))) ⌝ }
+{
+    let span = span_in(f, starts, ends, Key::Varinfo);
+    let start = span.start;
+    let end = span.end;
+    let value = &f[start..end];
+    if fields::keys::same(value, b"0") {
+        return VarInfo::VariableID;
+    }
+    if fields::keys::same(value, b"1") {
+        return VarInfo::PermutationID;
+    }
+    if fields::keys::same(value, b"2") {
+        return VarInfo::AuxiliaryID;
+    }
+    if fields::keys::same(value, b"3") {
+        return VarInfo::VariableName;
+    }
+    VarInfo::None
+}
+
+// The diagram's name.
+pub fn dd_in(f: &[u8], starts: &[u32], ends: &[u32]) -> Place
+    requires { ⌜ Table (now f) (now starts) (now ends) ⌝ }
+    ensures { λ r. ⌜ ofPlace r ≡ ddIn (now (f .entry)) (spans (now (starts .entry)) (now (ends .entry))) ⌝ }
+{
+    let span = span_in(f, starts, ends, Key::Dd);
+    let start = span.start;
+    let end = span.end;
+    let Str::Place(at, len) = readers::text::parse_str(&f[start..end], start as u32) else {
+        return Place { start: 0, len: 0 };
+    };
+    Place { start: at, len }
+}
+
+// Reads a list of numbers, and answers how many there are. The rest of the lent list is zeros.
+pub fn u32s_in(f: &[u8], starts: &[u32], ends: &[u32], key: Key, dst: &mut [u32]) -> usize
+    requires { ⌜ Table (now f) (now starts) (now ends) × Known key ⌝ }
+    ensures { λ r. ⌜ r ≡ length (u32sIn (now (f .entry)) (spans (now (starts .entry)) (now (ends .entry))) key) ⌝ }
+    ensures { λ _. ⌜ now (dst .exit) ≡ pad (length (now (dst .entry))) (u32sIn (now (f .entry)) (spans (now (starts .entry)) (now (ends .entry))) key) ⌝ }
+{
+    let span = span_in(f, starts, ends, key);
+    let start = span.start;
+    let end = span.end;
+    clear(dst);
+    let Count::Entries(n) = readers::lists::parse_u32_list(&f[start..end], limits::VAR_LIMIT, dst)
+    else {
+        clear(dst);
+        return 0;
+    };
+    n
+}
+
+// Reads a list of at most `max` names, and answers how many there are. The rest of the lent lists is zeros.
+pub fn names_in(
+    f: &[u8],
+    starts: &[u32],
+    ends: &[u32],
+    key: Key,
+    max: usize,
+    names: &mut [u32],
+    lens: &mut [u32],
+) -> usize
+    requires { ⌜ Table (now f) (now starts) (now ends) × Known key ⌝ }
+    ensures { λ r. ⌜ r ≡ length (namesIn max (now (f .entry)) (spans (now (starts .entry)) (now (ends .entry))) key) ⌝ }
+    ensures { λ _. ⌜ now (names .exit) ≡ pad (length (now (names .entry))) (map startOf (namesIn max (now (f .entry)) (spans (now (starts .entry)) (now (ends .entry))) key)) ⌝ }
+    ensures { λ _. ⌜ now (lens .exit) ≡ pad (length (now (lens .entry))) (map lenOf (namesIn max (now (f .entry)) (spans (now (starts .entry)) (now (ends .entry))) key)) ⌝ }
+{
+    let span = span_in(f, starts, ends, key);
+    let start = span.start;
+    let end = span.end;
+    clear(names);
+    clear(lens);
+    let Count::Entries(n) = readers::text::parse_str_list(
+        &f[start..end],
+        start as u32,
+        max,
+        names,
+        lens,
+    ) else {
+        clear(names);
+        clear(lens);
+        return 0;
+    };
+    n
+}
+
+// Reads the roots over the front of a list, and answers how many there are.
+pub fn roots_in(f: &[u8], starts: &[u32], ends: &[u32], dst: &mut [i64]) -> usize
+    requires { ⌜ Table (now f) (now starts) (now ends) × (rootLimit ≤ length (now dst)) ⌝ }
+    ensures { λ r. ⌜ r ≡ length (rootsIn (now (f .entry)) (spans (now (starts .entry)) (now (ends .entry)))) ⌝ }
+    ensures { λ r. ⌜ take r (now (dst .exit)) ≡ rootsIn (now (f .entry)) (spans (now (starts .entry)) (now (ends .entry))) ⌝ }
+{
+    let span = span_in(f, starts, ends, Key::Rootids);
+    let start = span.start;
+    let end = span.end;
+    let Count::Entries(n) = readers::edges::parse_edge_list(&f[start..end], limits::ROOT_LIMIT, dst)
+    else {
+        return 0;
+    };
+    n
+}
+
+// How many names a list has.
+pub fn count_names(f: &[u8], starts: &[u32], ends: &[u32], key: Key, max: usize) -> usize
+    requires { ⌜ Table (now f) (now starts) (now ends) × Known key ⌝ }
+    ensures { λ r. ⌜ r ≡ length (namesIn max (now (f .entry)) (spans (now (starts .entry)) (now (ends .entry))) key) ⌝ }
+{
+    let mut names = [0u32; 1];
+    let mut lens = [0u32; 1];
+    names_in(f, starts, ends, key, max, &mut names, &mut lens)
+}

@@ -1,0 +1,10 @@
+pub mod FirstFault
+pub mod Refusals
+pub mod Upward
+pub mod Numbered
+pub mod Supporting
+pub mod NameCounts
+pub mod Agreeing
+pub mod Rooted
+pub mod Checked
+pub mod Accepted

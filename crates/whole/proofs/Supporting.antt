@@ -1,0 +1,113 @@
+-- Laws of the checks of the support variables.
+use mathlib.Core.Path.{_≡_, refl, sym, _∙_}
+use mathlib.Core.Bool.{Bool, true, false, not}
+use mathlib.Core.List.{List, [], _∷_}
+use Prim.Native.Nat.{ℕ}
+use native.Mathlib.Omega.{arith}
+use lib.ListN.{length, take}
+use borrow.Author.Tests.{not-true, not-false}
+use Rattle.fields.specs.Sweep.{Span}
+use Rattle.fields.specs.declared.keys.Key.the-variants.{Ids, Permids, Auxids}
+use Rattle.checks.specs.Support.{idsFit, permidsFit}
+use Rattle.values.specs.Values.{nvarsIn, nsuppvarsIn, u32sIn}
+use Rattle.values.proofs.Fronts.{HasNumbers, numbers-are}
+use Rattle.whole.specs.Whole.{firstFault, unless, givenFault, supportFaults, Supported}
+use Rattle.whole.proofs.FirstFault.{first-none, rest-none, refuses, passes, last-check}
+use Rattle.whole.proofs.Refusals.{unless-holds, unless-fails, unless-none, count-right, count-wrong, count-none}
+
+-- the counts are right, so that the ids and the permids decide
+abbrev pub CountsPass : List ℕ → List Span → Type 0
+CountsPass f t =
+    firstFault
+    (unless (idsFit (nvarsIn f t) (u32sIn f t Ids)) 22
+    ∷ unless (permidsFit (nvarsIn f t) (u32sIn f t Permids)) 23
+    ∷ [])
+    ≡ firstFault (supportFaults f t)
+
+module _ (f : List ℕ) (t : List Span) where
+  -- how many support variables, ids, permids and auxids there are
+  module _ {want n : ℕ} (w : want ≡ nsuppvarsIn f t) (p : n ≡ length (u32sIn f t Ids)) where
+    -- too many ids or too few
+    pub ids-wrong : (n ≡ want → ⊥) → 21 ≡ firstFault (supportFaults f t)
+    unfolding supportFaults
+    ids-wrong h = refuses _ (sym (count-wrong _ _ (λ q. h (p ∙ q ∙ sym w)))) (λ z. omega arith)
+
+    module _ (h : n ≡ want) {m : ℕ} (q : m ≡ length (u32sIn f t Permids)) where
+      -- too many permids or too few
+      pub permids-wrong : (m ≡ want → ⊥) → 21 ≡ firstFault (supportFaults f t)
+      unfolding supportFaults
+      permids-wrong k =
+          refuses _ (sym (count-wrong _ _ (λ e. k (q ∙ e ∙ sym w)))) (λ z. omega arith)
+          ∙ passes _ refl (count-right _ _ (sym p ∙ h ∙ w))
+
+      module _ (k : m ≡ want) {a x : ℕ} (u : a ≡ length (u32sIn f t Auxids)) (g : x ≡ givenFault want a) where
+        -- too many auxids or too few
+        pub auxids-wrong : (x ≡ 0 → ⊥) → x ≡ firstFault (supportFaults f t)
+        unfolding supportFaults
+        auxids-wrong z =
+            refuses _ (rw (w, u) at g) z
+            ∙ passes _ refl (count-right _ _ (sym q ∙ k ∙ w))
+            ∙ passes _ refl (count-right _ _ (sym p ∙ h ∙ w))
+
+        -- as many as there must be
+        pub counts-pass : x ≡ 0 → CountsPass f t
+        unfolding supportFaults
+        counts-pass z =
+            passes _ (rw (w, u) at g) z
+            ∙ passes _ refl (count-right _ _ (sym q ∙ k ∙ w))
+            ∙ passes _ refl (count-right _ _ (sym p ∙ h ∙ w))
+
+  -- where the counts are right: the ids that were read, and the answer about them
+  module _ (pass : CountsPass f t) {nvars n : ℕ} {ids : List ℕ} (v : nvars ≡ nvarsIn f t) (p : HasNumbers f t Ids n ids)
+      {a : Bool} (e : a ≡ idsFit nvars (take n ids)) where
+    -- it is about the header's ids
+    ids-answer : idsFit (nvarsIn f t) (u32sIn f t Ids) ≡ a
+    ids-answer = sym (rw (v, numbers-are f t Ids p) at e)
+
+    -- the ids don't fit
+    pub ids-unfit : not a ≡ true → 22 ≡ firstFault (supportFaults f t)
+    ids-unfit h = refuses _ (sym (unless-fails 22 (ids-answer ∙ not-true a h))) (λ z. omega arith) ∙ pass
+
+    -- they do: the permids that were read, and the answer about them
+    module _ (h : not a ≡ false) {m : ℕ} {permids : List ℕ} (q : HasNumbers f t Permids m permids)
+        {b : Bool} (d : b ≡ permidsFit nvars (take m permids)) where
+      -- it is about the header's permids
+      permids-answer : permidsFit (nvarsIn f t) (u32sIn f t Permids) ≡ b
+      permids-answer = sym (rw (v, numbers-are f t Permids q) at d)
+
+      -- the permids don't fit
+      pub permids-unfit : not b ≡ true → 23 ≡ firstFault (supportFaults f t)
+      permids-unfit k =
+          sym (unless-fails 23 (permids-answer ∙ not-true b k))
+          ∙ last-check _
+          ∙ passes _ refl (unless-holds 22 (ids-answer ∙ not-false a h))
+          ∙ pass
+
+      -- they do
+      pub support-passes : not b ≡ false → 0 ≡ firstFault (supportFaults f t)
+      support-passes k =
+          sym (unless-holds 23 (permids-answer ∙ not-false b k))
+          ∙ last-check _
+          ∙ passes _ refl (unless-holds 22 (ids-answer ∙ not-false a h))
+          ∙ pass
+
+  -- where there is no refusal
+  module _ (h : firstFault (supportFaults f t) ≡ 0) where
+    -- there are as many ids and permids as support variables
+    pub supported : Supported f t
+    unfolding supportFaults
+    supported =
+        record {
+          ids-counted = count-none _ _ (first-none _ _ h);
+          permids-counted = count-none _ _ (first-none _ _ (rest-none _ _ h));
+        }
+
+    -- the ids fit
+    pub ids-fit : idsFit (nvarsIn f t) (u32sIn f t Ids) ≡ true
+    unfolding supportFaults
+    ids-fit = unless-none _ 21 (first-none _ _ (rest-none _ _ (rest-none _ _ (rest-none _ _ h))))
+
+    -- the permids fit
+    pub permids-fit : permidsFit (nvarsIn f t) (u32sIn f t Permids) ≡ true
+    unfolding supportFaults
+    permids-fit = unless-none _ 22 (first-none _ _ (rest-none _ _ (rest-none _ _ (rest-none _ _ (rest-none _ _ h)))))

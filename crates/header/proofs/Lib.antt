@@ -1,0 +1,9 @@
+pub mod Lengths
+pub mod NoValues
+pub mod Faultless
+pub mod Answers
+pub mod Loading
+pub mod Examples
+pub mod Cleared
+pub mod Filling
+pub mod Naming

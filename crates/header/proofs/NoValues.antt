@@ -1,0 +1,32 @@
+-- The table of no values, which is left after a refusal: what it gives is empty.
+use mathlib.Core.Path.{_≡_, refl}
+use mathlib.Core.List.{List}
+use Prim.Native.Nat.{ℕ}
+use native.Mathlib.Omega.{arith}
+use lib.ListN.{replicate}
+use Rattle.codes.specs.Machine.{run}
+use Rattle.readers.specs.Number.{single}
+use Rattle.readers.specs.Words.{wordsFrom, words}
+use Rattle.readers.specs.Lists.{judge, u32List}
+use Rattle.readers.specs.Edges.{edgeEnd, edgeList}
+use Rattle.readers.specs.Text.{nameList}
+use Rattle.fields.specs.Sweep.{Span, none, keys}
+use Rattle.checks.specs.Support.{orderFrom, supportOrder}
+use Rattle.checks.specs.Names.{variableNames}
+use Rattle.values.specs.Values.{u32sIn, namesIn, rootsIn, numberIn}
+use Rattle.whole.specs.Names.{variableNamesIn}
+use Rattle.header.specs.Header.{Answer, nothing, listsIn, Settled}
+
+-- the table of no values
+abbrev pub noValues : List Span
+noValues = replicate keys none
+
+-- it gives no lists
+pub no-lists : (f : List ℕ) (a : Answer) → listsIn f noValues a ≡ nothing a
+unfolding numberIn single u32sIn u32List judge words wordsFrom namesIn nameList rootsIn edgeList edgeEnd run variableNamesIn variableNames supportOrder orderFrom
+no-lists f a = refl
+
+-- what the last phase leans on
+pub none-settled : (f : List ℕ) → Settled f noValues
+unfolding numberIn single u32sIn u32List judge words wordsFrom
+none-settled f = record { few = omega arith; below = λ i. omega arith }

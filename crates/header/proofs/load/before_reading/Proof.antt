@@ -1,0 +1,24 @@
+-- `before_reading` meets its contract.
+use mathlib.Core.Path.{sym}
+use borrow.Author.Needs.{needs}
+use Rattle.header.proofs.Lengths.{short-vars, short-roots, long-enough}
+use Rattle.header.proofs.load.before_reading.Statement.{statement}
+use Rattle.header.proofs.load.before_reading.Tie as tie
+
+at-least-requires : tie.Need-at-least-requires
+at-least-requires c κs = search needs
+
+returns : tie.Need-returns
+returns c = sym (short-vars _ _ _ (c .before .at-least .ensures) (c .if1 .taken))
+
+at-least-requires-2 : tie.Need-at-least-requires-2
+at-least-requires-2 c κs = search needs
+
+returns-2 : tie.Need-returns-2
+returns-2 c = sym (short-roots _ _ _ (c .before .before .before .at-least .ensures) (c .before .before .if1 .left) (c .before .at-least2 .ensures) (c .if2 .taken))
+
+returns-3 : tie.Need-returns-3
+returns-3 c = sym (long-enough _ _ _ (c .before .before .before .at-least .ensures) (c .before .before .if1 .left) (c .before .at-least2 .ensures) (c .if2 .left))
+
+pub before-reading-spec : {M : Type 1} → statement M
+before-reading-spec = tie.close (tie.spec at-least-requires returns at-least-requires-2 returns-2 returns-3)

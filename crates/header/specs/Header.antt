@@ -1,0 +1,139 @@
+-- The header of a file: what it says, or its refusal.
+use Prim.Native.Nat.{ℕ, zero, suc, _≤_}
+use mathlib.Core.List.{List, [], _∷_}
+use mathlib.Core.Bool.{Bool, true, false, cond, _&&_}
+use lib.ListN.{length, replicate}
+use lib.IntN.{ℤ}
+use lib.Dec.{leb, ltb}
+use Rattle.codes.specs.Limits.{varLimit, rootLimit, inputLimit}
+use Rattle.readers.specs.Text.{Place}
+use Rattle.fields.specs.Sweep.{Span, none, keys, End, atNodes, refusedAt, linesOf, allOf, endOf, lasts}
+use Rattle.fields.specs.declared.keys.Key.the-variants.{Ids, Permids, Auxids, Rootnames}
+use Rattle.checks.specs.Support.{supportOrder}
+use Rattle.checks.specs.Seats.{Below}
+use Rattle.values.specs.Values.{nnodesIn, nvarsIn, nsuppvarsIn, nrootsIn, asciiIn, varinfoIn, ddIn, u32sIn, namesIn, rootsIn}
+use Rattle.whole.specs.Names.{variableNamesIn}
+use Rattle.whole.specs.Whole.{firstFault, unless, wholeFault}
+
+-- the numbers of a header: mode A or not, varinfo, the place of the diagram's name, the counts, the position after `.nodes`' line, and the
+-- number of lines
+pub record Header : Type 0 where
+  pub ascii : Bool
+  pub varinfo : ℕ
+  pub dd : Place
+  pub nnodes : ℕ
+  pub nvars : ℕ
+  pub nsuppvars : ℕ
+  pub nroots : ℕ
+  pub next : ℕ
+  pub lines : ℕ
+
+-- a header, or a refusal and its line
+pub data Answer : Type 0 where
+  header : Header → Answer
+  refusal : ℕ → ℕ → Answer
+
+-- the numbers, by the last value of each key
+abbrev pub headerIn : List ℕ → List Span → ℕ → ℕ → Header
+headerIn f t next lines = record {
+  ascii = asciiIn f t;
+  varinfo = varinfoIn f t;
+  dd = ddIn f t;
+  nnodes = nnodesIn f t;
+  nvars = nvarsIn f t;
+  nsuppvars = nsuppvarsIn f t;
+  nroots = nrootsIn f t;
+  next = next;
+  lines = lines;
+}
+
+-- the table of the last values of a file's header
+unfoldable pub tableOf : List ℕ → List Span
+tableOf f = lasts (allOf (linesOf f))
+
+-- after the lines the header as a whole, whose refusals have line 0
+abbrev pub settled : List ℕ → List Span → ℕ → ℕ → ℕ → Answer
+settled f t next lines zero = header (headerIn f t next lines)
+settled f t next lines (suc n) = refusal (suc n) 0
+
+abbrev pub judged : List ℕ → End → Answer
+judged f (refusedAt n line) = refusal n line
+judged f (atNodes next lines) = settled f (tableOf f) next lines (wholeFault f (tableOf f))
+
+-- 'input 16,777,216 bytes (19, line 0, before all reading)'
+unfoldable pub answerOf : List ℕ → Answer
+answerOf f = cond (ltb inputLimit (length f)) (refusal 19 0) (judged f (endOf f (linesOf f)))
+
+-- a refusal that was there before, 0 of none, comes first
+abbrev pub after : ℕ → List ℕ → Answer
+after zero f = answerOf f
+after (suc n) f = refusal (suc n) 0
+
+-- each of the lengths is enough
+unfoldable pub atLeast : ℕ → List ℕ → Bool
+atLeast least [] = true
+atLeast least (n ∷ l) = leb least n && atLeast least l
+
+-- '1 a lent part too short: 4,096 entries for each variable list, 1,024 for each root list', by the lengths of the lent lists; then what
+-- the caller found, 0 of nothing. 'Order: load gives 1 (lists), 3, 19 for the input's length, header'.
+unfoldable pub beforeReading : List ℕ → List ℕ → ℕ → ℕ
+beforeReading vars roots found = firstFault (unless (atLeast varLimit vars && atLeast rootLimit roots) 1 ∷ found ∷ [])
+
+-- What a load of the header leaves: its answer, and the entries of each lent list, which are followed by zeros.
+pub record Loaded : Type 0 where
+  pub answer : Answer
+  pub ids : List ℕ
+  pub order : List ℕ
+  pub permids : List ℕ
+  pub auxids : List ℕ
+  pub names : List Place
+  pub roots : List ℤ
+  pub rootnames : List Place
+
+-- the lists that a table gives
+abbrev pub listsIn : List ℕ → List Span → Answer → Loaded
+listsIn f t a = record {
+  answer = a;
+  ids = u32sIn f t Ids;
+  order = supportOrder (nvarsIn f t) (u32sIn f t Ids) (u32sIn f t Permids);
+  permids = u32sIn f t Permids;
+  auxids = u32sIn f t Auxids;
+  names = variableNamesIn f t;
+  roots = rootsIn f t;
+  rootnames = namesIn rootLimit f t Rootnames;
+}
+
+-- 'On any refusal outputs are all zeros'
+abbrev pub nothing : Answer → Loaded
+nothing a = record { answer = a; ids = []; order = []; permids = []; auxids = []; names = []; roots = []; rootnames = [] }
+
+abbrev pub listsBy : List ℕ → Answer → Loaded
+listsBy f (header h) = listsIn f (tableOf f) (header h)
+listsBy f (refusal n line) = nothing (refusal n line)
+
+-- The header of a file, lent lists of these lengths, after what the caller found.
+unfoldable pub loadOf : List ℕ → List ℕ → ℕ → List ℕ → Loaded
+loadOf vars roots found f = listsBy f (after (beforeReading vars roots found) f)
+
+-- the same, by the nine lists that are lent
+abbrev pub loadInto : List ℕ → List ℕ → List ℕ → List ℕ → List ℕ → List ℕ → List ℤ → List ℕ → List ℕ → ℕ → List ℕ → Loaded
+loadInto ids order permids auxids names lens roots rootnames rootlens found f =
+    loadOf
+    (length ids ∷ length order ∷ length permids ∷ length auxids ∷ length names ∷ length lens ∷ [])
+    (length roots ∷ length rootnames ∷ length rootlens ∷ [])
+    found f
+
+-- the table that the last phase reads: none on a refusal
+abbrev pub tableBy : List ℕ → Answer → List Span
+tableBy f (header h) = tableOf f
+tableBy f (refusal n line) = replicate keys none
+
+-- what that phase leans on
+pub record Settled (f : List ℕ) (t : List Span) : Type 0 where
+  pub few : nvarsIn f t ≤ varLimit
+  pub below : Below varLimit (u32sIn f t Permids)
+
+-- the position after `.nodes`' line lies inside the file
+abbrev pub NextWithin : List ℕ → Answer → Type 0
+NextWithin f (header h) = h .next ≤ length f
+NextWithin f (refusal n line) = Unit

@@ -1,0 +1,141 @@
+// The lists of a header, each read from the place of its key's last value into the lent one. The rest of a lent list is zeros; where the
+// table is of zeros, as on a refusal, all of it.
+ghost use mathlib.Core.Path.{_≡_};
+ghost use mathlib.Core.List.{map};
+ghost use Prim.Native.Nat.{_≤_};
+ghost use lib.IntN.{pos};
+ghost use lib.ListN.{length, replicate};
+ghost use Rattle.codes.specs.Lent.{laid};
+ghost use Rattle.codes.specs.Limits.{varLimit};
+ghost use Rattle.readers.specs.Text.{startOf, lenOf};
+ghost use Rattle.fields.specs.Sweep.{Table};
+ghost use Rattle.fields.specs.declared.keys.Key.the-variants.{Ids, Permids};
+ghost use Rattle.checks.specs.Names.{nameAt, orderedSeats, suppSeats};
+ghost use Rattle.checks.specs.Roots.{edgeOf};
+ghost use Rattle.checks.specs.Support.{supportOrder};
+ghost use Rattle.values.specs.Values.{spans, Known, pad, nvarsIn, u32sIn, namesIn, rootsIn};
+ghost use Rattle.whole.specs.Names.{variableNamesIn};
+ghost use Rattle.header.specs.Header.{Settled};
+use codes::limits::ROOT_LIMIT;
+use codes::limits::VAR_LIMIT;
+use edges::Edge;
+use fields::keys::Key;
+
+// The support order.
+pub fn fill_order(f: &[u8], starts: &[u32], ends: &[u32], dst: &mut [u32])
+    requires { ⌜ Table (now f) (now starts) (now ends) × Settled (now f) (spans (now starts) (now ends)) ⌝ }
+    ensures { λ _. ⌜ now (dst .exit) ≡ pad (length (now (dst .entry))) (supportOrder (nvarsIn (now (f .entry)) (spans (now (starts .entry)) (now (ends .entry)))) (u32sIn (now (f .entry)) (spans (now (starts .entry)) (now (ends .entry))) Ids) (u32sIn (now (f .entry)) (spans (now (starts .entry)) (now (ends .entry))) Permids)) ⌝ }
+{
+    let nvars = values::u32_in(f, starts, ends, Key::Nvars);
+    let mut ids = [0u32; VAR_LIMIT];
+    let n = values::u32s_in(f, starts, ends, Key::Ids, &mut ids);
+    let mut permids = [0u32; VAR_LIMIT];
+    let m = values::u32s_in(f, starts, ends, Key::Permids, &mut permids);
+    values::clear(dst);
+    checks::support::arrange(&ids[..n], &permids[..m], nvars, dst);
+}
+
+// Where each variable's name stands in `.orderedvarnames`, counted from 1, over the front of a list.
+fn ordered_in(f: &[u8], starts: &[u32], ends: &[u32], dst: &mut [u32])
+    requires { ⌜ Table (now f) (now starts) (now ends) × Settled (now f) (spans (now starts) (now ends)) ⌝ }
+    ensures { λ _. ⌜ now (dst .exit) ≡ laid (orderedSeats (nvarsIn (now (f .entry)) (spans (now (starts .entry)) (now (ends .entry)))) (u32sIn (now (f .entry)) (spans (now (starts .entry)) (now (ends .entry))) Ids) (u32sIn (now (f .entry)) (spans (now (starts .entry)) (now (ends .entry))) Permids)) (now (dst .entry)) ⌝ }
+{
+    let nvars = values::u32_in(f, starts, ends, Key::Nvars);
+    let mut ids = [0u32; VAR_LIMIT];
+    let n = values::u32s_in(f, starts, ends, Key::Ids, &mut ids);
+    let mut permids = [0u32; VAR_LIMIT];
+    let m = values::u32s_in(f, starts, ends, Key::Permids, &mut permids);
+    checks::names::ordered_seats(&ids[..n], &permids[..m], nvars, dst);
+}
+
+// Where each variable's name stands in `.suppvarnames`, counted from 1, over the front of a list.
+fn supp_in(f: &[u8], starts: &[u32], ends: &[u32], dst: &mut [u32])
+    requires { ⌜ Table (now f) (now starts) (now ends) × Settled (now f) (spans (now starts) (now ends)) ⌝ }
+    ensures { λ _. ⌜ now (dst .exit) ≡ laid (suppSeats (nvarsIn (now (f .entry)) (spans (now (starts .entry)) (now (ends .entry)))) (u32sIn (now (f .entry)) (spans (now (starts .entry)) (now (ends .entry))) Ids)) (now (dst .entry)) ⌝ }
+{
+    let nvars = values::u32_in(f, starts, ends, Key::Nvars);
+    let mut ids = [0u32; VAR_LIMIT];
+    let n = values::u32s_in(f, starts, ends, Key::Ids, &mut ids);
+    checks::names::supp_seats(&ids[..n], nvars, dst);
+}
+
+// The names at the seats of a list, over the front of the lent ones.
+fn gather_names(
+    f: &[u8],
+    starts: &[u32],
+    ends: &[u32],
+    key: Key,
+    seats: &[u32],
+    names: &mut [u32],
+    lens: &mut [u32],
+)
+    requires { ⌜ Table (now f) (now starts) (now ends) × Known key ⌝ }
+    ensures { λ _. ⌜ now (names .exit) ≡ laid (map startOf (map (nameAt (namesIn varLimit (now (f .entry)) (spans (now (starts .entry)) (now (ends .entry))) key)) (now (seats .entry)))) (now (names .entry)) ⌝ }
+    ensures { λ _. ⌜ now (lens .exit) ≡ laid (map lenOf (map (nameAt (namesIn varLimit (now (f .entry)) (spans (now (starts .entry)) (now (ends .entry))) key)) (now (seats .entry)))) (now (lens .entry)) ⌝ }
+{
+    let mut from = [0u32; VAR_LIMIT];
+    let mut from_lens = [0u32; VAR_LIMIT];
+    let n = values::names_in(f, starts, ends, key, VAR_LIMIT, &mut from, &mut from_lens);
+    checks::names::gather(seats, &from[..n], names);
+    checks::names::gather(seats, &from_lens[..n], lens);
+}
+
+// The names of the variables: `.varnames` first, else `.orderedvarnames`, else `.suppvarnames`.
+pub fn fill_names(f: &[u8], starts: &[u32], ends: &[u32], names: &mut [u32], lens: &mut [u32])
+    requires { ⌜ Table (now f) (now starts) (now ends) × Settled (now f) (spans (now starts) (now ends)) ⌝ }
+    ensures { λ _. ⌜ now (names .exit) ≡ pad (length (now (names .entry))) (map startOf (variableNamesIn (now (f .entry)) (spans (now (starts .entry)) (now (ends .entry))))) ⌝ }
+    ensures { λ _. ⌜ now (lens .exit) ≡ pad (length (now (lens .entry))) (map lenOf (variableNamesIn (now (f .entry)) (spans (now (starts .entry)) (now (ends .entry))))) ⌝ }
+{
+    if values::names_in(f, starts, ends, Key::Varnames, VAR_LIMIT, names, lens) != 0 {
+        return;
+    }
+    let nvars = values::u32_in(f, starts, ends, Key::Nvars) as usize;
+    let mut seats = [0u32; VAR_LIMIT];
+    if values::count_names(f, starts, ends, Key::Orderedvarnames, VAR_LIMIT) != 0 {
+        ordered_in(f, starts, ends, &mut seats);
+        gather_names(
+            f,
+            starts,
+            ends,
+            Key::Orderedvarnames,
+            &seats[..nvars],
+            names,
+            lens,
+        );
+        return;
+    }
+    if values::count_names(f, starts, ends, Key::Suppvarnames, VAR_LIMIT) != 0 {
+        supp_in(f, starts, ends, &mut seats);
+        gather_names(
+            f,
+            starts,
+            ends,
+            Key::Suppvarnames,
+            &seats[..nvars],
+            names,
+            lens,
+        );
+    }
+}
+
+// Fills a list of edges with zeros.
+fn clear_edges(dst: &mut [Edge])
+    ensures { λ _. ⌜ now (dst .exit) ≡ replicate (length (now (dst .entry))) (pos 0) ⌝ }
+{
+    let mut i = 0;
+    while i < dst.len() {
+        dst[i] = 0;
+        i += 1;
+    }
+}
+
+// The roots as edges.
+pub fn fill_roots(f: &[u8], starts: &[u32], ends: &[u32], dst: &mut [Edge])
+    requires { ⌜ Table (now f) (now starts) (now ends) ⌝ }
+    ensures { λ _. ⌜ now (dst .exit) ≡ laid (map edgeOf (rootsIn (now (f .entry)) (spans (now (starts .entry)) (now (ends .entry))))) (replicate (length (now (dst .entry))) (pos 0)) ⌝ }
+{
+    let mut roots = [0i64; ROOT_LIMIT];
+    let n = values::roots_in(f, starts, ends, &mut roots);
+    clear_edges(dst);
+    checks::roots::edges_of(&roots[..n], dst);
+}

@@ -1,0 +1,4 @@
+pub mod Line
+pub mod Decode
+pub mod Says
+pub mod Kinds

@@ -1,0 +1,49 @@
+-- The definitions compute to what document 01 says.
+use mathlib.Core.Path.{_≡_, refl}
+use mathlib.Core.Bool.{true, false}
+use Rattle.codes.specs.Machine.{run}
+use Rattle.codes.specs.Bytes.{isBlank, isDigit, isLineEnd}
+use Rattle.readers.specs.Line.{isOf, seek, trim, feedAt, lineOf}
+use Rattle.readers.specs.Number.{digit, number, single, first}
+use Rattle.readers.specs.Words.{wordsFrom, words}
+use Rattle.readers.specs.Edges.{entryStep, edgeAt, edgeEnd, edgeList, children}
+use Rattle.fields.specs.Keys.{alike}
+use Rattle.lines.specs.Line.{deeper, childFault}
+use Rattle.lines.specs.Decode.{decodeFrom}
+use Rattle.import_ascii.specs.Text.{wordFrom, numbered, afterExtra, variableWord, textLine, textLineAt}
+use Rattle.import_ascii.specs.Examples.{bytesFrom, decoded, example, exampleLines, own, ownLines, short, shortLines, All, accepted, refusals, firsts, extras}
+
+-- document 01's example
+pub example-decodes : decoded 3 example ≡ exampleLines
+unfolding run isBlank isDigit isLineEnd isOf seek trim feedAt lineOf digit number single wordsFrom words first entryStep edgeAt edgeEnd edgeList children alike deeper childFault decodeFrom wordFrom numbered afterExtra variableWord textLine textLineAt bytesFrom
+example-decodes = refl
+
+-- a line that is its own child
+pub own-stops : decoded 3 own ≡ ownLines
+unfolding run isBlank isDigit isLineEnd isOf seek trim feedAt lineOf digit number single wordsFrom words first entryStep edgeAt edgeEnd edgeList children alike deeper childFault decodeFrom wordFrom numbered afterExtra variableWord textLine textLineAt bytesFrom
+own-stops = refl
+
+-- a text that ends early
+pub short-stops : decoded 2 short ≡ shortLines
+unfolding run isBlank isDigit isLineEnd isOf seek trim feedAt lineOf digit number single wordsFrom words first entryStep edgeAt edgeEnd edgeList children alike deeper childFault decodeFrom wordFrom numbered afterExtra variableWord textLine textLineAt bytesFrom
+short-stops = refl
+
+-- lines that are read
+pub accepted-hold : All false accepted
+unfolding run isBlank isDigit isLineEnd isOf seek trim feedAt lineOf digit number single wordsFrom words first entryStep edgeAt edgeEnd edgeList children alike deeper childFault decodeFrom wordFrom numbered afterExtra variableWord textLine textLineAt bytesFrom
+accepted-hold = (refl, (refl, (refl, (refl, (refl, (refl, (refl, tt)))))))
+
+-- a line for each refusal
+pub refusals-hold : All false refusals
+unfolding run isBlank isDigit isLineEnd isOf seek trim feedAt lineOf digit number single wordsFrom words first entryStep edgeAt edgeEnd edgeList children alike deeper childFault decodeFrom wordFrom numbered afterExtra variableWord textLine textLineAt bytesFrom
+refusals-hold = (refl, (refl, (refl, (refl, (refl, (refl, (refl, (refl, (refl, (refl, (refl, (refl, (refl, (refl, (refl, (refl, (refl, (refl, (refl, (refl, (refl, (refl, (refl, (refl, tt))))))))))))))))))))))))
+
+-- the first refusal
+pub firsts-hold : All false firsts
+unfolding run isBlank isDigit isLineEnd isOf seek trim feedAt lineOf digit number single wordsFrom words first entryStep edgeAt edgeEnd edgeList children alike deeper childFault decodeFrom wordFrom numbered afterExtra variableWord textLine textLineAt bytesFrom
+firsts-hold = (refl, (refl, (refl, (refl, (refl, (refl, (refl, tt)))))))
+
+-- lines with an extra word
+pub extras-hold : All true extras
+unfolding run isBlank isDigit isLineEnd isOf seek trim feedAt lineOf digit number single wordsFrom words first entryStep edgeAt edgeEnd edgeList children alike deeper childFault decodeFrom wordFrom numbered afterExtra variableWord textLine textLineAt bytesFrom
+extras-hold = (refl, (refl, (refl, (refl, (refl, tt)))))

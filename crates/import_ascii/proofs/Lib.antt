@@ -1,0 +1,4 @@
+pub mod WordEnds
+pub mod Faults
+pub mod TextLines
+pub mod Examples

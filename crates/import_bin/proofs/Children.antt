@@ -1,0 +1,92 @@
+-- Laws of the numbers of a line: its children and its variable, as the code byte's codes say.
+use mathlib.Core.Path.{_≡_, refl, sym, ap, _∙_}
+use mathlib.Core.List.{List, [], _∷_}
+use Prim.Native.Nat.{ℕ, _-_, _≤_, _<_, _^_}
+use native.Mathlib.Omega.{arith}
+use borrow.Author.Tests.{lt-ltb, le-ltb, lt-leb, le-leb, ne-eqb}
+use types.Run.{OneOf, miss}
+use denote.Enum.Declared.{tagOf}
+use Rattle.codes.specs.Answer.{Step, got, fails, then}
+use Rattle.codes.specs.declared.Code.{Code}
+use Rattle.codes.specs.declared.Code.the-variants.{Terminal, AbsoluteID, RelativeID, Relative1}
+use Rattle.codes.proofs.Code.{the-type}
+use Rattle.readers.specs.declared.binary.Number.{Number}
+use Rattle.readers.specs.Kinds.{ofNumber}
+use Rattle.readers.specs.Binary.{numberAt}
+use Rattle.import_bin.specs.declared.Read.{Read}
+use Rattle.import_bin.specs.declared.Read.the-variants as read
+use Rattle.import_bin.specs.Kinds.{ReadBelow}
+use Rattle.import_bin.specs.Bin.{below, before, childAt, variableAt}
+
+-- what a number's answer that was taken apart stands for
+pub number-as : {r q : Number} {s : Step ℕ} → ofNumber r ≡ s → r ≡ q → s ≡ ofNumber q
+number-as e k = sym e ∙ ap ofNumber k
+
+module _ (n id next : ℕ) where
+  -- 0 is the number of no line
+  pub below-zero : id ≡ 0 → below n id next ≡ fails 35
+  below-zero e = rw e
+
+  module _ (z : id ≡ 0 → ⊥) where
+    -- a line that isn't below line n
+    pub below-over : n ≤ id → below n id next ≡ fails 35
+    below-over h = rw (ne-eqb id 0, le-leb n id)
+
+    -- a line below line n
+    pub below-fits : id < n → below n id next ≡ got id next
+    below-fits h = rw (ne-eqb id 0, lt-leb n id)
+
+module _ (n d next : ℕ) where
+  -- a distance above the node's own number
+  pub before-over : n < d → before n d next ≡ fails 35
+  before-over h = rw (lt-ltb n d)
+
+  -- a distance that the node's number allows
+  pub before-fits : d ≤ n → before n d next ≡ below n (n - d) next
+  before-fits h = rw (le-ltb n d)
+
+-- where line n is below 2 ^ 15, so is a line below it
+pub below-small : (n : ℕ) {r : Read} {v next : ℕ} → r ≡ read.Number v next → ReadBelow n r → n < 2 ^ 15 → (1 ≤ v) × (v < 2 ^ 15)
+below-small n k h s = let l = rw k at h in (l .0, omega arith)
+
+-- A child, by its code.
+module _ {code : Code} (n : ℕ) (f : List ℕ) (at : ℕ) where
+  -- code 0 is line 1
+  pub child-terminal : code ≡ Terminal → childAt code n f at ≡ below n 1 at
+  unfolding childAt
+  child-terminal e = rw e
+
+  -- code 1 writes the line's number
+  pub child-absolute : {s : Step ℕ} → code ≡ AbsoluteID → numberAt f at ≡ s → childAt code n f at ≡ then s (below n)
+  unfolding childAt
+  child-absolute e k = rw (e, k)
+
+  -- code 2 writes the distance to the line
+  pub child-relative : {s : Step ℕ} → code ≡ RelativeID → numberAt f at ≡ s → childAt code n f at ≡ then s (before n)
+  unfolding childAt
+  child-relative e k = rw (e, k)
+
+  -- code 3 is the line before
+  pub child-one-before : code ≡ Relative1 → childAt code n f at ≡ before n 1 at
+  unfolding childAt
+  child-one-before e = rw e
+
+-- The number of a variable, by its code.
+module _ (code : Code) (f : List ℕ) (at : ℕ) where
+  -- code 0 has none
+  pub variable-terminal : code ≡ Terminal → variableAt code f at ≡ got 0 at
+  unfolding variableAt
+  variable-terminal e = rw e
+
+  -- code 3 counts 1
+  pub variable-one-before : code ≡ Relative1 → variableAt code f at ≡ got 1 at
+  unfolding variableAt
+  variable-one-before e = rw e
+
+-- codes 1 and 2 write a number
+pub variable-written : (code : Code) (f : List ℕ) (at : ℕ) → OneOf (1 ∷ 2 ∷ []) (tagOf the-type code) → variableAt code f at ≡ numberAt f at
+unfolding variableAt
+variable-written Terminal f at h = absurd (miss (1 ∷ 2 ∷ []) 0 tt h)
+variable-written AbsoluteID f at h = refl
+variable-written RelativeID f at h = refl
+variable-written Relative1 f at h = absurd (miss (1 ∷ 2 ∷ []) 3 tt h)

@@ -1,0 +1,4 @@
+pub mod Children
+pub mod Positions
+pub mod CodeByte
+pub mod Examples

@@ -1,0 +1,3 @@
+pub mod Bin
+pub mod Kinds
+pub mod Examples

@@ -1,0 +1,247 @@
+// Node lines in binary.
+ghost use mathlib.Core.Path.{_≡_};
+ghost use Prim.Native.Nat.{_-_, _≤_, _<_, _^_};
+ghost use lib.ListN.{length, getD};
+ghost use lib.IntN.{pos};
+ghost use Rattle.lines.specs.Kinds.{ofDecoded};
+ghost use Rattle.readers.specs.Edges.{signed};
+ghost use Rattle.import_bin.specs.Kinds.{ofRead, ReadBelow};
+ghost use Rattle.import_bin.specs.Bin.{below, before, childAt, variableAt, countsFrom, positionBy, placed, resolved, innerAt, binLineAt};
+use codes::Code;
+use codes::refusal;
+use edges::Edge;
+use edges::Index;
+use lines::Decoded;
+use readers::binary::Byte;
+use readers::binary::Number;
+
+// A number and the position after it, or a refusal.
+pub enum Read {
+    Number(u64, usize),
+    Refused(u8),
+}
+
+// The number of a line below line `node`.
+fn below(node: Index, id: u64, next: usize) -> Read
+    ensures { λ r. ⌜ ofRead r ≡ below node id next ⌝ }
+    ensures { λ r. ⌜ ReadBelow node r ⌝ }
+{
+    if id == 0 {
+        return Read::Refused(refusal::BAD_CHILD);
+    }
+    if (node as u64) <= id {
+        return Read::Refused(refusal::BAD_CHILD);
+    }
+    Read::Number(id, next)
+}
+
+// The number of the line that many before line `node`.
+fn before(node: Index, distance: u64, next: usize) -> Read
+    ensures { λ r. ⌜ ofRead r ≡ before node distance next ⌝ }
+    ensures { λ r. ⌜ ReadBelow node r ⌝ }
+{
+    let n = node as u64;
+    // Tested before the difference is made. (The Rust underflows.)
+    if n < distance {
+        return Read::Refused(refusal::BAD_CHILD);
+    }
+    below(node, n - distance, next)
+}
+
+// A child of line `node`.
+fn child_at(code: Code, node: Index, f: &[u8], at: usize) -> Read
+    ensures { λ r. ⌜ ofRead r ≡ childAt code node (now (f .entry)) at ⌝ }
+    ensures { λ r. ⌜ ReadBelow node r ⌝ }
+{
+    match code {
+        Code::Terminal => below(node, 1, at),
+        Code::AbsoluteID => match readers::binary::decode_7bit(f, at) {
+            Number::Value(id, next) => below(node, id, next),
+            Number::Refused(k) => Read::Refused(k),
+        },
+        Code::RelativeID => match readers::binary::decode_7bit(f, at) {
+            Number::Value(d, next) => before(node, d, next),
+            Number::Refused(k) => Read::Refused(k),
+        },
+        Code::Relative1 => before(node, 1, at),
+    }
+}
+
+// The number of a variable.
+fn variable_at(code: Code, f: &[u8], at: usize) -> Read
+    ensures { λ r. ⌜ ofRead r ≡ variableAt code (now (f .entry)) at ⌝ }
+{
+    match code {
+        Code::Terminal => Read::Number(0, at),
+        Code::Relative1 => Read::Number(1, at),
+        _ => match readers::binary::decode_7bit(f, at) {
+            Number::Value(v, next) => Read::Number(v, next),
+            Number::Refused(k) => Read::Refused(k),
+        },
+    }
+}
+
+// What a relative variable counts down from, by the seats of the children.
+fn counts_from(count: u16, t: u16, e: u16) -> u16
+    ensures { λ r. ⌜ r ≡ countsFrom count t e ⌝ }
+{
+    if t == 0 {
+        if e == 0 {
+            return count;
+        }
+        return e - 1;
+    }
+    if e == 0 {
+        return t - 1;
+    }
+    if t < e { t - 1 } else { e - 1 }
+}
+
+// The support position of a line.
+fn position_by(code: Code, from: u16, v: u64) -> Read
+    ensures { λ r. ⌜ ofRead r ≡ positionBy code from v ⌝ }
+{
+    match code {
+        Code::Terminal => Read::Refused(refusal::BAD_VARIABLE),
+        Code::AbsoluteID => Read::Number(v, 0),
+        _ => {
+            let n = from as u64;
+            if n < v {
+                return Read::Refused(refusal::BAD_VARIABLE);
+            }
+            Read::Number(n - v, 0)
+        }
+    }
+}
+
+// A child with its sign.
+fn signed(complement: bool, e: Index) -> Edge
+    requires { ⌜ e < 2 ^ 15 ⌝ }
+    ensures { λ r. ⌜ r ≡ signed complement e ⌝ }
+{
+    if complement { -(e as Edge) } else { e as Edge }
+}
+
+// A line at a support position, if it is one, above both children.
+fn placed(
+    levels: &[u16],
+    seats: &[u16],
+    t: Index,
+    e: Index,
+    els: Edge,
+    next: usize,
+    p: u64,
+) -> Decoded
+    requires { ⌜ (1 ≤ t) × (1 ≤ e) × (t < 2 ^ 15) × (length (now levels) < 2 ^ 16) ⌝ }
+    ensures { λ r. ⌜ ofDecoded r ≡ placed (now (levels .entry)) (now (seats .entry)) t e els next p ⌝ }
+{
+    if (levels.len() as u64) <= p {
+        return Decoded::Refused(refusal::BAD_VARIABLE);
+    }
+    let level = levels[p as usize];
+    if !lines::deeper(levels, seats, level, t) {
+        return Decoded::Refused(refusal::BAD_LEVEL);
+    }
+    if !lines::deeper(levels, seats, level, e) {
+        return Decoded::Refused(refusal::BAD_LEVEL);
+    }
+    Decoded::Inner(p as u16, signed(false, t), els, next)
+}
+
+// The seat of a line, 0 beyond those so far.
+fn seat(seats: &[u16], line: Index) -> u16
+    requires { ⌜ 1 ≤ line ⌝ }
+    ensures { λ r. ⌜ r ≡ getD (now (seats .entry)) (line - 1) 0 ⌝ }
+{
+    let i = line as usize - 1;
+    if i < seats.len() {
+        return seats[i];
+    }
+    0
+}
+
+// A line whose children are read.
+fn resolved(
+    count: u16,
+    levels: &[u16],
+    seats: &[u16],
+    code: Code,
+    v: u64,
+    complement: bool,
+    t: Index,
+    e: Index,
+    next: usize,
+) -> Decoded
+    requires { ⌜ (1 ≤ t) × (1 ≤ e) × (t < 2 ^ 15) × (e < 2 ^ 15) × (length (now levels) < 2 ^ 16) ⌝ }
+    ensures { λ r. ⌜ ofDecoded r ≡ resolved count (now (levels .entry)) (now (seats .entry)) code v complement t e next ⌝ }
+{
+    let from = counts_from(count, seat(seats, t), seat(seats, e));
+    match position_by(code, from, v) {
+        Read::Number(p, _) => placed(levels, seats, t, e, signed(complement, e), next, p),
+        Read::Refused(k) => Decoded::Refused(k),
+    }
+}
+
+// A line of a variable and two children: its numbers follow the code byte `b`, in this order.
+fn inner_at(
+    count: u16,
+    levels: &[u16],
+    seats: &[u16],
+    node: Index,
+    f: &[u8],
+    b: u8,
+    code: Code,
+    at: usize,
+) -> Decoded
+    requires { ⌜ (node < 2 ^ 15) × (length (now levels) < 2 ^ 16) ⌝ }
+    ensures { λ r. ⌜ ofDecoded r ≡ innerAt count (now (levels .entry)) (now (seats .entry)) node (now (f .entry)) b code at ⌝ }
+{
+    match variable_at(code, f, at) {
+        Read::Number(v, then_at) => match child_at(Code::from_bits(b / 8), node, f, then_at) {
+            Read::Number(t, else_at) => match child_at(Code::from_bits(b), node, f, else_at) {
+                Read::Number(e, next) => {
+                    let complement = (b / 4) % 2 == 1;
+                    resolved(
+                        count,
+                        levels,
+                        seats,
+                        code,
+                        v,
+                        complement,
+                        t as Index,
+                        e as Index,
+                        next,
+                    )
+                }
+                Read::Refused(k) => Decoded::Refused(k),
+            },
+            Read::Refused(k) => Decoded::Refused(k),
+        },
+        Read::Refused(k) => Decoded::Refused(k),
+    }
+}
+
+// The node line at a position of a file. The level list has a level for each support position; `seats` has, for each line before, its
+// support position counted from 1, and 0 for a terminal line; `count` is the store's level count.
+pub fn line_at(
+    f: &[u8],
+    at: usize,
+    count: u16,
+    levels: &[u16],
+    seats: &[u16],
+    node: Index,
+) -> Decoded
+    requires { ⌜ (node < 2 ^ 15) × (length (now levels) < 2 ^ 16) ⌝ }
+    ensures { λ r. ⌜ ofDecoded r ≡ binLineAt count (now (levels .entry)) (now (seats .entry)) node (now (f .entry)) at ⌝ }
+{
+    match readers::binary::read_unescape(f, at) {
+        Byte::Value(b, next) => {
+            let code = Code::from_bits(b / 32);
+            match code {
+                Code::Terminal => Decoded::Terminal(next),
+                _ => inner_at(count, levels, seats, node, f, b, code, next),
+            }
+        }
+        Byte::Refused(k) => Decoded::Refused(k),
+    }
+}

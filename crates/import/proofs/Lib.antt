@@ -1,0 +1,15 @@
+pub mod SaysAs
+pub mod Building
+pub mod Room
+pub mod Decoded
+pub mod ChildEdge
+pub mod Modes
+pub mod Reading
+pub mod Progress
+pub mod Mapped
+pub mod FileEnd
+pub mod RootsPut
+pub mod Settling
+pub mod Refusals
+pub mod Acceptance
+pub mod LevelLists

@@ -1,0 +1,5 @@
+pub mod Build
+pub mod Import
+pub mod Kinds
+pub mod Acceptance
+pub mod List

@@ -1,0 +1,45 @@
+-- `signed` is safe: the number that is negated is below 32,768.
+use Prim.Native.Nat.{_+_, _-_}
+use native.Mathlib.Omega.{arith}
+use borrow.Author.Needs.{needs}
+use mir.Syntax.{w16}
+use mir.ValLaws.{toZ-pos}
+use Rattle.vectors_nodes.proofs.stored.signed.Statement.{statement}
+use Rattle.vectors_nodes.proofs.stored.signed.Tie as tie
+
+cast-result : tie.Need-cast-result
+cast-result c = search needs
+
+returns : tie.Need-returns
+returns c = search needs
+
+returns-2 : tie.Need-returns-2
+returns-2 c = search needs
+
+sub-negate : tie.Need-sub-negate
+sub-negate c = search needs
+
+add-negate : tie.Need-add-negate
+add-negate c = search needs
+
+cast-negate : tie.Need-cast-negate
+cast-negate c = search needs
+
+negate-requires : tie.Need-negate-requires
+negate-requires c κs = rw (toZ-pos w16 (65535 - c .before .before .args .x + 1) (omega arith)) (omega arith)
+
+returns-3 : tie.Need-returns-3
+returns-3 c = search needs
+
+pub signed-spec : {M : Type 1} → statement M
+signed-spec =
+    tie.close
+    (tie.spec
+    cast-result
+    returns
+    returns-2
+    sub-negate
+    add-negate
+    cast-negate
+    negate-requires
+    returns-3)

@@ -39,7 +39,7 @@ import os
 import random
 import sys
 
-VARS, ROOTS, BUCKETS = 4096, 1024, 256
+VARS, ROOTS, BUCKETS, NODES = 4096, 1024, 256, 32767
 
 
 class Store:
@@ -128,7 +128,7 @@ def of_load(name, folder, most):
             if len(data) > most:
                 continue
             tables = [] if tables == "-" else tables.split(",")
-            yield Case(data, empty(int(levels), int(slots)), numbers(level_list), 4096, 4096), \
+            yield Case(data, empty(int(levels), int(slots)), numbers(level_list), NODES, NODES), \
                 Answer(int(refusal), int(at), numbers(roots), pairs(nodes), tables)
 
 

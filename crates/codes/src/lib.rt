@@ -6,6 +6,12 @@ ghost use Rattle.codes.specs.Codes.{codeOf};
 pub mod limits;
 pub mod refusal;
 
+// The versions of the format.
+pub enum DDDMPVersion {
+    V2_0,
+    V3_0,
+}
+
 // What the extra word of a text node line holds: the value of `.varinfo`.
 pub enum VarInfo {
     VariableID,

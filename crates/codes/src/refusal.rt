@@ -9,8 +9,14 @@ pub const BAD_LEVELS: u8 = 2;
 // The store breaks its rules.
 pub const BROKEN_STORE: u8 = 3;
 
-// A root is 0 or beyond the store's count, or a setting isn't one byte 00 or 01 per level.
+// A root is 0 or beyond the store's count, there are over 1,024 roots, or a setting isn't one byte 00 or 01 per level.
 pub const BAD_ROOT_OR_SETTING: u8 = 4;
+
+// A name list has neither no entry nor one per variable or root, or an export name is unfit.
+pub const BAD_NAME: u8 = 5;
+
+// The variable order isn't a permutation of the levels.
+pub const BAD_ORDER: u8 = 6;
 
 // The input ends before `.nodes`.
 pub const NO_NODES: u8 = 10;

@@ -75,7 +75,8 @@ fn utf8_tail(more: u8, low: u8, high: u8, b: u8) -> Utf8Next
     Utf8Next::Go(Utf8::Tail(more - 1, 0x80, 0xbf))
 }
 
-fn utf8_next(state: Utf8, b: u8) -> Utf8Next
+// One byte more of a text.
+pub fn utf8_next(state: Utf8, b: u8) -> Utf8Next
     ensures { λ r. ⌜ ofUtf8Next r ≡ utf8Next state b ⌝ }
 {
     match state {

@@ -67,7 +67,7 @@ fn bits_only(setting: &[u8]) -> bool
 }
 
 // Is this the root of a store with this count?
-fn is_root(count: Index, root: Edge) -> bool
+pub fn is_root(count: Index, root: Edge) -> bool
     ensures { λ r. ⌜ r ≡ leb 1 (natAbs root) && leb (natAbs root) count ⌝ }
 {
     let n = edges::magnitude(root);

@@ -14,7 +14,7 @@ use Rattle.codes.specs.declared.Code.{Code}
 use Rattle.codes.specs.declared.Code.the-variants.{Terminal, AbsoluteID, RelativeID, Relative1}
 use Rattle.codes.proofs.Bytes.{both}
 use Rattle.edges.proofs.Edge.{abs-neg}
-use Rattle.readers.specs.Binary.{byteAt, numberAt}
+use Rattle.readers.specs.Binary.{byteAt}
 use Rattle.readers.specs.Edges.{Pair, signed, children}
 use Rattle.readers.specs.Line.{lineOf}
 use Rattle.readers.specs.Number.{single}
@@ -22,7 +22,7 @@ use Rattle.fields.specs.Keys.{alike}
 use Rattle.fields.specs.Sweep.{part}
 use Rattle.lines.specs.Line.{Line, terminal, inner, deeper, childFault}
 use Rattle.import_ascii.specs.Text.{variableWord, describedT, faultless, variable, described, byWord, textLine, endsAt, textLineAt}
-use Rattle.import_bin.specs.Bin.{below, before, childAt, variableAt, countsFrom, positionBy, placed, resolved, innerAt, byCode, binLineAt}
+use Rattle.import_bin.specs.Bin.{idAt, below, childAt, variableAt, countsFrom, positionBy, placed, resolved, innerAt, byCode, binLineAt}
 use Rattle.import.specs.Build.{Child, Judged}
 use Rattle.import.specs.Import.{lineBy}
 use Rattle.import.proofs.Modes.{text-line, bin-line}
@@ -139,14 +139,6 @@ module _ (levels seats : List ℕ) (n : ℕ) where
       go false true p q = tt
       go false false p q = let d = eqb-false id 0 p in (omega arith, leb-false n id q)
 
-  -- a child so many before
-  before-low : (d next : ℕ) → LowStep (before n d next)
-  before-low d next = go (ltb n d)
-    where
-      go : (b : Bool) → LowStep (cond b (fails 35) (below n (n - d) next))
-      go true = tt
-      go false = below-low (n - d) next
-
   -- a child after its number is read
   then-low : (s : Step ℕ) (k : ℕ → ℕ → Step ℕ) → ((v next : ℕ) → LowStep (k v next)) → LowStep (then s k)
   then-low (got v next) k h = h v next
@@ -155,10 +147,7 @@ module _ (levels seats : List ℕ) (n : ℕ) where
   -- a child by its code
   child-low : (code : Code) (f : List ℕ) (at : ℕ) → LowStep (childAt code n f at)
   unfolding childAt
-  child-low Terminal f at = below-low 1 at
-  child-low AbsoluteID f at = then-low (numberAt f at) (below n) below-low
-  child-low RelativeID f at = then-low (numberAt f at) (before n) before-low
-  child-low Relative1 f at = before-low 1 at
+  child-low code f at = then-low (idAt code n f at) (below n) below-low
 
   -- a child that was read
   got-low : (code : Code) (f : List ℕ) (at : ℕ) {v next : ℕ} → childAt code n f at ≡ got v next → Low v

@@ -16,7 +16,7 @@ use Rattle.readers.specs.Binary.{meant, byteAt, grouped, groupsFrom, numberAt}
 use Rattle.readers.specs.Edges.{signed}
 use Rattle.lines.specs.Line.{Line, seatOf, deeper}
 use Rattle.lines.specs.Decode.{NodeLines, nodeLines, stopped, more, decodeFrom}
-use Rattle.import_bin.specs.Bin.{below, before, childAt, variableAt, countsFrom, positionBy, placed, resolved, innerAt, byCode, binLineAt}
+use Rattle.import_bin.specs.Bin.{idAt, below, childAt, variableAt, countsFrom, positionBy, placed, resolved, innerAt, byCode, binLineAt}
 
 -- no refusal from 40 on
 abbrev Under : {A : Type 0} → Step A → Type 0
@@ -62,15 +62,16 @@ number-under f at = groups-under (length f) f 0 at
 below-under : (n id next : ℕ) → Under (below n id next)
 below-under n id next = cond-under (eqb id 0 || leb n id) _ _ (omega arith) tt
 
-before-under : (n d next : ℕ) → Under (before n d next)
-before-under n d next = cond-under (ltb n d) _ _ (omega arith) (below-under n (n - d) next)
+id-under : (code : Code) (n : ℕ) (f : List ℕ) (at : ℕ) → Under (idAt code n f at)
+unfolding idAt
+id-under Terminal n f at = tt
+id-under AbsoluteID n f at = number-under f at
+id-under RelativeID n f at = then-under (numberAt f at) _ (number-under f at) (λ d next. tt)
+id-under Relative1 n f at = tt
 
 child-under : (code : Code) (n : ℕ) (f : List ℕ) (at : ℕ) → Under (childAt code n f at)
 unfolding childAt
-child-under Terminal n f at = below-under n 1 at
-child-under AbsoluteID n f at = then-under (numberAt f at) _ (number-under f at) (below-under n)
-child-under RelativeID n f at = then-under (numberAt f at) _ (number-under f at) (before-under n)
-child-under Relative1 n f at = before-under n 1 at
+child-under code n f at = then-under (idAt code n f at) _ (id-under code n f at) (below-under n)
 
 variable-under : (code : Code) (f : List ℕ) (at : ℕ) → Under (variableAt code f at)
 unfolding variableAt

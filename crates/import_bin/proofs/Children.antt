@@ -3,7 +3,7 @@ use mathlib.Core.Path.{_≡_, refl, sym, ap, _∙_}
 use mathlib.Core.List.{List, [], _∷_}
 use Prim.Native.Nat.{ℕ, _-_, _≤_, _<_, _^_}
 use native.Mathlib.Omega.{arith}
-use borrow.Author.Tests.{lt-ltb, le-ltb, lt-leb, le-leb, ne-eqb}
+use borrow.Author.Tests.{lt-leb, le-leb, ne-eqb}
 use types.Run.{OneOf, miss}
 use denote.Enum.Declared.{tagOf}
 use Rattle.codes.specs.Answer.{Step, got, fails, then}
@@ -16,7 +16,8 @@ use Rattle.readers.specs.Binary.{numberAt}
 use Rattle.import_bin.specs.declared.Read.{Read}
 use Rattle.import_bin.specs.declared.Read.the-variants as read
 use Rattle.import_bin.specs.Kinds.{ReadBelow}
-use Rattle.import_bin.specs.Bin.{below, before, childAt, variableAt}
+use Rattle.import_bin.specs.Bin.{idAt, below, childAt, variableAt}
+use Rattle.import_bin.proofs.Steps.{then-then}
 
 -- what a number's answer that was taken apart stands for
 pub number-as : {r q : Number} {s : Step ℕ} → ofNumber r ≡ s → r ≡ q → s ≡ ofNumber q
@@ -36,40 +37,37 @@ module _ (n id next : ℕ) where
     pub below-fits : id < n → below n id next ≡ got id next
     below-fits h = rw (ne-eqb id 0, lt-leb n id)
 
-module _ (n d next : ℕ) where
-  -- a distance above the node's own number
-  pub before-over : n < d → before n d next ≡ fails 35
-  before-over h = rw (lt-ltb n d)
-
-  -- a distance that the node's number allows
-  pub before-fits : d ≤ n → before n d next ≡ below n (n - d) next
-  before-fits h = rw (le-ltb n d)
-
 -- where line n is below 2 ^ 15, so is a line below it
 pub below-small : (n : ℕ) {r : Read} {v next : ℕ} → r ≡ read.Number v next → ReadBelow n r → n < 2 ^ 15 → (1 ≤ v) × (v < 2 ^ 15)
 below-small n k h s = let l = rw k at h in (l .0, omega arith)
 
--- A child, by its code.
+-- The number of a child, by its code.
 module _ {code : Code} (n : ℕ) (f : List ℕ) (at : ℕ) where
   -- code 0 is line 1
-  pub child-terminal : code ≡ Terminal → childAt code n f at ≡ below n 1 at
-  unfolding childAt
-  child-terminal e = rw e
+  pub id-terminal : code ≡ Terminal → idAt code n f at ≡ got 1 at
+  unfolding idAt
+  id-terminal e = rw e
 
   -- code 1 writes the line's number
-  pub child-absolute : {s : Step ℕ} → code ≡ AbsoluteID → numberAt f at ≡ s → childAt code n f at ≡ then s (below n)
-  unfolding childAt
-  child-absolute e k = rw (e, k)
+  pub id-absolute : code ≡ AbsoluteID → idAt code n f at ≡ numberAt f at
+  unfolding idAt
+  id-absolute e = rw e
 
   -- code 2 writes the distance to the line
-  pub child-relative : {s : Step ℕ} → code ≡ RelativeID → numberAt f at ≡ s → childAt code n f at ≡ then s (before n)
-  unfolding childAt
-  child-relative e k = rw (e, k)
+  pub id-relative : {s : Step ℕ} → code ≡ RelativeID → numberAt f at ≡ s → idAt code n f at ≡ then s (λ d next. got (n - d) next)
+  unfolding idAt
+  id-relative e k = rw (e, k)
 
   -- code 3 is the line before
-  pub child-one-before : code ≡ Relative1 → childAt code n f at ≡ before n 1 at
-  unfolding childAt
-  child-one-before e = rw e
+  pub id-one-before : code ≡ Relative1 → idAt code n f at ≡ got (n - 1) at
+  unfolding idAt
+  id-one-before e = rw e
+
+-- a child whose number is read after a step, and checked after that
+pub child-after : (s : Step ℕ) (code : Code) (n : ℕ) (f : List ℕ) {c : Code} {i r : Step ℕ}
+    → c ≡ code → i ≡ then s (λ _ at. idAt c n f at) → r ≡ then i (below n) → r ≡ then s (λ _ at. childAt code n f at)
+unfolding childAt
+child-after s code n f k p q = q ∙ rw (p, k) (then-then s (λ _ at. idAt code n f at) (below n))
 
 -- The number of a variable, by its code.
 module _ (code : Code) (f : List ℕ) (at : ℕ) where

@@ -5,7 +5,7 @@ use Prim.Native.Nat.{ℕ, _/_, _%_}
 use lib.Dec.{eqb}
 use types.Run.{OneOf, miss}
 use denote.Enum.Declared.{tagOf}
-use Rattle.codes.specs.Answer.{Step, got, fails}
+use Rattle.codes.specs.Answer.{Step, got, fails, then}
 use Rattle.codes.specs.Codes.{codeOf}
 use Rattle.codes.specs.declared.Code.{Code}
 use Rattle.codes.specs.declared.Code.the-variants.{Terminal, AbsoluteID, RelativeID, Relative1}
@@ -15,35 +15,46 @@ use Rattle.readers.specs.declared.binary.Byte.the-variants as byte
 use Rattle.readers.specs.Kinds.{ofByte}
 use Rattle.readers.specs.Binary.{byteAt}
 use Rattle.lines.specs.Line.{Line, terminal}
-use Rattle.import_bin.specs.declared.Read.{Read}
-use Rattle.import_bin.specs.declared.Read.the-variants as read
-use Rattle.import_bin.specs.Kinds.{ofRead}
-use Rattle.import_bin.specs.Bin.{childAt, variableAt, resolved, innerAt, byCode, binLineAt}
+use Rattle.import_bin.specs.Bin.{idAt, below, childAt, variableAt, resolved, innerAt, byCode, binLineAt}
+use Rattle.import_bin.proofs.Children.{child-after}
+use Rattle.import_bin.proofs.Steps.{then-then, refusal-on, refusal-kept}
 
--- A line of a variable and two children, from the codes and numbers that the code read: the first refusal decides.
+-- A line of a variable and two children, from what the code's steps gave: the first refusal decides. Of each child `i` is the number read,
+-- and `s` what its check made of it.
 module _ (count : ℕ) (levels seats : List ℕ) (n : ℕ) (f : List ℕ) (b : ℕ) (code : Code) (at : ℕ)
-    {rv : Read} (ev : ofRead rv ≡ variableAt code f at) where
+    {sv : Step ℕ} (ev : sv ≡ variableAt code f at) where
   -- the variable's number is refused
-  pub inner-no-variable : {k : ℕ} → rv ≡ read.Refused k → fails k ≡ innerAt count levels seats n f b code at
-  inner-no-variable iv = rw (← ev, iv)
+  pub inner-no-variable : {k : ℕ} → sv ≡ fails k → fails k ≡ innerAt count levels seats n f b code at
+  inner-no-variable v = rw (← ev, v)
 
-  module _ {v at₁ : ℕ} (iv : rv ≡ read.Number v at₁) {ct : Code} (kt : ct ≡ codeOf (b / 8))
-      {rt : Read} (et : ofRead rt ≡ childAt ct n f at₁) where
+  module _ {ct : Code} (kt : ct ≡ codeOf (b / 8)) {it : Step ℕ} (et : it ≡ then sv (λ _ at₁. idAt ct n f at₁))
+      {st : Step ℕ} (dt : st ≡ then it (below n)) where
+    -- then follows the variable
+    then-child : st ≡ then sv (λ _ at₁. childAt (codeOf (b / 8)) n f at₁)
+    then-child = child-after sv (codeOf (b / 8)) n f kt et dt
+
     -- then is refused, whatever follows
-    pub inner-no-then : {k : ℕ} → rt ≡ read.Refused k → fails k ≡ innerAt count levels seats n f b code at
-    inner-no-then it = rw (← ev, iv, ← kt, ← et, it)
+    pub inner-no-then : {k : ℕ} → st ≡ fails k → fails k ≡ innerAt count levels seats n f b code at
+    inner-no-then t = rw (← ev) (refusal-kept sv _ _ (λ _ at₁. refusal-on _) (sym t ∙ then-child))
 
-    module _ {t at₂ : ℕ} (it : rt ≡ read.Number t at₂) {ce : Code} (ke : ce ≡ codeOf b)
-        {re : Read} (ee : ofRead re ≡ childAt ce n f at₂) where
+    module _ {ce : Code} (ke : ce ≡ codeOf b) {ie : Step ℕ} (ee : ie ≡ then st (λ _ at₂. idAt ce n f at₂))
+        {se : Step ℕ} (de : se ≡ then ie (below n)) where
+      -- else follows then, which is checked
+      else-child : se ≡ then st (λ _ at₂. childAt (codeOf b) n f at₂)
+      else-child = child-after st (codeOf b) n f ke ee de
+
       -- else is refused
-      pub inner-no-else : {k : ℕ} → re ≡ read.Refused k → fails k ≡ innerAt count levels seats n f b code at
-      inner-no-else ie = rw (← ev, iv, ← kt, ← et, it, ← ke, ← ee, ie)
+      pub inner-no-else : {k : ℕ} → se ≡ fails k → fails k ≡ innerAt count levels seats n f b code at
+      inner-no-else e =
+          rw (← ev)
+          (refusal-kept sv _ _ (λ _ at₁. refusal-kept (childAt (codeOf (b / 8)) n f at₁) _ _ (λ _ at₂. refusal-on _))
+          (sym e ∙ (rw then-child at else-child) ∙ then-then sv _ _))
 
-      -- both are read: the variable decides
-      pub inner-resolved : {e next : ℕ} {r : Step Line} → re ≡ read.Number e next
-          → r ≡ resolved count levels seats code v (eqb ((b / 4) % 2) 1) t e next
+      -- all are read: the variable decides
+      pub inner-resolved : {x at₁ y at₂ z next : ℕ} {r : Step Line} → sv ≡ got x at₁ → st ≡ got y at₂ → se ≡ got z next
+          → r ≡ resolved count levels seats code x (eqb ((b / 4) % 2) 1) y z next
           → r ≡ innerAt count levels seats n f b code at
-      inner-resolved ie k = rw (← ev, iv, ← kt, ← et, it, ← ke, ← ee, ie) k
+      inner-resolved v t e k = let p = rw (v, t) at then-child in let q = rw (t, e) at else-child in rw (← ev, v, ← p, ← q) k
 
 -- codes 1, 2 and 3 are a variable's
 by-other : (count : ℕ) (levels seats : List ℕ) (n : ℕ) (f : List ℕ) (b : ℕ) (code : Code) (at : ℕ)

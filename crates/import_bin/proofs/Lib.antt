@@ -1,3 +1,4 @@
+pub mod Steps
 pub mod Children
 pub mod Positions
 pub mod CodeByte

@@ -15,20 +15,21 @@ use Rattle.readers.specs.Binary.{byteAt, numberAt}
 use Rattle.readers.specs.Edges.{signed}
 use Rattle.lines.specs.Line.{Line, terminal, inner, deeper}
 
--- '35 child 0 (binary) or not below its node'
+-- The number of a child of line n. 'Codes: 0 terminal (node 1), 1 absolute, 2 relative (that many before), 3 one before.' A distance above n
+-- leaves 0, the number of no line.
+unfoldable pub idAt : Code → ℕ → List ℕ → ℕ → Step ℕ
+idAt Terminal n f at = got 1 at
+idAt AbsoluteID n f at = numberAt f at
+idAt RelativeID n f at = then (numberAt f at) (λ d next. got (n - d) next)
+idAt Relative1 n f at = got (n - 1) at
+
+-- '35 child 0 (binary) or not below its node', and so 'A distance above the node's own number gives 35'
 abbrev pub below : ℕ → ℕ → ℕ → Step ℕ
 below n id next = cond (eqb id 0 || leb n id) (fails 35) (got id next)
 
--- 'A distance above the node's own number gives 35'
-abbrev pub before : ℕ → ℕ → ℕ → Step ℕ
-before n d next = cond (ltb n d) (fails 35) (below n (n - d) next)
-
--- A child of line n. 'Codes: 0 terminal (node 1), 1 absolute, 2 relative (that many before), 3 one before.'
+-- A child of line n: its number is read, then checked.
 unfoldable pub childAt : Code → ℕ → List ℕ → ℕ → Step ℕ
-childAt Terminal n f at = below n 1 at
-childAt AbsoluteID n f at = then (numberAt f at) (below n)
-childAt RelativeID n f at = then (numberAt f at) (before n)
-childAt Relative1 n f at = before n 1 at
+childAt code n f at = then (idAt code n f at) (below n)
 
 -- the number of a variable: 'one before' has none, and counts 1
 unfoldable pub variableAt : Code → List ℕ → ℕ → Step ℕ
@@ -71,7 +72,8 @@ resolved count levels seats code v complement t e next =
     then (positionBy code (countsFrom count (getD seats (t - 1) 0) (getD seats (e - 1) 0)) v)
     (λ p _. placed levels seats t e (signed complement e) next p)
 
--- 'Numbers follow in that order: variable, then, else'
+-- 'Numbers follow in that order: variable, then, else'; a child's check follows its number, so that of then comes 'before else's number is
+-- read'
 abbrev pub innerAt : ℕ → List ℕ → List ℕ → ℕ → List ℕ → ℕ → Code → ℕ → Step Line
 innerAt count levels seats n f b code at =
     then (variableAt code f at)

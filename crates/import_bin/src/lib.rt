@@ -3,10 +3,11 @@ ghost use mathlib.Core.Path.{_≡_};
 ghost use Prim.Native.Nat.{_-_, _≤_, _<_, _^_};
 ghost use lib.ListN.{length, getD};
 ghost use lib.IntN.{pos};
+ghost use Rattle.codes.specs.Answer.{then};
 ghost use Rattle.lines.specs.Kinds.{ofDecoded};
 ghost use Rattle.readers.specs.Edges.{signed};
 ghost use Rattle.import_bin.specs.Kinds.{ofRead, ReadBelow};
-ghost use Rattle.import_bin.specs.Bin.{below, before, childAt, variableAt, countsFrom, positionBy, placed, resolved, innerAt, binLineAt};
+ghost use Rattle.import_bin.specs.Bin.{idAt, below, variableAt, countsFrom, positionBy, placed, resolved, innerAt, binLineAt};
 use codes::Code;
 use codes::refusal;
 use edges::Edge;
@@ -21,49 +22,62 @@ pub enum Read {
     Refused(u8),
 }
 
-// The number of a line below line `node`.
-fn below(node: Index, id: u64, next: usize) -> Read
-    ensures { λ r. ⌜ ofRead r ≡ below node id next ⌝ }
-    ensures { λ r. ⌜ ReadBelow node r ⌝ }
-{
-    if id == 0 {
-        return Read::Refused(refusal::BAD_CHILD);
-    }
-    if (node as u64) <= id {
-        return Read::Refused(refusal::BAD_CHILD);
-    }
-    Read::Number(id, next)
-}
-
-// The number of the line that many before line `node`.
-fn before(node: Index, distance: u64, next: usize) -> Read
-    ensures { λ r. ⌜ ofRead r ≡ before node distance next ⌝ }
-    ensures { λ r. ⌜ ReadBelow node r ⌝ }
+// The number of the line that many before line `node`; 0, the number of no line, where there is none.
+fn before(node: Index, distance: u64) -> u64
+    ensures { λ r. ⌜ r ≡ node - distance ⌝ }
 {
     let n = node as u64;
     // Tested before the difference is made. (The Rust underflows.)
     if n < distance {
-        return Read::Refused(refusal::BAD_CHILD);
+        return 0;
     }
-    below(node, n - distance, next)
+    n - distance
 }
 
-// A child of line `node`.
-fn child_at(code: Code, node: Index, f: &[u8], at: usize) -> Read
-    ensures { λ r. ⌜ ofRead r ≡ childAt code node (now (f .entry)) at ⌝ }
-    ensures { λ r. ⌜ ReadBelow node r ⌝ }
+// The number of a child of line `node`.
+fn id_at(code: Code, node: Index, f: &[u8], at: usize) -> Read
+    ensures { λ r. ⌜ ofRead r ≡ idAt code node (now (f .entry)) at ⌝ }
 {
     match code {
-        Code::Terminal => below(node, 1, at),
+        Code::Terminal => Read::Number(1, at),
         Code::AbsoluteID => match readers::binary::decode_7bit(f, at) {
-            Number::Value(id, next) => below(node, id, next),
+            Number::Value(id, next) => Read::Number(id, next),
             Number::Refused(k) => Read::Refused(k),
         },
         Code::RelativeID => match readers::binary::decode_7bit(f, at) {
-            Number::Value(d, next) => before(node, d, next),
+            Number::Value(d, next) => Read::Number(before(node, d), next),
             Number::Refused(k) => Read::Refused(k),
         },
-        Code::Relative1 => before(node, 1, at),
+        Code::Relative1 => Read::Number(before(node, 1), at),
+    }
+}
+
+// The number of a child of line `node`, read after another number; a refusal of that one passes on.
+fn id_after(code: Code, node: Index, f: &[u8], last: Read) -> Read
+    ensures { λ r. ⌜ ofRead r ≡ then (ofRead last) (λ _ at. idAt code node (now (f .entry)) at) ⌝ }
+{
+    match last {
+        Read::Number(_, at) => id_at(code, node, f, at),
+        Read::Refused(k) => Read::Refused(k),
+    }
+}
+
+// The check of a child's number: it is that of a line below line `node`. A refusal of the number passes on.
+fn below(node: Index, child: Read) -> Read
+    ensures { λ r. ⌜ ofRead r ≡ then (ofRead child) (below node) ⌝ }
+    ensures { λ r. ⌜ ReadBelow node r ⌝ }
+{
+    match child {
+        Read::Number(id, next) => {
+            if id == 0 {
+                return Read::Refused(refusal::BAD_CHILD);
+            }
+            if (node as u64) <= id {
+                return Read::Refused(refusal::BAD_CHILD);
+            }
+            Read::Number(id, next)
+        }
+        Read::Refused(k) => Read::Refused(k),
     }
 }
 
@@ -182,7 +196,8 @@ fn resolved(
     }
 }
 
-// A line of a variable and two children: its numbers follow the code byte `b`, in this order.
+// A line of a variable and two children: its numbers follow the code byte `b`, in this order. Each step passes on the first refusal so
+// far, and then's check comes before else's number is read.
 fn inner_at(
     count: u16,
     levels: &[u16],
@@ -196,23 +211,25 @@ fn inner_at(
     requires { ⌜ (node < 2 ^ 15) × (length (now levels) < 2 ^ 16) ⌝ }
     ensures { λ r. ⌜ ofDecoded r ≡ innerAt count (now (levels .entry)) (now (seats .entry)) node (now (f .entry)) b code at ⌝ }
 {
-    match variable_at(code, f, at) {
-        Read::Number(v, then_at) => match child_at(Code::from_bits(b / 8), node, f, then_at) {
-            Read::Number(t, else_at) => match child_at(Code::from_bits(b), node, f, else_at) {
-                Read::Number(e, next) => {
-                    let complement = (b / 4) % 2 == 1;
-                    resolved(
-                        count,
-                        levels,
-                        seats,
-                        code,
-                        v,
-                        complement,
-                        t as Index,
-                        e as Index,
-                        next,
-                    )
-                }
+    let v = variable_at(code, f, at);
+    let t = id_after(Code::from_bits(b / 8), node, f, v);
+    let then = below(node, t);
+    let e = id_after(Code::from_bits(b), node, f, then);
+    let els = below(node, e);
+    match els {
+        Read::Number(e, next) => match then {
+            Read::Number(t, _) => match v {
+                Read::Number(v, _) => resolved(
+                    count,
+                    levels,
+                    seats,
+                    code,
+                    v,
+                    (b / 4) % 2 == 1,
+                    t as Index,
+                    e as Index,
+                    next,
+                ),
                 Read::Refused(k) => Decoded::Refused(k),
             },
             Read::Refused(k) => Decoded::Refused(k),

@@ -1,0 +1,5 @@
+pub mod Reached
+pub mod Walk
+pub mod Numbering
+pub mod Support
+pub mod Depths

@@ -1,0 +1,117 @@
+-- The lines of an export: they can be written by the tables, and are 32 bytes long at most.
+use mathlib.Core.Path.{_≡_, refl}
+use mathlib.Core.Bool.{Bool}
+use mathlib.Core.List.{List}
+use Prim.Native.Nat.{ℕ, _+_, _-_, _*_, _≤_, _<_}
+use native.Mathlib.Omega.{arith}
+use lib.ListN.{length, getD, length-map}
+use lib.IntN.{ℤ, natAbs}
+use borrow.Author.Tests.{ne-eqb}
+use Rattle.codes.specs.Limits.{varLimit, nodeLimit}
+use Rattle.store.specs.Store.{Store, levelAt, thenAt, elseAt}
+use Rattle.store.specs.Evaluated.{slots}
+use Rattle.checks.specs.Seats.{Seats}
+use Rattle.checks.proofs.Seating.{seat-most}
+use Rattle.lines.specs.Line.{terminal}
+use Rattle.numbering.specs.Numbering.{Numbers}
+use Rattle.numbering.specs.Support.{supportOf}
+use Rattle.export_nodes.specs.Lines.{renumbered, lineFor, linesFor}
+use Rattle.export_nodes.specs.Encoded.{nodeBytes}
+use Rattle.export_nodes.specs.Tables.{lineBy, linesBy, Child, Lined}
+use Rattle.export_nodes.specs.Exported.{Exported}
+use Rattle.export_nodes.proofs.TableLines.{map-at}
+use Rattle.export_nodes.proofs.Renumbered.{seat-back, Numbered, renumbered-abs, NodeAt, terminalAt, innerAt, entry-node, lines-few, inner-at, node-at}
+use Rattle.export_nodes.proofs.Support.{support-few, level-seated, position-low}
+use Rattle.export_nodes.proofs.FilledTables.{number-seat, lines-by-tables}
+use Rattle.export_nodes.proofs.LineLengths.{Small, nodes-short}
+
+-- tables of the numbers of an export's nodes and of the seats of its levels
+pub record Filled (σ : Store) (ns numbers seats : List ℕ) : Type 0 where
+  pub numbered : Numbers ns numbers
+  pub seated : Seats (supportOf σ ns) seats
+  pub numbers-long : σ .count ≤ length numbers
+  pub seats-long : varLimit ≤ length seats
+
+module _ {σ : Store} {roots : List ℤ} {ns numbers seats : List ℕ} (E : Exported σ roots ns) (F : Filled σ ns numbers seats) where
+  -- the level of a node has an entry in the table of seats
+  level-held : (n : ℕ) → 2 ≤ n → n ≤ σ .count → levelAt σ n < length seats
+  level-held n h k = omega (arith, E .rules .nodes .fits n h k .level-low, E .rules .sizes .levels-limit, F .seats-long)
+
+  -- a child of the node of line i + 1
+  child-lined : (i : ℕ) (c : ℤ) → Numbered ns i c → 1 ≤ natAbs c → natAbs c ≤ σ .count → Child (slots (σ .level) (σ .then) (σ .els)) numbers seats (i + 1) (natAbs c)
+  child-lined i c M some there =
+      let s = number-seat ns numbers (natAbs c) (F .numbered) some (omega (arith, F .numbers-long)) in
+      record {
+        some = some;
+        there = omega (arith, F .numbers-long);
+        level-there = omega (arith, E .rules .sizes .count-slots);
+        lined = omega (arith, M .some);
+        earlier = omega (arith, M .early);
+        seated = λ h. level-held (natAbs c) h there;
+      }
+
+  -- Its lines can be written by the tables ..
+  pub allowed-lined : Lined (slots (σ .level) (σ .then) (σ .els)) ns numbers seats
+  allowed-lined =
+      let Z = E .rules .sizes in
+      record {
+        few = omega (arith, lines-few E, Z .count-limit);
+        some = λ i h. entry-node E i h .some;
+        inner = λ i h two.
+            let n = getD ns i 0 in
+            let I = inner-at E i n h refl two in
+            let seat = F .seated (levelAt σ n) (level-held n two (I .there)) in
+            record {
+              level-there = omega (arith, I .there, Z .count-slots);
+              then-there = omega (arith, I .there, Z .count-slots, Z .then-long);
+              els-there = omega (arith, I .there, Z .count-slots, Z .els-long);
+              seated = level-held n two (I .there);
+              supported = omega (arith, level-seated I);
+              then = child-lined i (thenAt σ n) (I .then) (I .fits .then-some) (omega (arith, I .fits .then-low, I .there));
+              els = child-lined i (elseAt σ n) (I .els) (I .fits .else-some) (omega (arith, I .fits .else-low, I .there));
+            };
+        back = λ c some there lined.
+            let s = number-seat ns numbers c (F .numbered) some there in
+            rw s (seat-back c ns (rw s at lined));
+      }
+
+  -- .. and are those of its nodes.
+  pub allowed-lines : linesBy (slots (σ .level) (σ .then) (σ .els)) numbers seats ns ≡ linesFor σ ns
+  unfolding lineBy linesBy
+  allowed-lines =
+      lines-by-tables σ ns numbers seats (F .numbered) (F .seated)
+      (λ i h f.
+      let I = allowed-lined .inner i h (omega (arith, f, entry-node E i h .some)) in
+      record {
+        level = I .seated;
+        then-some = I .then .some;
+        then-there = I .then .there;
+        else-some = I .els .some;
+        else-there = I .els .there;
+      })
+
+module _ {σ : Store} {roots : List ℤ} {ns : List ℕ} (E : Exported σ roots ns) where
+  -- the number of a line is one that an edge can have
+  edge-small : (c : ℤ) → natAbs (renumbered ns c) ≤ nodeLimit
+  edge-small c = omega (arith, renumbered-abs ns c, seat-most (natAbs c) ns, lines-few E, E .rules .sizes .count-limit)
+
+  line-small : {i n : ℕ} → NodeAt σ ns i n → Small (lineFor σ (supportOf σ ns) ns n)
+  unfolding lineFor
+  line-small terminalAt = tt
+  line-small {i} {n} (innerAt I) =
+      rw (ne-eqb n 1 (λ z. omega (arith, I .node)))
+      (omega (arith, position-low I, support-few σ ns, E .rules .sizes .levels-limit), edge-small (thenAt σ n), edge-small (elseAt σ n))
+
+  -- The lines of an export are within the limits ..
+  pub lines-small : (i : ℕ) → i < length (linesFor σ ns) → Small (getD (linesFor σ ns) i terminal)
+  unfolding linesFor
+  lines-small i h =
+      let k : i < length ns = rw (length-map ns (lineFor σ (supportOf σ ns) ns)) at h in
+      rw (map-at (lineFor σ (supportOf σ ns) ns) ns i 0 terminal k) (line-small (node-at E i (getD ns i 0) k refl))
+
+  -- .. so they are short.
+  pub lines-short : (ascii : Bool) → length (nodeBytes ascii (linesFor σ ns)) ≤ 32 * length ns
+  unfolding linesFor
+  lines-short ascii =
+      let long = length-map ns (lineFor σ (supportOf σ ns) ns) in
+      omega (arith, nodes-short ascii (linesFor σ ns) (omega (arith, lines-few E, E .rules .sizes .count-limit)) lines-small)

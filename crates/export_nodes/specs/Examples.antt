@@ -1,0 +1,47 @@
+-- Node lines of an export, computed by hand: document 01's example, in both modes.
+use Prim.Native.Nat.{ℕ, zero, suc, _+_}
+use Prim.Native.Char.{code}
+use Prim.Native.String.{String, len, charAt}
+use mathlib.Core.List.{List, [], _∷_}
+use lib.IntN.{ℤ, pos, negsuc}
+use Rattle.store.specs.Store.{Store, store}
+use Rattle.lines.specs.Line.{Line, terminal, inner}
+use Rattle.numbering.specs.Numbering.{numbering}
+
+-- the bytes of a text in ASCII
+unfoldable pub bytesFrom : ℕ → ℕ → String → List ℕ
+bytesFrom zero i s = []
+bytesFrom (suc n) i s = code (charAt s i) ∷ bytesFrom n (i + 1) s
+
+abbrev pub bytes : String → List ℕ
+bytes s = bytesFrom (len s) 0 s
+
+-- the nodes of document 01's example, and its roots
+abbrev pub example : Store
+example = store 2 3 (0 ∷ 1 ∷ 0 ∷ []) (pos 0 ∷ pos 1 ∷ pos 2 ∷ []) (pos 0 ∷ negsuc 0 ∷ negsuc 0 ∷ []) [] []
+
+abbrev pub exampleRoots : List ℤ
+exampleRoots = pos 3 ∷ negsuc 2 ∷ []
+
+abbrev pub exampleNodes : List ℕ
+exampleNodes = numbering example exampleRoots
+
+abbrev pub exampleLines : List Line
+exampleLines = terminal ∷ inner 1 (pos 1) (negsuc 0) ∷ inner 0 (pos 2) (negsuc 0) ∷ []
+
+abbrev pub exampleText : List ℕ
+exampleText = bytes "1 T 0 0\n2 1 1 -1\n3 0 2 -1\n"
+
+-- starred: 'those nodes in binary: 00 00 24 02 7c'
+abbrev pub exampleBinary : List ℕ
+exampleBinary = 0x00 ∷ 0x00 ∷ 0x24 ∷ 0x02 ∷ 0x7c ∷ []
+
+-- a store whose nodes were made in another order than an export writes them: the roots 6 and -3 lead to all of them but node 4
+abbrev pub mixed : Store
+mixed =
+    store 3 6 (0 ∷ 2 ∷ 0 ∷ 1 ∷ 1 ∷ 0 ∷ [])
+    (pos 0 ∷ pos 1 ∷ pos 1 ∷ pos 1 ∷ pos 2 ∷ pos 5 ∷ [])
+    (pos 0 ∷ negsuc 0 ∷ negsuc 0 ∷ negsuc 0 ∷ pos 1 ∷ negsuc 1 ∷ []) [] []
+
+abbrev pub mixedRoots : List ℤ
+mixedRoots = pos 6 ∷ negsuc 2 ∷ []

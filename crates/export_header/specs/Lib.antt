@@ -1,0 +1,5 @@
+pub mod Lines
+pub mod Heading
+pub mod Tables
+pub mod Small
+pub mod Examples

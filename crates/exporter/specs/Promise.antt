@@ -1,0 +1,44 @@
+-- What an export promises.
+use Prim.Native.Nat.{ℕ, zero, suc}
+use mathlib.Core.Path.{_≡_}
+use mathlib.Core.List.{List}
+use lib.ListN.{length, replicate}
+use lib.IntN.{ℤ}
+use Rattle.codes.specs.Answer.{Read, value, refused}
+use Rattle.codes.specs.Lent.{laid}
+use Rattle.store.specs.Store.{Store}
+use Rattle.checks.specs.Seats.{Seats}
+use Rattle.numbering.specs.Reached.{Allowed}
+use Rattle.export_header.specs.Tables.{Lent}
+use Rattle.exporter.specs.Settings.{Settings}
+use Rattle.exporter.specs.Export.{fileOf}
+use Rattle.exporter.specs.declared.Exported.{Exported}
+use Rattle.exporter.specs.declared.Exported.the-variants as exported
+
+-- the length of the file, or the number of a refusal
+abbrev pub ofExported : Exported → Read ℕ
+ofExported (exported.Written n) = value n
+ofExported (exported.Refused k) = refused k
+
+-- A file is written, and zeros after it. 'Order inside a level is left open': its lines are those of some list of nodes that document 01
+-- allows. This is the one place where the promise leaves a result open.
+pub record Writes (s : Settings) (σ : Store) (roots : List ℤ) (order : List ℕ) (p : Lent) (lent : ℕ) (r : Exported) (out : List ℕ) : Type 0 where
+  pub nodes : List ℕ
+  pub allowed : Allowed σ roots nodes
+  pub answer : ofExported r ≡ value (length (fileOf s σ roots order p nodes))
+  pub bytes : out ≡ laid (fileOf s σ roots order p nodes) (replicate lent 0)
+
+-- 'on a refusal all output is zeros'
+pub record Refuses (k lent : ℕ) (r : Exported) (out : List ℕ) : Type 0 where
+  pub answer : ofExported r ≡ refused k
+  pub bytes : out ≡ replicate lent 0
+
+-- by the refusal, 0 of none, and the length of the output
+abbrev pub Exports : ℕ → Settings → Store → List ℤ → List ℕ → Lent → ℕ → Exported → List ℕ → Type 0
+Exports zero s σ roots order p lent r out = Writes s σ roots order p lent r out
+Exports (suc k) s σ roots order p lent r out = Refuses (suc k) lent r out
+
+-- where nothing is refused, the table of each level's variable
+abbrev pub VarsIf : ℕ → List ℕ → List ℕ → Type 0
+VarsIf zero order vars = Seats order vars
+VarsIf (suc k) order vars = Unit

@@ -1,0 +1,52 @@
+-- An export is far shorter than a load takes: 'input 16,777,216 bytes'.
+use mathlib.Core.Path.{_≡_}
+use mathlib.Core.Bool.{true, false}
+use mathlib.Core.List.{List, map}
+use mathlib.Core.Logic.{⊎-elim}
+use Prim.Native.Nat.{ℕ, _*_, _≤_}
+use native.Mathlib.Omega.{arith}
+use lib.ListN.{length}
+use lib.IntN.{ℤ}
+use Rattle.codes.specs.Limits.{inputLimit}
+use Rattle.readers.specs.Each.{Each, none, each}
+use Rattle.store.specs.Store.{Store}
+use Rattle.names.specs.Names.{nameAt, fitName, listFits}
+use Rattle.names.specs.Size.{sum, exportSize}
+use Rattle.names.proofs.FitNames.{fit-most}
+use Rattle.names.proofs.FitLists.{place-fit, place-length, list-count, list-names, list-sum}
+use Rattle.export_nodes.specs.Exported.{Exported}
+use Rattle.export_header.specs.Tables.{Lent}
+use Rattle.exporter.specs.Settings.{Settings}
+use Rattle.exporter.specs.Export.{fileOf}
+use Rattle.exporter.proofs.Accepted.{Accepted}
+use Rattle.exporter.proofs.FileParts.{file-short}
+
+-- names have 255 bytes each at most
+names-short : {names : List (List ℕ)} → Each (λ name. fitName false name ≡ true) names → sum (map length names) ≤ 255 * length names
+unfolding sum
+names-short none = omega arith
+names-short (each {a = name} h k) = omega (arith, fit-most false name h, names-short k)
+
+-- a list has none of them, or as many as wanted
+list-short : (want : ℕ) (bytes starts lens : List ℕ) → listFits want bytes starts lens ≡ true → sum lens ≤ 255 * want
+list-short want bytes starts lens h =
+    let s = list-sum want bytes starts lens h in
+    let k = names-short (list-names want bytes starts lens h) in
+    ⊎-elim (λ e. omega arith) (λ e. omega arith) (list-count want bytes starts lens h)
+
+module _ {σ : Store} {roots : List ℤ} {order : List ℕ} {p : Lent} {slots numbers out : ℕ} (A : Accepted σ roots order p slots numbers out) where
+  -- so the export size is no more than an input may have,
+  size-small : exportSize (σ .count) (σ .levels) (length roots) (p .lens) (p .rootlens) (p .dd .len) ≤ inputLimit
+  unfolding exportSize
+  size-small =
+      let sizes = A .rules .sizes in
+      let few = A .roots-few in
+      let long = A .order-long in
+      let names = list-short (length order) (p .bytes) (p .starts) (p .lens) (A .names .names) in
+      let rootnames = list-short (length roots) (p .bytes) (p .rootstarts) (p .rootlens) (A .names .rootnames) in
+      let dd = fit-most true (nameAt (p .bytes) (p .dd)) (place-fit true (p .bytes) (p .dd) (A .names .diagram)) in
+      omega (arith, place-length true (p .bytes) (p .dd .start) (p .dd .len) (A .names .diagram))
+
+  -- and an export has no more.
+  pub input-short : (s : Settings) {ns : List ℕ} → Exported σ roots ns → length (fileOf s σ roots order p ns) ≤ inputLimit
+  input-short s E = omega (arith, file-short s A E, size-small)

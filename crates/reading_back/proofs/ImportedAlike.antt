@@ -1,0 +1,54 @@
+-- What an import of an exported file leaves: the store as it was, and the roots, whichever way the file was written.
+use mathlib.Core.Path.{_≡_, refl, sym, _∙_}
+use mathlib.Core.Bool.{true, false}
+use mathlib.Core.List.{List}
+use Prim.Native.Nat.{ℕ}
+use lib.IntN.{ℤ}
+use Rattle.codes.specs.declared.DDDMPVersion.{DDDMPVersion}
+use Rattle.readers.specs.Text.{Place}
+use Rattle.store.specs.Store.{Store}
+use Rattle.header.specs.Header.{Header, header, answerOf}
+use Rattle.numbering.specs.Reached.{Allowed}
+use Rattle.numbering.specs.Support.{supportOf}
+use Rattle.export_header.specs.Tables.{Lent}
+use Rattle.exporter.specs.Settings.{Settings, settings}
+use Rattle.exporter.specs.Export.{exportFault, headingOf, fileOf}
+use Rattle.reading_header.specs.HeaderBack.{headerFor}
+use Rattle.reading_back.specs.ReadsBack.{ReadsBack, importBy, GivesBack, Alike}
+use Rattle.reading_back.proofs.ReadsBack.{reads-back}
+
+-- An import into the store that the file came from, as the header that is read leads to it, gives back the roots.
+pub led-back : {s : Settings} {σ : Store} {roots : List ℤ} {order : List ℕ} {p : Lent} {ns f : List ℕ} {lent : ℕ} {h : Header}
+    → ReadsBack s σ roots order p ns f lent → answerOf f ≡ header h → GivesBack σ roots lent (importBy f h σ (supportOf σ ns) lent)
+unfolding headingOf
+led-back {s} {σ} {roots} {order} {p} {ns} {f} {lent} {h} b e =
+    let H = b .header-back in
+    let same : h ≡ headerFor (headingOf s σ roots order p ns) (H .dd) = cc in
+    rw (same, H .roots, b .nodes-back .imported) (record { end = _; accepted = refl; unchanged = refl; same = refl })
+
+-- Two files that read back the same roots, be they text or binary, of either version, with lines in any order that document 01 allows: what
+-- is imported is the same.
+pub alike-back : {s t : Settings} {σ : Store} {roots : List ℤ} {order others : List ℕ} {p q : Lent} {ns ms f g : List ℕ} {lent : ℕ}
+    {h k : Header} → ReadsBack s σ roots order p ns f lent → ReadsBack t σ roots others q ms g lent → answerOf f ≡ header h → answerOf g ≡ header k
+    → Alike (importBy f h σ (supportOf σ ns) lent) (importBy g k σ (supportOf σ ms) lent)
+alike-back b c d e =
+    let x = led-back b d in
+    let y = led-back c e in
+    record { store = x .unchanged ∙ sym (y .unchanged); roots = x .same ∙ sym (y .same) }
+
+-- So text and binary of one export read back alike.
+module _ (σ : Store) (roots : List ℤ) (order : List ℕ) (p : Lent) (slots numbers out : ℕ)
+    (e : exportFault σ roots order p slots numbers out ≡ 0) {ns ms : List ℕ} (a : Allowed σ roots ns) (b : Allowed σ roots ms)
+    (version : DDDMPVersion) (dd : Place) where
+  abbrev text : List ℕ
+  text = fileOf (settings version true dd) σ roots order p ns
+
+  abbrev binary : List ℕ
+  binary = fileOf (settings version false dd) σ roots order p ms
+
+  pub text-as-binary : (lent : ℕ) {h k : Header} → answerOf text ≡ header h → answerOf binary ≡ header k
+      → Alike (importBy text h σ (supportOf σ ns) lent) (importBy binary k σ (supportOf σ ms) lent)
+  text-as-binary lent =
+      alike-back
+      (reads-back slots numbers out e a (settings version true dd) lent)
+      (reads-back slots numbers out e b (settings version false dd) lent)

@@ -1,0 +1,5 @@
+pub mod HeadingFit
+pub mod FileShort
+pub mod ReadsBack
+pub mod ImportedAlike
+pub mod OutputBack

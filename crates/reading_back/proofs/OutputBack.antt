@@ -1,0 +1,48 @@
+-- What an export promises, read back: where it says that a file was written, that file reads back.
+use mathlib.Core.Path.{_≡_, refl}
+use mathlib.Core.List.{List}
+use Prim.Native.Nat.{ℕ, zero, suc, _≤_}
+use native.Mathlib.Omega.{arith}
+use lib.ListN.{length, take, replicate, length-replicate}
+use lib.IntN.{ℤ}
+use Rattle.codes.specs.Answer.{value}
+use Rattle.store.specs.Store.{Store}
+use Rattle.values.proofs.Padded.{take-laid}
+use Rattle.export_header.specs.Tables.{Lent}
+use Rattle.exporter.specs.Settings.{Settings}
+use Rattle.exporter.specs.Export.{exportFault, fileOf}
+use Rattle.exporter.specs.Promise.{ofExported, Writes, Exports}
+use Rattle.exporter.specs.declared.Exported.{Exported}
+use Rattle.exporter.proofs.Accepted.{Accepted, accepted}
+use Rattle.exporter.proofs.FileParts.{file-short}
+use Rattle.reading_back.specs.ReadsBack.{OutputBack}
+use Rattle.reading_back.proofs.ReadsBack.{exported, accepted-back}
+
+module _ {s : Settings} {σ : Store} {roots : List ℤ} {order : List ℕ} {p : Lent} (slots numbers lent : ℕ) (r : Exported) {out : List ℕ} {n : ℕ}
+    (is : ofExported r ≡ value n) where
+  -- A file that is written is the front of the output,
+  pub written-file : Accepted σ roots order p slots numbers lent → (w : Writes s σ roots order p lent r out)
+      → take n out ≡ fileOf s σ roots order p (w .nodes)
+  written-file A w =
+      let f = fileOf s σ roots order p (w .nodes) in
+      let count : n ≡ length f = cc in
+      let short = file-short s A (exported A (w .allowed)) in
+      let fits : length f ≤ length (replicate {A = ℕ} lent 0) = omega (arith, A .out-long, length-replicate {A = ℕ} lent 0) in
+      rw (count, w .bytes) (take-laid f (replicate lent 0) fits)
+
+  -- and reads back.
+  pub writes-back : exportFault σ roots order p slots numbers lent ≡ 0 → Writes s σ roots order p lent r out → (room : ℕ)
+      → OutputBack s σ roots order p n out room
+  writes-back e w room =
+      let A = accepted σ roots order p slots numbers lent e in
+      let file = written-file A w in
+      record { nodes = w .nodes; file = file; back = rw file (accepted-back A (w .allowed) s room) }
+
+  -- So where the answer of an export is a length, so many bytes of its output read back.
+  pub exports-back : Exports (exportFault σ roots order p slots numbers lent) s σ roots order p lent r out → (room : ℕ)
+      → OutputBack s σ roots order p n out room
+  exports-back w room = go (exportFault σ roots order p slots numbers lent) refl w
+    where
+      go : (k : ℕ) → exportFault σ roots order p slots numbers lent ≡ k → Exports k s σ roots order p lent r out → OutputBack s σ roots order p n out room
+      go zero e w = writes-back e w room
+      go (suc k) e w = let a = w .answer in absurd (let z : _≡_ {A = ℕ} 0 1 = cc in omega arith)

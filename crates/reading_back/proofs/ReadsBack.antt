@@ -1,0 +1,77 @@
+-- An exported file reads back: into the store that it came from, with no new node, as the same roots.
+use mathlib.Core.Path.{_≡_, refl}
+use mathlib.Core.Bool.{true}
+use mathlib.Core.List.{List, _++_}
+use Prim.Native.Nat.{ℕ}
+use lib.ListN.{length}
+use lib.Seq.{drop-append-seam}
+use lib.IntN.{ℤ}
+use borrow.Author.Tests.{eq-eqb}
+use Rattle.store.specs.Store.{Store}
+use Rattle.numbering.specs.Reached.{Allowed}
+use Rattle.numbering.specs.Support.{supportOf}
+use Rattle.numbering.proofs.SupportLevels.{support-fits}
+use Rattle.export_nodes.specs.Exported.{Exported}
+use Rattle.export_nodes.specs.Lines.{linesFor}
+use Rattle.export_nodes.specs.Encoded.{nodeBytes, endText}
+use Rattle.export_nodes.proofs.Renumbered.{lines-few}
+use Rattle.import.specs.List.{listFits}
+use Rattle.export_header.specs.Heading.{headText}
+use Rattle.export_header.specs.Tables.{Lent}
+use Rattle.exporter.specs.Settings.{Settings}
+use Rattle.exporter.specs.Export.{exportFault, headingOf, fileOf}
+use Rattle.exporter.proofs.Accepted.{Accepted, accepted}
+use Rattle.reading_header.proofs.HeaderBack.{header-back}
+use Rattle.reading_nodes.specs.Back.{Stand}
+use Rattle.reading_nodes.proofs.NodesBack.{nodes-read-back}
+use Rattle.reading_back.specs.ReadsBack.{ReadsBack}
+use Rattle.reading_back.proofs.HeadingFit.{heading-fit}
+use Rattle.reading_back.proofs.FileShort.{input-short}
+
+-- what an accepted export starts from, with any numbering that document 01 allows
+pub exported : {σ : Store} {roots : List ℤ} {order ns : List ℕ} {p : Lent} {slots numbers out : ℕ} → Accepted σ roots order p slots numbers out
+    → Allowed σ roots ns → Exported σ roots ns
+exported A allowed = record { rules = A .rules; roots-there = A .roots-there; allowed = allowed }
+
+module _ {σ : Store} {roots : List ℤ} {order : List ℕ} {p : Lent} {slots numbers out : ℕ} (A : Accepted σ roots order p slots numbers out)
+    {ns : List ℕ} (allowed : Allowed σ roots ns) (s : Settings) where
+  abbrev f : List ℕ
+  f = fileOf s σ roots order p ns
+
+  abbrev head : List ℕ
+  head = headText (headingOf s σ roots order p ns)
+
+  abbrev rest : List ℕ
+  rest = nodeBytes (s .ascii) (linesFor σ ns) ++ endText
+
+  E : Exported σ roots ns
+  E = exported A allowed
+
+  -- the nodes stand behind the header
+  stand : Stand (s .ascii) σ ns f (length head)
+  unfolding fileOf
+  stand = drop-append-seam head rest
+
+  -- the levels of the support are one for each support variable
+  own-levels : listFits (length (supportOf σ ns)) (σ .levels) (supportOf σ ns) ≡ true
+  unfolding listFits
+  own-levels = rw (eq-eqb (length (supportOf σ ns)) (length (supportOf σ ns)) refl) (support-fits σ ns)
+
+  -- An accepted export reads back, in whatever order that document 01 allows its lines stand.
+  pub accepted-back : (lent : ℕ) → ReadsBack s σ roots order p ns f lent
+  unfolding fileOf
+  accepted-back lent =
+      let short = input-short A s E in
+      record {
+        short = short;
+        header-back = header-back _ f rest (heading-fit A E s) short refl;
+        levels-fit = own-levels;
+        few-lines = lines-few E;
+        nodes-back = nodes-read-back E (s .ascii) f (length head) _ stand lent;
+      }
+
+-- Demand 2: an export that isn't refused reads back.
+pub reads-back : {σ : Store} {roots : List ℤ} {order ns : List ℕ} {p : Lent} (slots numbers out : ℕ)
+    → exportFault σ roots order p slots numbers out ≡ 0 → Allowed σ roots ns → (s : Settings) (lent : ℕ)
+    → ReadsBack s σ roots order p ns (fileOf s σ roots order p ns) lent
+reads-back {σ} {roots} {order} {p = p} slots numbers out e allowed = accepted-back (accepted σ roots order p slots numbers out e) allowed

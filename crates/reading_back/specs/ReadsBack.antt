@@ -1,0 +1,58 @@
+-- An exported file, read back. Demand 2: an exported file, text or binary, reads back as the same roots. Stated over header and node lines.
+use Prim.Native.Nat.{ℕ, _≤_}
+use mathlib.Core.Path.{_≡_}
+use mathlib.Core.Bool.{true, not}
+use mathlib.Core.List.{List}
+use lib.Dec.{eqb}
+use lib.ListN.{length, take, replicate}
+use lib.IntN.{ℤ, pos}
+use Rattle.codes.specs.Limits.{inputLimit}
+use Rattle.codes.specs.Lent.{laid}
+use Rattle.store.specs.Store.{Store}
+use Rattle.header.specs.Header.{Header}
+use Rattle.numbering.specs.Support.{supportOf}
+use Rattle.import.specs.List.{listFits}
+use Rattle.import.specs.Import.{Imported, setup, nodes, importOf}
+use Rattle.export_header.specs.Heading.{headLines, headText}
+use Rattle.export_header.specs.Tables.{Lent}
+use Rattle.exporter.specs.Settings.{Settings}
+use Rattle.exporter.specs.Export.{headingOf, fileOf}
+use Rattle.reading_header.specs.HeaderBack.{loadedFrom, HeaderBack}
+use Rattle.reading_nodes.specs.Back.{NodesBack}
+
+-- The file f is accepted, as header and as nodes, and gives back what was exported: into its store, at its own levels, with no new node, the
+-- same roots, signs included; of the header what `HeaderBack` says. The roots are read into a lent list of a length.
+pub record ReadsBack (s : Settings) (σ : Store) (roots : List ℤ) (order : List ℕ) (p : Lent) (ns f : List ℕ) (lent : ℕ) : Type 0 where
+  -- '19 .. input 16,777,216 bytes' isn't met
+  pub short : length f ≤ inputLimit
+  pub header-back : HeaderBack (headingOf s σ roots order p ns) f
+  -- 'at its own levels': the levels of the support are a level list that nothing is refused of
+  pub levels-fit : listFits (length (supportOf σ ns)) (σ .levels) (supportOf σ ns) ≡ true
+  -- `.nnodes` is at most the store's count: scratch of that length is enough
+  pub few-lines : length ns ≤ σ .count
+  pub nodes-back : NodesBack (s .ascii) σ roots ns f (length (headText (headingOf s σ roots order p ns))) (length (headLines (headingOf s σ roots order p ns))) lent
+
+-- What an import of a file's nodes leaves, as the file's header leads to it: into a store, at a level list, with a lent list of roots of a
+-- length.
+abbrev pub importBy : List ℕ → Header → Store → List ℕ → ℕ → Imported
+importBy f h σ levels lent =
+    importOf (setup (h .ascii) (not (eqb (h .varinfo) 4)) (h .nnodes) (h .lines) levels (σ .levels)) σ f (h .next)
+    (laid (loadedFrom f .roots) (replicate lent (pos 0)))
+
+-- It is accepted, the store is as it was, and the roots stand in the lent list.
+pub record GivesBack (σ : Store) (roots : List ℤ) (lent : ℕ) (r : Imported) : Type 0 where
+  pub end : ℕ
+  pub accepted : r .answer ≡ nodes end
+  pub unchanged : r .after ≡ σ
+  pub same : r .roots ≡ laid roots (replicate lent (pos 0))
+
+-- Two imports leave the same store and the same roots.
+pub record Alike (r q : Imported) : Type 0 where
+  pub store : r .after ≡ q .after
+  pub roots : r .roots ≡ q .roots
+
+-- The first n bytes of an export's output are a file, and it reads back.
+pub record OutputBack (s : Settings) (σ : Store) (roots : List ℤ) (order : List ℕ) (p : Lent) (n : ℕ) (out : List ℕ) (lent : ℕ) : Type 0 where
+  pub nodes : List ℕ
+  pub file : take n out ≡ fileOf s σ roots order p nodes
+  pub back : ReadsBack s σ roots order p nodes (take n out) lent

@@ -1,0 +1,47 @@
+-- The table of the last values, from the lines of an export's header.
+use mathlib.Core.Path.{_≡_, refl}
+use mathlib.Core.Bool.{Bool, true, false, cond}
+use mathlib.Core.List.{List, [], _∷_, _++_}
+use Prim.Native.Nat.{ℕ, _+_}
+use lib.Dec.{eqb}
+use lib.ListN.{length}
+use Rattle.readers.specs.Each.{Each}
+use Rattle.fields.specs.declared.keys.Key.{Key}
+use Rattle.fields.specs.Keys.{slotOf}
+use Rattle.fields.specs.Sweep.{Span, part, lastFrom, lastOf}
+use Rattle.fields.specs.Sweep as sweep
+use Rattle.fields.proofs.Lasts.{last-at}
+use Rattle.values.specs.Values.{Known, valueIn}
+use Rattle.header.specs.Header.{tableOf}
+use Rattle.export_header.specs.Lines.{HeaderLine, lineText}
+use Rattle.reading_header.specs.Spans.{valueOf, spanOf, saidFrom, valueFrom}
+use Rattle.reading_header.proofs.LinesBack.{LinesBack, then, Early, closing, all-back}
+
+module _ (f : List ℕ) (k : Key) where
+  -- the bytes of a span
+  abbrev bytesAt : Span → List ℕ
+  bytesAt s = part f (s .start) (s .end)
+
+  -- the last value among lines, after one that stands at v and has the bytes w
+  value-from : (ls : List HeaderLine) (at : ℕ) (v : Span) (w : List ℕ) → LinesBack f at (ls ++ closing) → bytesAt v ≡ w
+      → bytesAt (lastFrom v k (saidFrom at ls)) ≡ valueFrom w k ls
+  unfolding lastFrom saidFrom valueFrom
+  value-from [] at v w b e = e
+  value-from (l ∷ ls) at v w (then b rest) e =
+      value-from ls (at + length (lineText l)) _ _ rest (by (eqb (slotOf k) (slotOf (l .key))))
+    where
+      by : (t : Bool) → bytesAt (cond t (spanOf at l) v) ≡ cond t (valueOf l) w
+      by true = b .bytes
+      by false = e
+
+  -- A key's value in the table is that of the last line with it.
+  pub table-back : (ls : List HeaderLine) → LinesBack f 0 (ls ++ closing) → Each Early ls → Known k → valueIn f (tableOf f) k ≡ valueFrom [] k ls
+  unfolding tableOf lastOf
+  table-back ls b h n = rw (all-back f ls b h, last-at k (saidFrom 0 ls) n) (value-from ls 0 sweep.none [] b refl)
+
+module _ (k : Key) where
+  -- The last value among lines and further ones.
+  pub value-append : (v : List ℕ) (ls ms : List HeaderLine) → valueFrom v k (ls ++ ms) ≡ valueFrom (valueFrom v k ls) k ms
+  unfolding valueFrom
+  value-append v [] ms = refl
+  value-append v (l ∷ ls) ms = value-append (cond (eqb (slotOf k) (slotOf (l .key))) (valueOf l) v) ls ms

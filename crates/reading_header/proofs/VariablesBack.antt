@@ -1,0 +1,138 @@
+-- The names of variables, found by the levels: in `.orderedvarnames` that of a support variable stands at its permid.
+use mathlib.Core.Path.{_≡_, refl, sym, ap, _∙_}
+use mathlib.Core.Bool.{true}
+use mathlib.Core.List.{List, [], _∷_, map}
+use Prim.Native.Nat.{ℕ, zero, suc, _+_, _-_, _≤_, _<_}
+use native.Mathlib.Numerals.{add-one}
+use native.Mathlib.Omega.{arith}
+use lib.Dec.{ltb}
+use lib.ListN.{length, getD, drop, drop-of-length-le, List·getD-map}
+use lib.Seq.{drop-cons}
+use borrow.Author.Tests.{ltb-true}
+use Rattle.codes.proofs.Bytes.{both}
+use Rattle.readers.specs.Text.{Place}
+use Rattle.checks.specs.Seats.{seatOf}
+use Rattle.checks.specs.Support.{allBelow, distinct, permidsFit}
+use Rattle.checks.specs.Names.{empty, freeFrom, orderedFrom, orderedSeats, variableNames}
+use Rattle.checks.specs.Names as places
+use Rattle.checks.proofs.Seating.{seat-most}
+use Rattle.checks.proofs.Ascending.{ids-below}
+use Rattle.checks.proofs.Distinct.{permids-below}
+use Rattle.whole.specs.Names.{upFrom}
+use Rattle.names.specs.Order.{isOrder}
+use Rattle.names.specs.Names.{nameAt}
+use Rattle.names.proofs.Seats.{seat-found}
+use Rattle.names.proofs.Permutation.{order-length}
+use Rattle.export_header.specs.Heading.{idsFrom, permidsOf, variablesFrom, chosen}
+use Rattle.reading_header.specs.HeaderBack.{variableAt}
+use Rattle.reading_header.specs.ValuesBack.{Named}
+use Rattle.reading_header.proofs.KeptLevels.{ids-fit}
+use Rattle.reading_header.proofs.SupportBack.{permids-fit, variables-ids, ids-counted, id-there}
+use Rattle.reading_header.proofs.AgreementBack.{name-at}
+
+-- All names of a list, in their order.
+names-from : (k i : ℕ) (names : List (List ℕ)) → i + k ≡ length names → chosen (upFrom k i) names ≡ drop i names
+unfolding chosen upFrom
+names-from zero i names e = let h : length names ≤ i = omega arith in sym (drop-of-length-le names h)
+names-from (suc k) i names e = rw (names-from k (i + 1) names (omega arith), add-one i) (sym (drop-cons names i [] (omega arith)))
+
+pub names-in-order : (names : List (List ℕ)) → chosen (upFrom (length names) 0) names ≡ names
+names-in-order names = names-from (length names) 0 names (omega arith)
+
+module _ (order : List ℕ) (names : List (List ℕ)) where
+  -- Of the names in the order of the levels, each is that of its level's variable.
+  name-of-level : (k l i : ℕ) → i < k → getD (chosen (variablesFrom k l order) names) i [] ≡ getD names (variableAt order (l + i)) []
+  unfolding chosen variablesFrom
+  name-of-level zero l i h = absurd (omega arith)
+  name-of-level (suc k) l zero h = let z : l + 0 ≡ l = omega arith in rw z
+  name-of-level (suc k) l (suc i) h = let z : l + 1 + i ≡ l + suc i = omega arith in name-of-level k (l + 1) i (omega arith) ∙ rw z
+
+  names-of-levels : (n : ℕ) (ls : List ℕ) → allBelow n ls ≡ true
+      → chosen ls (chosen (variablesFrom n 0 order) names) ≡ chosen (map (variableAt order) ls) names
+  unfolding chosen allBelow
+  names-of-levels n [] h = refl
+  names-of-levels n (l ∷ ls) h =
+      let p = both (ltb l n) (allBelow n ls) h in
+      let z : 0 + l ≡ l = omega arith in
+      rw (names-of-levels n ls (p .1), name-of-level n 0 l (ltb-true l n (p .0)), z)
+
+-- The seat in `.orderedvarnames` of a variable among the ids.
+module _ (ids permids : List ℕ) where
+  ordered-seat : (k w i j : ℕ) (free : List ℕ) → i < k → seatOf (w + i) ids ≡ suc j
+      → getD (orderedFrom k w ids permids free) i 0 ≡ suc (getD permids j 0)
+  unfolding orderedFrom
+  ordered-seat zero w i j free h e = absurd (omega arith)
+  ordered-seat (suc k) w zero j free h e =
+      let z : w + 0 ≡ w = omega arith in
+      let s : seatOf w ids ≡ suc j = rw z at e in
+      rw (getD, s)
+  ordered-seat (suc k) w (suc i) j free h e =
+      let z : w + suc i ≡ w + 1 + i = omega arith in
+      go (seatOf w ids) (λ free. ordered-seat k (w + 1) i j free (omega arith) (rw z at e))
+    where
+      go : (s : ℕ) → ((free : List ℕ) → getD (orderedFrom k (w + 1) ids permids free) i 0 ≡ suc (getD permids j 0))
+          → getD {A = ℕ} (elim s as (λ x. List ℕ) [
+            | suc i ↦ suc (getD permids i 0) ∷ orderedFrom k (w + 1) ids permids free
+            | zero ↦ getD free 0 0 ∷ orderedFrom k (w + 1) ids permids (drop 1 free)
+          ]) (suc i) 0 ≡ suc (getD permids j 0)
+      go zero later = later (drop 1 free)
+      go (suc s) later = later free
+
+module _ (n : ℕ) (order : List ℕ) (perm : isOrder n order ≡ true) (support : List ℕ) where
+  abbrev ids : List ℕ
+  ids = idsFrom support 0 order
+
+  abbrev permids : List ℕ
+  permids = permidsOf support order
+
+  -- The permids are the levels of the ids, so that both have the same names.
+  pub permids-names : (names : List (List ℕ)) → chosen permids (chosen (variablesFrom n 0 order) names) ≡ chosen ids names
+  unfolding permidsFit
+  permids-names names =
+      let p = both (allBelow n permids) (distinct permids) (permids-fit n order perm support) in
+      names-of-levels order names n permids (p .0) ∙ ap (λ is. chosen is names) (variables-ids n order perm support)
+
+  -- A support variable, its position among the ids, and the permid there, which is its level.
+  module _ (v : ℕ) (h : 1 ≤ seatOf v ids) where
+    abbrev position : ℕ
+    position = seatOf v ids - 1
+
+    abbrev level : ℕ
+    level = getD permids position 0
+
+    position-low : position < length permids
+    position-low = omega (arith, seat-most v ids, ids-counted n order perm support)
+
+    pub id-low : v < n
+    id-low =
+        let k : position < length ids = omega (arith, seat-most v ids) in
+        omega (arith, ids-below (length order) ids (ids-fit support order) position k, seat-found v ids h, order-length n order perm)
+
+    level-low : level < n
+    level-low = permids-below n permids (permids-fit n order perm support) position position-low
+
+    variable : variableAt order level ≡ v
+    variable = sym (id-there n order perm support position position-low) ∙ seat-found v ids h
+
+    -- Its name, where `.orderedvarnames` has the names in the order of the levels.
+    pub ordered-name : (names : List (List ℕ)) {f : List ℕ} {op : List Place} → Named f op (chosen (variablesFrom n 0 order) names)
+        → nameAt f (getD (map (places.nameAt op) (orderedSeats n ids permids)) v empty) ≡ getD names v []
+    unfolding orderedSeats
+    ordered-name names {f} {op} o =
+        let z : 0 + v ≡ v = omega arith in
+        let y : 0 + level ≡ level = omega arith in
+        let i : seatOf v ids ≡ suc position = omega arith in
+        let s = ordered-seat ids permids n 0 v position (freeFrom n 0 permids) id-low (rw z i) in
+        ap (nameAt f) (List·getD-map (places.nameAt op) (orderedFrom n 0 ids permids (freeFrom n 0 permids)) v 0 ∙ ap (places.nameAt op) s)
+        ∙ name-at o level
+        ∙ name-of-level order names n 0 level level-low
+        ∙ rw (y, variable)
+
+-- Where no list has names no variable has one.
+pub none-given : (n : ℕ) (ids permids : List ℕ) (vp op sp : List Place) → length vp ≡ 0 → length op ≡ 0 → length sp ≡ 0
+    → variableNames n ids permids vp op sp ≡ []
+unfolding variableNames
+none-given n ids permids [] [] [] h k l = refl
+none-given n ids permids (p ∷ vp) op sp h k l = absurd (omega arith)
+none-given n ids permids [] (p ∷ op) sp h k l = absurd (omega arith)
+none-given n ids permids [] [] (p ∷ sp) h k l = absurd (omega arith)

@@ -1,0 +1,1 @@
+// The header of an export, read back: no code, theorems about the definitions of both sides.

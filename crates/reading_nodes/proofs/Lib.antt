@@ -1,0 +1,13 @@
+pub mod Standing
+pub mod TextWords
+pub mod TextBack
+pub mod LevelOrder
+pub mod BinaryCodes
+pub mod BinaryBack
+pub mod LinesBack
+pub mod Parts
+pub mod NumbersBack
+pub mod LinesJudged
+pub mod Built
+pub mod RootsBack
+pub mod NodesBack

@@ -1,0 +1,147 @@
+-- The definitions compute to what document 01 says.
+use mathlib.Core.Path.{_≡_, refl, sym, ap, subst, _∙_}
+use mathlib.Core.Bool.{Bool, true, false}
+use mathlib.Core.List.{_∷_}
+use Prim.Native.Nat.{ℕ, _≤_}
+use native.Mathlib.Omega.{arith}
+use lib.ListN.{replicate}
+use lib.IntN.{pos, negsuc}
+use Rattle.codes.specs.Lent.{laid}
+use Rattle.codes.specs.Limits.{varLimit}
+use Rattle.codes.specs.Machine.{run}
+use Rattle.codes.specs.Bytes.{isBlank, isDigit, isLineEnd, isWhitespace}
+use Rattle.edges.specs.Edge.{minus, eqZ}
+use Rattle.readers.specs.Line.{isOf, seek, trim, feedAt, lineOf, keyEnd, valueStart, valueEnd, fieldOf}
+use Rattle.readers.specs.Number.{digit, number, single, first}
+use Rattle.readers.specs.Lists.{judge, u32List}
+use Rattle.readers.specs.Words.{wordsFrom, words}
+use Rattle.readers.specs.Edges.{entryStep, edgeAt, edgeEnd, edgeList, children}
+use Rattle.readers.specs.Text.{utf8Next, isUtf8, nameList, textAt}
+use Rattle.fields.specs.Keys.{alike, lookup, keyOf}
+use Rattle.fields.specs.Judge.{versionFault, modeFault, varinfoFault, textFault, singleFault, u32ListFault, rootListFault, nameListFault, faultOf}
+use Rattle.fields.specs.Sweep.{linesFrom, linesOf, endFrom, endOf, allOf, lastFrom, lastOf, lasts}
+use Rattle.checks.specs.Seats.{seatOf}
+use Rattle.checks.specs.Support.{ascending, lastBelow, idsFit, allBelow, distinct, permidsFit, orderFrom, supportOrder}
+use Rattle.checks.specs.Names.{places, sameBytes, sameName, sameNames, chosen, freeFrom, orderedFrom, orderedSeats, suppFrom, suppSeats, variableNames}
+use Rattle.checks.specs.Roots.{rootsFault}
+use Rattle.values.specs.Values.{spans, numberIn, asciiIn, varinfoIn, ddIn, u32sIn, namesIn, rootsIn}
+use Rattle.whole.specs.Names.{upFrom, agree, variableNamesIn}
+use Rattle.whole.specs.Whole.{unless, firstFault, numberFaults, supportFaults, nameCountFaults, nameFaults, rootFaults, wholeFault}
+use Rattle.store.specs.Make.{findUpTo, find, added, insert, make}
+use Rattle.store.specs.Store.{Store}
+use Rattle.store.specs.Rules.{limits, Rules}
+use Rattle.store.specs.Keeps.{keeps, says-no, is-keeps, rules-keeps}
+use Rattle.store.specs.Empty.{empty}
+use Rattle.store.proofs.Empty.{empty-keeps}
+use Rattle.header.specs.Header as head
+use Rattle.header.specs.Header.{tableOf, answerOf, atLeast, beforeReading}
+use Rattle.header.specs.Examples.{bytesFrom, exampleLoaded}
+use Rattle.lines.specs.Line.{deeper, childFault}
+use Rattle.lines.specs.Decode.{decodeFrom}
+use Rattle.import_ascii.specs.Text.{wordFrom, numbered, afterExtra, variableWord, textLine, textLineAt}
+use Rattle.import.specs.Build.{edgeFor, addLine, buildOn, build}
+use Rattle.import.specs.Import.{lineBy, linesIn, linesAnswer, blankAll, endsWell, importOf}
+use Rattle.import.specs.List.{listFits, beforeNodes}
+use Rattle.calls.specs.Load.{Load, refusedAt, variableLists, rootLists, headerOf, setupOf, nodesOf, withHeader, loadOf}
+use Rattle.calls.specs.Examples.{bare, bareHeader, example, exampleHeader}
+use Rattle.calls.proofs.Stages.{Passes, load-refused, passes-load}
+use Rattle.calls.proofs.RootsAnswer.{roots-answer}
+
+-- the header of a load, by whether the store keeps the rules
+abbrev headerBy : Load → Bool → head.Loaded
+headerBy c kept = head.loadOf (variableLists (c .lent)) (rootLists (c .lent)) (unless kept 3) (c .file)
+
+header-by : (c : Load) (σ : Store) {b : Bool} → keeps limits σ ≡ b → headerOf c σ ≡ headerBy c b
+unfolding headerOf
+header-by c σ q = ap (headerBy c) q
+
+-- an empty store breaks the rules without a slot, and keeps them with one
+breaks : (levels : ℕ) → keeps limits (empty levels 0) ≡ false
+breaks levels = sym (is-keeps limits (empty levels 0) false (says-no (λ R. omega (arith, empty-keeps levels 0 .0 R .0))))
+
+kept : (levels slots : ℕ) → levels ≤ varLimit → 1 ≤ slots → keeps limits (empty levels slots) ≡ true
+kept levels slots h k = rules-keeps limits (empty levels slots) (empty-keeps levels slots .1 (k, h))
+
+-- without a slot a file is refused with 3
+pub bare-breaks : loadOf bare (empty 0 0) ≡ refusedAt bare (empty 0 0) 3 0
+unfolding loadOf head.loadOf beforeReading firstFault atLeast
+bare-breaks =
+    load-refused bare (empty 0 0) 3 0 (ap (λ r. withHeader bare (empty 0 0) (r .answer) .answer) (header-by bare (empty 0 0) (breaks 0)))
+
+-- with one it is accepted
+bare-header : headerBy bare true .answer ≡ head.header bareHeader
+unfolding run isBlank isLineEnd isOf seek trim feedAt lineOf keyEnd fieldOf single judge u32List wordsFrom words edgeEnd edgeList isUtf8 nameList textAt alike lookup keyOf linesFrom linesOf endFrom endOf allOf lastFrom lastOf lasts ascending lastBelow idsFit allBelow distinct permidsFit rootsFault numberIn asciiIn varinfoIn ddIn u32sIn namesIn rootsIn agree firstFault numberFaults supportFaults nameCountFaults nameFaults rootFaults wholeFault tableOf answerOf atLeast beforeReading head.loadOf bytesFrom
+bare-header = refl
+
+bare-passes : Passes bare (empty 0 1) bareHeader
+unfolding isBlank isLineEnd isWhitespace alike ascending lastBelow idsFit decodeFrom buildOn build linesIn linesAnswer blankAll endsWell importOf listFits beforeNodes bytesFrom
+bare-passes = record {
+  header-read = ap (λ r. r .answer) (header-by bare (empty 0 1) (kept 0 1 (omega arith) (omega arith))) ∙ bare-header;
+  none-between = refl;
+  at = 7;
+  nodes-read = refl;
+}
+
+pub bare-loads : loadOf bare (empty 0 1) .answer ≡ head.header bareHeader
+bare-loads = ap (λ r. r .answer) (passes-load bare (empty 0 1) bareHeader bare-passes)
+
+-- the header of document 01's example
+example-header : headerBy example true ≡ exampleLoaded
+unfolding run isBlank isDigit isLineEnd isOf seek trim feedAt lineOf keyEnd valueStart valueEnd fieldOf digit number single judge u32List wordsFrom words entryStep edgeAt edgeEnd edgeList utf8Next isUtf8 nameList textAt alike lookup keyOf versionFault modeFault varinfoFault textFault singleFault u32ListFault rootListFault nameListFault faultOf linesFrom linesOf endFrom endOf allOf lastFrom lastOf lasts seatOf ascending lastBelow idsFit allBelow distinct permidsFit orderFrom supportOrder places sameBytes sameName sameNames chosen freeFrom orderedFrom orderedSeats suppFrom suppSeats variableNames rootsFault spans numberIn asciiIn varinfoIn ddIn u32sIn namesIn rootsIn upFrom agree variableNamesIn firstFault numberFaults supportFaults nameCountFaults nameFaults rootFaults wholeFault tableOf answerOf atLeast beforeReading head.loadOf bytesFrom
+example-header = refl
+
+example-read : (σ : Store) → keeps limits σ ≡ true → headerOf example σ ≡ exampleLoaded
+example-read σ q = header-by example σ q ∙ example-header
+
+-- it is accepted where there is a slot for each of its nodes
+example-passes : Passes example (empty 2 3) exampleHeader
+unfolding run isBlank isDigit isLineEnd isWhitespace isOf seek trim feedAt lineOf digit number single first wordsFrom words entryStep edgeAt edgeEnd edgeList children alike ascending lastBelow idsFit deeper childFault decodeFrom wordFrom numbered afterExtra variableWord textLine textLineAt minus eqZ empty findUpTo find added insert make edgeFor addLine buildOn build lineBy linesIn linesAnswer blankAll endsWell importOf listFits beforeNodes bytesFrom
+example-passes = record {
+  header-read = ap (λ r. r .answer) (example-read (empty 2 3) (kept 2 3 (omega arith) (omega arith)));
+  none-between = refl;
+  at = 218;
+  nodes-read = refl;
+}
+
+pub example-loads : loadOf example (empty 2 3) .answer ≡ head.header exampleHeader
+example-loads = ap (λ r. r .answer) (passes-load example (empty 2 3) exampleHeader example-passes)
+
+-- its roots, in an empty store, are 3 and -3
+pub example-roots : loadOf example (empty 2 3) .roots ≡ pos 3 ∷ negsuc 2 ∷ replicate 1022 (pos 0)
+unfolding run isBlank isDigit isLineEnd isWhitespace isOf seek trim feedAt lineOf digit number single first wordsFrom words entryStep edgeAt edgeEnd edgeList children alike ascending lastBelow idsFit deeper childFault decodeFrom wordFrom numbered afterExtra variableWord textLine textLineAt minus eqZ empty findUpTo find added insert make edgeFor addLine buildOn build lineBy linesIn linesAnswer blankAll endsWell importOf listFits beforeNodes bytesFrom laid
+example-roots =
+    ap (λ r. r .roots) (passes-load example (empty 2 3) exampleHeader example-passes)
+    ∙ ap (λ r. importOf (setupOf example 2 exampleHeader) (empty 2 3) (example .file) 192 (laid (r .roots) (replicate 1024 (pos 0))) .roots)
+    (example-read (empty 2 3) (kept 2 3 (omega arith) (omega arith)))
+
+-- with a slot less it is refused with 40
+pub example-crowded : loadOf example (empty 2 2) ≡ refusedAt example (empty 2 2) 40 0
+unfolding run isBlank isDigit isLineEnd isWhitespace isOf seek trim feedAt lineOf digit number single first wordsFrom words entryStep edgeAt edgeEnd edgeList children alike ascending lastBelow idsFit deeper childFault decodeFrom wordFrom numbered afterExtra variableWord textLine textLineAt minus eqZ empty findUpTo find added insert make edgeFor addLine buildOn build lineBy linesIn linesAnswer blankAll endsWell importOf listFits beforeNodes bytesFrom loadOf
+example-crowded =
+    load-refused example (empty 2 2) 40 0
+    (ap (λ a. withHeader example (empty 2 2) a .answer)
+    (ap (λ r. r .answer) (example-read (empty 2 2) (kept 2 2 (omega arith) (omega arith)))))
+
+-- the store that the example leaves
+abbrev filled : Store
+filled = nodesOf example (empty 2 3) exampleHeader .after
+
+after-filled : loadOf example (empty 2 3) .after ≡ filled
+after-filled = ap (λ r. r .after) (passes-load example (empty 2 3) exampleHeader example-passes)
+
+filled-kept : keeps limits filled ≡ true
+filled-kept = rules-keeps limits filled (subst (Rules limits) after-filled (roots-answer example (empty 2 3) exampleHeader example-loads .rules))
+
+again-passes : Passes example filled exampleHeader
+unfolding run isBlank isDigit isLineEnd isWhitespace isOf seek trim feedAt lineOf digit number single first wordsFrom words entryStep edgeAt edgeEnd edgeList children alike ascending lastBelow idsFit deeper childFault decodeFrom wordFrom numbered afterExtra variableWord textLine textLineAt minus eqZ empty findUpTo find added insert make edgeFor addLine buildOn build lineBy linesIn linesAnswer blankAll endsWell importOf listFits beforeNodes bytesFrom
+again-passes = record {
+  header-read = ap (λ r. r .answer) (example-read filled filled-kept);
+  none-between = refl;
+  at = 218;
+  nodes-read = refl;
+}
+
+-- full as it is, it takes the example again
+pub again-loads : loadOf example (loadOf example (empty 2 3) .after) .answer ≡ head.header exampleHeader
+again-loads =
+    ap (λ τ. loadOf example τ .answer) after-filled ∙ ap (λ r. r .answer) (passes-load example filled exampleHeader again-passes)

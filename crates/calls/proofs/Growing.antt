@@ -1,0 +1,54 @@
+-- Along a list of calls the store only grows: no call changes a node that is there, refused or not.
+use mathlib.Core.Path.{_≡_, refl}
+use mathlib.Core.List.{List, [], _∷_}
+use Prim.Native.Nat.{ℕ, zero, suc, _≤_, _<_}
+use native.Mathlib.Omega.{arith}
+use lib.ListN.{take}
+use Rattle.store.specs.Store.{Store}
+use Rattle.store.specs.Growth.{Grows}
+use Rattle.store.proofs.Growth.{grows-refl, grows-trans}
+use Rattle.header.specs.Header.{Answer, header, refusal}
+use Rattle.calls.specs.Load.{Load, loadOf}
+use Rattle.calls.specs.Calls.{Call, load, evaluate, export, leaves, run, before}
+use Rattle.calls.specs.Roots.{At, here, later}
+use Rattle.calls.proofs.Refused.{refused-leaves}
+use Rattle.calls.proofs.RootsAnswer.{roots-answer}
+
+-- a load leaves a store that has only grown
+load-grows : (c : Load) (σ : Store) → Grows σ (loadOf c σ .after)
+load-grows c σ = go (loadOf c σ .answer) refl
+  where
+    go : (a : Answer) → loadOf c σ .answer ≡ a → Grows σ (loadOf c σ .after)
+    go (header h) q = roots-answer c σ h q .grows
+    go (refusal n line) q = rw (refused-leaves c σ n line q .after) (grows-refl σ)
+
+-- so does every call
+pub call-grows : (c : Call) (σ : Store) → Grows σ (leaves c σ)
+call-grows (load c) σ = load-grows c σ
+call-grows (evaluate e s) σ = grows-refl σ
+call-grows (export x) σ = grows-refl σ
+
+-- and a list of calls
+pub run-grows : (σ : Store) (cs : List Call) → Grows σ (run σ cs)
+unfolding run
+run-grows σ [] = grows-refl σ
+run-grows σ (c ∷ cs) = grows-trans (call-grows c σ) (run-grows (leaves c σ) cs)
+
+-- the store before a place grows into that before a later one
+pub before-grows : (σ : Store) (cs : List Call) (j k : ℕ) → j ≤ k → Grows (before σ cs j) (before σ cs k)
+unfolding run
+before-grows σ cs zero k h = run-grows σ (take k cs)
+before-grows σ cs (suc j) zero h = absurd (omega arith)
+before-grows σ [] (suc j) (suc k) h = grows-refl σ
+before-grows σ (c ∷ cs) (suc j) (suc k) h = before-grows (leaves c σ) cs j k (omega arith)
+
+-- what a call leaves is the store before the next place
+pub next-before : (σ : Store) {cs : List Call} {k : ℕ} {c : Call} → At cs k c → leaves c (before σ cs k) ≡ before σ cs (suc k)
+unfolding run
+next-before σ here = refl
+next-before σ (later {d = d} p) = next-before (leaves d σ) p
+
+-- so it grows into the store before every later place
+pub after-grows : (σ : Store) {cs : List Call} {j : ℕ} {c : Call} → At cs j c → (k : ℕ) → j < k
+    → Grows (leaves c (before σ cs j)) (before σ cs k)
+after-grows σ {cs} {j} p k h = rw (next-before σ p) (before-grows σ cs (suc j) k (omega arith))

@@ -1,0 +1,11 @@
+pub mod HeaderStands
+pub mod Stages
+pub mod Refused
+pub mod Accepted
+pub mod LoadsBack
+pub mod RootEntries
+pub mod RootsAnswer
+pub mod Growing
+pub mod Demand3
+pub mod Examples
+pub mod ListExample

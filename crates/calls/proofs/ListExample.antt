@@ -1,0 +1,46 @@
+-- A list of calls that gives roots, so that demand 3 speaks of something: document 01's example is loaded twice.
+use mathlib.Core.Path.{_≡_, ap, _∙_}
+use native.Mathlib.Omega.{arith}
+use lib.ListN.{getD}
+use lib.IntN.{pos}
+use Rattle.store.specs.Settings.{chosen}
+use Rattle.store.specs.Empty.{empty}
+use Rattle.calls.specs.Load.{loadOf}
+use Rattle.calls.specs.Calls.{load, run}
+use Rattle.calls.specs.Roots.{fileSays, loaded, here, later, Root}
+use Rattle.calls.specs.Examples.{example, exampleHeader, twice}
+use Rattle.calls.proofs.Examples.{example-loads, example-roots, again-loads}
+use Rattle.calls.proofs.RootsAnswer.{roots-answer}
+use Rattle.calls.proofs.Demand3.{demand-3}
+
+-- the first root of the first load
+first-root : Root 2 3 twice
+unfolding empty run
+first-root = record {
+  place = 0;
+  call = load example;
+  at = here;
+  edge = getD (loadOf example (empty 2 3) .roots) 0 (pos 0);
+  meaning = fileSays example 2 exampleHeader 0;
+  given = loaded example (empty 2 3) exampleHeader 0 example-loads (omega arith);
+}
+
+-- and of the second
+again-root : Root 2 3 twice
+unfolding run
+again-root = record {
+  place = 2;
+  call = load example;
+  at = later (later here);
+  edge = getD (loadOf example (loadOf example (empty 2 3) .after) .roots) 0 (pos 0);
+  meaning = fileSays example (loadOf example (empty 2 3) .after .levels) exampleHeader 0;
+  given = loaded example (loadOf example (empty 2 3) .after) exampleHeader 0 again-loads (omega arith);
+}
+
+-- they are one number, since the two readings have as many levels
+pub same-root : getD (loadOf example (loadOf example (empty 2 3) .after) .roots) 0 (pos 0) ≡ pos 3
+unfolding empty first-root again-root
+same-root =
+    let v = roots-answer example (empty 2 3) exampleHeader example-loads .grows .levels in
+    demand-3 2 3 twice again-root first-root .1 (λ s l. ap (λ n. fileSays example n exampleHeader 0 (chosen s)) v)
+    ∙ ap (λ r. getD r 0 (pos 0)) example-roots

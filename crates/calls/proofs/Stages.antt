@@ -1,0 +1,78 @@
+-- The stages of a load, in their order: header; scratch and level list; nodes. One of them refuses, and the load is that refusal; or all
+-- pass, and the load is what they leave.
+use mathlib.Core.Path.{_≡_, refl, sym, ap, subst, _∙_}
+use Prim.Native.Nat.{ℕ, zero, suc}
+use Rattle.store.specs.Store.{Store}
+use Rattle.header.specs.Header.{Header, Answer, header, refusal}
+use Rattle.import.specs.List.{beforeNodes}
+use Rattle.import.specs.Import as nodes
+use Rattle.calls.specs.Load.{Load, refusedAt, headerOf, nodesOf, withNodes, withList, withHeader, loadOf}
+use Rattle.calls.proofs.HeaderStands.{one-header, no-header}
+
+-- the refusal of scratch or level list, 0 of none
+abbrev pub between : Load → Store → Header → ℕ
+between c σ h = beforeNodes (h .nnodes) (c .lent .edges) (c .lent .seats) (h .nsuppvars) (σ .levels) (c .list)
+
+-- all stages pass
+pub record Passes (c : Load) (σ : Store) (h : Header) : Type 0 where
+  pub header-read : headerOf c σ .answer ≡ header h
+  pub none-between : between c σ h ≡ 0
+  pub at : ℕ
+  pub nodes-read : nodesOf c σ h .answer ≡ nodes.nodes at
+
+-- one refusal is the other
+refused-alike : (c : Load) (σ : Store) {n line k at : ℕ} → refusal k at ≡ refusal n line → refusedAt c σ k at ≡ refusedAt c σ n line
+refused-alike c σ {n} {line} {k} {at} q =
+    let a : k ≡ n = cc in
+    let b : at ≡ line = cc in
+    rw (a, b)
+
+module _ (c : Load) (σ : Store) where
+  -- a refusal is that of one of the stages
+  module _ (n line : ℕ) where
+    nodes-refused : (h : Header) (r : nodes.Imported) (a : nodes.Answer) → withNodes c σ h r a .answer ≡ refusal n line
+        → withNodes c σ h r a ≡ refusedAt c σ n line
+    nodes-refused h r (nodes.refusal k at) q = refused-alike c σ q
+    nodes-refused h r (nodes.nodes at) q = no-header (sym q)
+
+    list-refused : (h : Header) (k : ℕ) → withList c σ h k .answer ≡ refusal n line → withList c σ h k ≡ refusedAt c σ n line
+    list-refused h zero q = nodes-refused h (nodesOf c σ h) (nodesOf c σ h .answer) q
+    list-refused h (suc k) q = refused-alike c σ q
+
+    header-refused : (a : Answer) → withHeader c σ a .answer ≡ refusal n line → withHeader c σ a ≡ refusedAt c σ n line
+    header-refused (header h) q = list-refused h (between c σ h) q
+    header-refused (refusal k at) q = refused-alike c σ q
+
+    pub load-refused : loadOf c σ .answer ≡ refusal n line → loadOf c σ ≡ refusedAt c σ n line
+    unfolding loadOf
+    load-refused q = header-refused (headerOf c σ .answer) q
+
+  -- a header is the answer only where all stages pass
+  module _ (h : Header) where
+    nodes-pass : (g : Header) (r : nodes.Imported) (a : nodes.Answer) → withNodes c σ g r a .answer ≡ header h
+        → (g ≡ h) × ((at : ℕ) × (a ≡ nodes.nodes at))
+    nodes-pass g r (nodes.refusal k at) q = no-header q
+    nodes-pass g r (nodes.nodes at) q = (one-header q, (at, refl))
+
+    list-passes : (g : Header) → headerOf c σ .answer ≡ header g → (k : ℕ) → between c σ g ≡ k → withList c σ g k .answer ≡ header h
+        → Passes c σ h
+    list-passes g e zero b q =
+        let w = nodes-pass g (nodesOf c σ g) (nodesOf c σ g .answer) q in
+        subst (Passes c σ) (w .0) (record { header-read = e; none-between = b; at = w .1 .0; nodes-read = w .1 .1 })
+    list-passes g e (suc k) b q = no-header q
+
+    header-passes : (a : Answer) → headerOf c σ .answer ≡ a → withHeader c σ a .answer ≡ header h → Passes c σ h
+    header-passes (header g) e q = list-passes g e (between c σ g) refl q
+    header-passes (refusal k at) e q = no-header q
+
+    pub load-passes : loadOf c σ .answer ≡ header h → Passes c σ h
+    unfolding loadOf
+    load-passes q = header-passes (headerOf c σ .answer) refl q
+
+    -- and where they pass, this is the load
+    pub passes-load : (p : Passes c σ h) → loadOf c σ ≡ withNodes c σ h (nodesOf c σ h) (nodes.nodes (p .at))
+    unfolding loadOf
+    passes-load p =
+        ap (withHeader c σ) (p .header-read)
+        ∙ ap (withList c σ h) (p .none-between)
+        ∙ ap (withNodes c σ h (nodesOf c σ h)) (p .nodes-read)

@@ -1,0 +1,109 @@
+-- The call load, as a whole. Document 01: 'load gives 1 (lists), 3, 19 for the input's length, header, 1 (scratch), 2, nodes, 39.'
+use Prim.Native.Nat.{ℕ, zero, suc}
+use mathlib.Core.Bool.{not}
+use mathlib.Core.List.{List, [], _∷_}
+use lib.Dec.{eqb}
+use lib.ListN.{replicate}
+use lib.IntN.{ℤ, pos}
+use Rattle.codes.specs.Lent.{laid}
+use Rattle.readers.specs.Text.{Place}
+use Rattle.store.specs.Store.{Store}
+use Rattle.store.specs.Rules.{limits}
+use Rattle.store.specs.Keeps.{keeps}
+use Rattle.whole.specs.Whole.{unless}
+use Rattle.header.specs.Header as head
+use Rattle.import.specs.List.{beforeNodes}
+use Rattle.import.specs.Import as nodes
+
+-- the lengths of the lists that a load is lent: those of variables, those of roots, and the node scratch
+pub record Lengths : Type 0 where
+  pub ids : ℕ
+  pub order : ℕ
+  pub permids : ℕ
+  pub auxids : ℕ
+  pub names : ℕ
+  pub lens : ℕ
+  pub roots : ℕ
+  pub rootnames : ℕ
+  pub rootlens : ℕ
+  pub edges : ℕ
+  pub seats : ℕ
+
+-- '4,096 entries for each variable list, 1,024 for each root list'
+abbrev pub variableLists : Lengths → List ℕ
+variableLists l = l .ids ∷ l .order ∷ l .permids ∷ l .auxids ∷ l .names ∷ l .lens ∷ []
+
+abbrev pub rootLists : Lengths → List ℕ
+rootLists l = l .roots ∷ l .rootnames ∷ l .rootlens ∷ []
+
+-- a load: its file, its level list, and what it is lent
+pub record Load : Type 0 where
+  pub file : List ℕ
+  pub list : List ℕ
+  pub lent : Lengths
+
+-- What a load leaves: its answer, the store, the list of roots as it was lent, and the entries of every other list, which zeros follow.
+pub record Loaded : Type 0 where
+  pub answer : head.Answer
+  pub after : Store
+  pub roots : List ℤ
+  pub ids : List ℕ
+  pub order : List ℕ
+  pub permids : List ℕ
+  pub auxids : List ℕ
+  pub names : List Place
+  pub rootnames : List Place
+
+-- 'On any refusal outputs are all zeros and the store is unchanged.'
+abbrev pub refusedAt : Load → Store → ℕ → ℕ → Loaded
+refusedAt c σ n line = record {
+  answer = head.refusal n line;
+  after = σ;
+  roots = replicate (c .lent .roots) (pos 0);
+  ids = [];
+  order = [];
+  permids = [];
+  auxids = [];
+  names = [];
+  rootnames = [];
+}
+
+-- '1 (lists), 3, 19 for the input's length, header'
+unfoldable pub headerOf : Load → Store → head.Loaded
+headerOf c σ = head.loadOf (variableLists (c .lent)) (rootLists (c .lent)) (unless (keeps limits σ) 3) (c .file)
+
+-- how the nodes are read, in a store of so many levels
+abbrev pub setupOf : Load → ℕ → head.Header → nodes.Setup
+setupOf c levels h = nodes.setup (h .ascii) (not (eqb (h .varinfo) 4)) (h .nnodes) (h .lines) (c .list) levels
+
+-- 'nodes, 39': the roots take the place of their numbers
+abbrev pub nodesOf : Load → Store → head.Header → nodes.Imported
+nodesOf c σ h =
+    nodes.importOf (setupOf c (σ .levels) h) σ (c .file) (h .next) (laid (headerOf c σ .roots) (replicate (c .lent .roots) (pos 0)))
+
+abbrev pub withNodes : Load → Store → head.Header → nodes.Imported → nodes.Answer → Loaded
+withNodes c σ h r (nodes.refusal k line) = refusedAt c σ k line
+withNodes c σ h r (nodes.nodes at) = record {
+  answer = head.header h;
+  after = r .after;
+  roots = r .roots;
+  ids = headerOf c σ .ids;
+  order = headerOf c σ .order;
+  permids = headerOf c σ .permids;
+  auxids = headerOf c σ .auxids;
+  names = headerOf c σ .names;
+  rootnames = headerOf c σ .rootnames;
+}
+
+-- '1 (scratch), 2'
+abbrev pub withList : Load → Store → head.Header → ℕ → Loaded
+withList c σ h (suc k) = refusedAt c σ (suc k) 0
+withList c σ h zero = withNodes c σ h (nodesOf c σ h) (nodesOf c σ h .answer)
+
+abbrev pub withHeader : Load → Store → head.Answer → Loaded
+withHeader c σ (head.refusal n line) = refusedAt c σ n line
+withHeader c σ (head.header h) =
+    withList c σ h (beforeNodes (h .nnodes) (c .lent .edges) (c .lent .seats) (h .nsuppvars) (σ .levels) (c .list))
+
+unfoldable pub loadOf : Load → Store → Loaded
+loadOf c σ = withHeader c σ (headerOf c σ .answer)

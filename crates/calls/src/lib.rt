@@ -1,0 +1,1 @@
+// The calls load, evaluate and export, as definitions: no code, and the theorem about every list of calls.

@@ -1,7 +1,5 @@
 // One case: numbers, a file, the store and the level list as they are given, and the answer.
-ghost use Prim.Native.Nat.{_+_, _≤_};
 use crate::lists;
-use crate::stored;
 
 // What came of one case, or why there is none.
 pub enum Outcome {

@@ -2,7 +2,6 @@
 // lists level, then, else, next and heads; the lengths of the level list, of the scratch (edges, seats), of the variable lists and of the
 // root lists; how many slots and how many heads are given, which zeros follow; then three lengths of two numbers each.
 ghost use Prim.Native.Nat.{_≤_};
-use crate::stored;
 use edges::Edge;
 use header::load::DumpHeader;
 use header::load::Loaded;

@@ -1,7 +1,6 @@
 // The lent lists of a store, of its scratch and of its roots. Module `lent` says what a case's head is.
 use crate::lent;
 use crate::loading;
-use crate::stored;
 use edges::Edge;
 use edges::Index;
 

@@ -1,26 +1,17 @@
 // A load, composed of its parts: 1 (lists), 3, 19 for the input's length, header, 1 (scratch), 2, nodes, 39. Each step is compared with the
-// stored answer: numbers of 16 bits, a refusal and its line; or 0, 0, how many roots there are, the store's count, the roots, the level,
-// then and else of each slot up to the count, and the roots' answers, if there are any.
+// stored answer.
 ghost use lib.ListN.{length};
 ghost use Rattle.store.specs.Store.{store};
 ghost use Rattle.store.specs.Rules.{Rules, limits};
 ghost use Rattle.import.specs.Build.{LevelsOf};
 ghost use Rattle.import.specs.Import.{setup, Bounded};
+use crate::answer;
 use crate::lent;
-use crate::stored;
-use crate::tables;
 use codes::VarInfo;
 use edges::Edge;
 use edges::Index;
 use header::load::Loaded;
 use import::Imported;
-
-// Whether an answer is this refusal.
-fn is_refusal(s: &[u8], k: u8, line: usize) -> bool {
-    s.len() == 4
-        && stored::number(s, 0, 0) == k as u16
-        && stored::size(stored::number(s, 0, 1)) == line
-}
 
 // Whether lines have an extra word.
 fn has_extra(v: VarInfo) -> bool {
@@ -31,75 +22,6 @@ fn has_extra(v: VarInfo) -> bool {
         VarInfo::VariableName => true,
         VarInfo::None => false,
     }
-}
-
-// Whether the store is as it was given, with this count.
-fn is_given(
-    head: &[u8; 40],
-    given: &[u8],
-    count: Index,
-    level: &[u16],
-    then: &[Edge],
-    els: &[Edge],
-    next: &[Index],
-    heads: &[Index],
-) -> bool {
-    let n = stored::size(stored::number(head, 0, 12));
-    let b = stored::size(stored::number(head, 0, 13));
-    count == stored::number(head, 0, 1)
-        && stored::is_list(given, 0, n, level)
-        && stored::is_edges(given, 2 * n, n, then)
-        && stored::is_edges(given, 4 * n, n, els)
-        && stored::is_list(given, 6 * n, n, next)
-        && stored::is_list(given, 8 * n, b, heads)
-}
-
-// Whether the store and the roots are the stored ones. Links and heads follow from the nodes by the store's rules.
-fn is_store(
-    s: &[u8],
-    levels: u16,
-    count: Index,
-    level: &[u16],
-    then: &[Edge],
-    els: &[Edge],
-    next: &[Index],
-    heads: &[Index],
-    roots: &[Edge],
-) -> bool {
-    let r = stored::number(s, 0, 2);
-    let k = stored::size(r);
-    let n = stored::size(stored::number(s, 0, 3));
-    let from = 8 + 2 * k;
-    let end = from + 6 * n;
-    if !store::rules::keeps_rules(levels, count, level, then, els, next, heads) {
-        return false;
-    }
-    if !(stored::number(s, 0, 0) == 0
-        && stored::number(s, 0, 1) == 0
-        && n == stored::size(count)
-        && stored::is_edges(s, 8, k, roots)
-        && stored::is_list(s, from, n, level)
-        && stored::is_edges(s, from + 2 * n, n, then)
-        && stored::is_edges(s, from + 4 * n, n, els)) {
-        return false;
-    }
-    if s.len() == end {
-        return true;
-    }
-    s.len() == end + 32 * k
-        && tables::are_tables(
-            levels,
-            count,
-            level,
-            then,
-            els,
-            next,
-            heads,
-            roots,
-            r,
-            s,
-            end,
-        )
 }
 
 // Whether the nodes give the stored answer, and leave the stored roots and store, and zeros in the scratch.
@@ -130,7 +52,7 @@ fn nodes_agree(
     requires { ⌜ Bounded (setup ascii extra nnodes lines (now list) levels) (length (now edges)) (length (now seats)) ⌝ }
 {
     let mut count = was;
-    let answer = import::import(
+    let imported = import::import(
         f,
         from,
         ascii,
@@ -149,17 +71,22 @@ fn nodes_agree(
         seats,
         roots,
     );
-    if !(stored::is_edges(s, 0, 0, edges) && stored::is_list(s, 0, 0, seats)) {
-        return false;
-    }
-    match answer {
-        Imported::Nodes(_) => is_store(s, levels, count, level, then, els, next, heads, roots),
-        Imported::Refused(k, line) => {
-            is_refusal(s, k, line)
-                && stored::is_edges(s, 0, 0, roots)
-                && is_given(head, given, count, level, then, els, next, heads)
-        }
-    }
+    answer::is_answer(
+        imported,
+        head,
+        given,
+        s,
+        levels,
+        count,
+        level,
+        then,
+        els,
+        next,
+        heads,
+        edges,
+        seats,
+        roots,
+    )
 }
 
 // What follows the header.
@@ -204,7 +131,7 @@ fn after_header(
         levels,
     );
     if refused != 0 {
-        return is_refusal(s, refused, 0);
+        return answer::is_refusal(s, refused, 0);
     }
     if !store::rules::keeps_rules(levels, was, level, then, els, next, heads) {
         return false;
@@ -270,11 +197,20 @@ pub fn agrees(
     let was = stored::number(head, 0, 1);
     let before = found(levels, was, level, then, els, next, heads);
     match lent::load(head, f, before, roots) {
-        Loaded::Refused(k, line) => {
-            is_refusal(s, k, line)
-                && stored::is_edges(s, 0, 0, roots)
-                && is_given(head, given, was, level, then, els, next, heads)
-        }
+        Loaded::Refused(k, line) => answer::is_clean_refusal(
+            s,
+            k,
+            line,
+            head,
+            given,
+            was,
+            level,
+            then,
+            els,
+            next,
+            heads,
+            roots,
+        ),
         Loaded::Header(h) => {
             let varinfo = h.varinfo;
             after_header(

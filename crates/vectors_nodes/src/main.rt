@@ -2,11 +2,11 @@
 // answer, the store or a lent list differs from what is stored. tests/nodes/make_cases.py makes the files and says how. The expected
 // output has four lines: no case of `cases.bin` differs; every case of `falsified.bin`, of whose stored values one is changed, does;
 // `cut.bin` ends inside a case, and `missing.bin` isn't there, which must both be seen.
+mod answer;
 mod case;
 mod lent;
 mod lists;
 mod loading;
-mod stored;
 mod tables;
 
 use case::Outcome;

@@ -1,6 +1,5 @@
 // The answers of roots at every setting of up to eight levels: 16 numbers for each root, of 16 answers each, lowest bit first.
 ghost use Prim.Native.Nat.{_≤_};
-use crate::stored;
 use edges::Edge;
 use edges::Index;
 use store::answers::Evaluation;

@@ -1,6 +1,6 @@
 -- `load` is safe: each part has the length that `cut` lets through, and the roots keep theirs in the call.
 use borrow.Author.Needs.{needs}
-use Rattle.vectors_nodes.proofs.Fronts.{front-length}
+use Rattle.stored.proofs.Fronts.{front-length}
 use Rattle.vectors_nodes.proofs.lent.load.Statement.{statement}
 use Rattle.vectors_nodes.proofs.lent.load.Tie as tie
 

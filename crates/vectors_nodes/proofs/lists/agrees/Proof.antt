@@ -1,6 +1,6 @@
 -- `agrees` is safe: each part has the length that `cut` lets through.
+use Rattle.stored.proofs.Fronts.{front-length}
 use borrow.Author.Needs.{needs}
-use Rattle.vectors_nodes.proofs.Fronts.{front-length}
 use Rattle.vectors_nodes.proofs.lists.agrees.Statement.{statement}
 use Rattle.vectors_nodes.proofs.lists.agrees.Tie as tie
 
@@ -32,62 +32,62 @@ cut-requires-9 : tie.Need-cut-requires-9
 cut-requires-9 c κs = search needs
 
 array-borrow-prefix-list : tie.Need-array-borrow-prefix-list
-array-borrow-prefix-list c = search needs
+array-borrow-prefix-list c = c .before .before .before .cut6 .ensures
 
 slice-aggregate-on-lists : tie.Need-slice-aggregate-on-lists
 slice-aggregate-on-lists c = front-length 4100 _ _ (c .before .before .before .before .cut6 .ensures)
 
 array-borrow-prefix-level : tie.Need-array-borrow-prefix-level
-array-borrow-prefix-level c = search needs
+array-borrow-prefix-level c = c .before .before .before .before .before .before .before .before .before .cut .ensures
 
 slice-aggregate-on-lists-2 : tie.Need-slice-aggregate-on-lists-2
 slice-aggregate-on-lists-2 c =
     front-length 32800 _ _ (c .before .before .before .before .before .before .before .before .before .before .cut .ensures)
 
 array-borrow-prefix-then : tie.Need-array-borrow-prefix-then
-array-borrow-prefix-then c = search needs
+array-borrow-prefix-then c = c .before .before .before .before .before .before .before .before .before .cut2 .ensures
 
 slice-aggregate-on-lists-3 : tie.Need-slice-aggregate-on-lists-3
 slice-aggregate-on-lists-3 c =
     front-length 32800 _ _ (c .before .before .before .before .before .before .before .before .before .before .cut2 .ensures)
 
 array-borrow-prefix-els : tie.Need-array-borrow-prefix-els
-array-borrow-prefix-els c = search needs
+array-borrow-prefix-els c = c .before .before .before .before .before .before .before .before .before .cut3 .ensures
 
 slice-aggregate-on-lists-4 : tie.Need-slice-aggregate-on-lists-4
 slice-aggregate-on-lists-4 c =
     front-length 32800 _ _ (c .before .before .before .before .before .before .before .before .before .before .cut3 .ensures)
 
 array-borrow-prefix-next : tie.Need-array-borrow-prefix-next
-array-borrow-prefix-next c = search needs
+array-borrow-prefix-next c = c .before .before .before .before .before .before .before .before .before .cut4 .ensures
 
 slice-aggregate-on-lists-5 : tie.Need-slice-aggregate-on-lists-5
 slice-aggregate-on-lists-5 c =
     front-length 32800 _ _ (c .before .before .before .before .before .before .before .before .before .before .cut4 .ensures)
 
 array-borrow-prefix-heads : tie.Need-array-borrow-prefix-heads
-array-borrow-prefix-heads c = search needs
+array-borrow-prefix-heads c = c .before .before .before .before .before .before .before .before .before .cut5 .ensures
 
 slice-aggregate-on-lists-6 : tie.Need-slice-aggregate-on-lists-6
 slice-aggregate-on-lists-6 c =
     front-length 300 _ _ (c .before .before .before .before .before .before .before .before .before .before .cut5 .ensures)
 
 array-borrow-prefix-edges : tie.Need-array-borrow-prefix-edges
-array-borrow-prefix-edges c = search needs
+array-borrow-prefix-edges c = c .before .before .before .before .before .before .before .before .cut7 .ensures
 
 slice-aggregate-on-lists-7 : tie.Need-slice-aggregate-on-lists-7
 slice-aggregate-on-lists-7 c =
     front-length 32800 _ _ (c .before .before .before .before .before .before .before .before .before .cut7 .ensures)
 
 array-borrow-prefix-seats : tie.Need-array-borrow-prefix-seats
-array-borrow-prefix-seats c = search needs
+array-borrow-prefix-seats c = c .before .before .before .before .before .before .before .before .cut8 .ensures
 
 slice-aggregate-on-lists-8 : tie.Need-slice-aggregate-on-lists-8
 slice-aggregate-on-lists-8 c =
     front-length 32800 _ _ (c .before .before .before .before .before .before .before .before .before .cut8 .ensures)
 
 array-borrow-prefix-roots : tie.Need-array-borrow-prefix-roots
-array-borrow-prefix-roots c = search needs
+array-borrow-prefix-roots c = c .before .before .before .before .before .before .before .before .cut9 .ensures
 
 slice-aggregate-on-lists-9 : tie.Need-slice-aggregate-on-lists-9
 slice-aggregate-on-lists-9 c =

@@ -1,22 +1,22 @@
--- `fill` is safe and ends: the list keeps its length.
+-- `fill_wide` is safe and ends: the list keeps its length.
 use mathlib.Core.Path.{_≡_}
 use Prim.Native.Nat.{_-_}
 use borrow.Author.Needs.{needs}
 use lib.ListN.{length}
-use Rattle.vectors_nodes.proofs.stored.fill.Statement.{statement}
-use Rattle.vectors_nodes.proofs.stored.fill.Tie as tie
+use Rattle.stored.proofs.fill_wide.Statement.{statement}
+use Rattle.stored.proofs.fill_wide.Tie as tie
 
 abbrev Inv-loop : tie.InvT-loop
-Inv-loop s from n list₀ i₀ list i = length list ≡ length list₀
+Inv-loop s from list₀ i₀ list i = length list ≡ length list₀
 
 abbrev μ-loop : tie.MeasureT-loop
-μ-loop s from n list₀ i₀ list i = length list₀ - i
+μ-loop s from list₀ i₀ list i = length list₀ - i
 
 loop-holds : tie.Need-loop-holds Inv-loop μ-loop
 loop-holds c = search needs
 
-entry-requires : tie.Need-entry-requires Inv-loop μ-loop
-entry-requires c κs = search needs
+wide-number-requires : tie.Need-wide-number-requires Inv-loop μ-loop
+wide-number-requires c κs = search needs
 
 mul-list : tie.Need-mul-list Inv-loop μ-loop
 mul-list c = search needs
@@ -39,14 +39,14 @@ same-length c = search needs
 returns : tie.Need-returns Inv-loop μ-loop
 returns c = search needs
 
-pub fill-spec : {M : Type 1} → statement M
-fill-spec =
+pub fill-wide-spec : {M : Type 1} → statement M
+fill-wide-spec =
     tie.close
     (tie.spec
     Inv-loop
     μ-loop
     loop-holds
-    entry-requires
+    wide-number-requires
     mul-list
     slice-write-list
     add-i

@@ -1,4 +1,4 @@
-// Stored numbers: two bytes each, lowest first.
+// Stored numbers, as the replayed cases hold them: two bytes each, lowest first.
 ghost use Prim.Native.Nat.{_≤_};
 use edges::Edge;
 
@@ -87,6 +87,46 @@ pub fn is_edges(s: &[u8], from: usize, n: usize, list: &[Edge]) -> bool {
     let mut i = 0;
     while i < list.len() {
         if edges::pattern(list[i]) != entry(s, from, n, i) {
+            return false;
+        }
+        i += 1;
+    }
+    true
+}
+
+// A number of four bytes: two numbers, the lower first.
+pub fn wide_number(s: &[u8], from: usize, i: usize) -> u32 {
+    if s.len() / 4 <= i {
+        return 0;
+    }
+    number(s, from, 2 * i) as u32 + 65536 * number(s, from, 2 * i + 1) as u32
+}
+
+// Fills a list with numbers of four bytes.
+pub fn fill_wide(s: &[u8], from: usize, list: &mut [u32]) {
+    let mut i = 0;
+    while i < list.len() {
+        list[i] = wide_number(s, from, i);
+        i += 1;
+    }
+}
+
+// The byte at an index; 0 where the bytes end before.
+fn byte(s: &[u8], i: usize) -> u8 {
+    if i < s.len() {
+        return s[i];
+    }
+    0
+}
+
+// Whether a list is these bytes, and zeros after them.
+pub fn is_bytes(s: &[u8], list: &[u8]) -> bool {
+    if list.len() < s.len() {
+        return false;
+    }
+    let mut i = 0;
+    while i < list.len() {
+        if list[i] != byte(s, i) {
             return false;
         }
         i += 1;

@@ -1,9 +1,9 @@
--- `is_list` is safe and ends.
+-- `is_edges` is safe and ends.
 use Prim.Native.Nat.{_-_, _≤_}
 use borrow.Author.Needs.{needs}
 use lib.ListN.{length}
-use Rattle.vectors_nodes.proofs.stored.is_list.Statement.{statement}
-use Rattle.vectors_nodes.proofs.stored.is_list.Tie as tie
+use Rattle.stored.proofs.is_edges.Statement.{statement}
+use Rattle.stored.proofs.is_edges.Tie as tie
 
 abbrev Inv-loop : tie.InvT-loop
 Inv-loop s from n list i₀ i = i ≤ length list
@@ -14,11 +14,14 @@ abbrev μ-loop : tie.MeasureT-loop
 loop-holds : tie.Need-loop-holds Inv-loop μ-loop
 loop-holds c = search needs
 
-mul-if1 : tie.Need-mul-if1 Inv-loop μ-loop
-mul-if1 c = search needs
+mul-pattern : tie.Need-mul-pattern Inv-loop μ-loop
+mul-pattern c = search needs
 
-shared-slice-read-if1 : tie.Need-shared-slice-read-if1 Inv-loop μ-loop
-shared-slice-read-if1 c = search needs
+shared-slice-copy-out-pattern : tie.Need-shared-slice-copy-out-pattern Inv-loop μ-loop
+shared-slice-copy-out-pattern c = search needs
+
+pattern-requires : tie.Need-pattern-requires Inv-loop μ-loop
+pattern-requires c κs = search needs
 
 entry-requires : tie.Need-entry-requires Inv-loop μ-loop
 entry-requires c κs = search needs
@@ -38,15 +41,16 @@ loop-again c = search needs
 returns-2 : tie.Need-returns-2 Inv-loop μ-loop
 returns-2 c = search needs
 
-pub is-list-spec : {M : Type 1} → statement M
-is-list-spec =
+pub is-edges-spec : {M : Type 1} → statement M
+is-edges-spec =
     tie.close
     (tie.spec
     Inv-loop
     μ-loop
     loop-holds
-    mul-if1
-    shared-slice-read-if1
+    mul-pattern
+    shared-slice-copy-out-pattern
+    pattern-requires
     entry-requires
     returns
     add-i

@@ -1,10 +1,10 @@
--- `fill_edges` is safe and ends: the list keeps its length.
+-- `fill` is safe and ends: the list keeps its length.
 use mathlib.Core.Path.{_≡_}
 use Prim.Native.Nat.{_-_}
 use borrow.Author.Needs.{needs}
 use lib.ListN.{length}
-use Rattle.vectors_nodes.proofs.stored.fill_edges.Statement.{statement}
-use Rattle.vectors_nodes.proofs.stored.fill_edges.Tie as tie
+use Rattle.stored.proofs.fill.Statement.{statement}
+use Rattle.stored.proofs.fill.Tie as tie
 
 abbrev Inv-loop : tie.InvT-loop
 Inv-loop s from n list₀ i₀ list i = length list ≡ length list₀
@@ -18,14 +18,11 @@ loop-holds c = search needs
 entry-requires : tie.Need-entry-requires Inv-loop μ-loop
 entry-requires c κs = search needs
 
-signed-requires : tie.Need-signed-requires Inv-loop μ-loop
-signed-requires c κs = search needs
+mul-list : tie.Need-mul-list Inv-loop μ-loop
+mul-list c = search needs
 
-mul-t6 : tie.Need-mul-t6 Inv-loop μ-loop
-mul-t6 c = search needs
-
-slice-set-from-list : tie.Need-slice-set-from-list Inv-loop μ-loop
-slice-set-from-list c = search needs
+slice-write-list : tie.Need-slice-write-list Inv-loop μ-loop
+slice-write-list c = search needs
 
 add-i : tie.Need-add-i Inv-loop μ-loop
 add-i c = search needs
@@ -42,17 +39,16 @@ same-length c = search needs
 returns : tie.Need-returns Inv-loop μ-loop
 returns c = search needs
 
-pub fill-edges-spec : {M : Type 1} → statement M
-fill-edges-spec =
+pub fill-spec : {M : Type 1} → statement M
+fill-spec =
     tie.close
     (tie.spec
     Inv-loop
     μ-loop
     loop-holds
     entry-requires
-    signed-requires
-    mul-t6
-    slice-set-from-list
+    mul-list
+    slice-write-list
     add-i
     loop-less
     loop-again

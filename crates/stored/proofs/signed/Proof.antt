@@ -4,8 +4,8 @@ use native.Mathlib.Omega.{arith}
 use borrow.Author.Needs.{needs}
 use mir.Syntax.{w16}
 use mir.ValLaws.{toZ-pos}
-use Rattle.vectors_nodes.proofs.stored.signed.Statement.{statement}
-use Rattle.vectors_nodes.proofs.stored.signed.Tie as tie
+use Rattle.stored.proofs.signed.Statement.{statement}
+use Rattle.stored.proofs.signed.Tie as tie
 
 cast-result : tie.Need-cast-result
 cast-result c = search needs

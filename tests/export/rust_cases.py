@@ -1,0 +1,146 @@
+#!/usr/bin/env python3
+"""Makes export cases whose answers the Rust gives.
+
+    python3 rust_cases.py ORACLE GENERATED LOAD FILES > CASES
+
+ORACLE is the folder of the compiled Rust: its program, target/release/oracle, imports a file and exports it again, and its model.py loads a
+file by document 01, which gives the store to export from. GENERATED is a folder of files with a list of export commands, export.txt, that
+ORACLE's gen.py makes; LOAD and FILES are a list of loads and the folder of their files, as tests/nodes/make_cases.py describes them: each
+file that is accepted is exported in both modes and versions, with other variable orders and names each time.
+
+Left out are lenient exports, files outside the comparison (lines whose children became one edge, where model.py and the Rust number nodes
+differently), and exports with some unnamed variables, which the Rust writes without names and document 01 refuses.
+
+CASES has a case a line, in the columns that make_cases.py describes. The same files give the same cases.
+"""
+import os
+import random
+import subprocess
+import sys
+import tempfile
+
+BUCKETS = 256
+NAMES = ["gate", "dock", "yard", "a", "b1", "x_2", "_", "\u00fc", "\u2603x", "T", "0", "-1", ".end", "A" * 255]
+
+
+def linked(nodes, slots):
+    """The links and heads of the nodes from number 2 on, by document 01, 'Store and meaning'."""
+    nexts, heads = [0] * slots, [0] * BUCKETS
+    for n, (level, then, els) in enumerate(nodes, 2):
+        b = (level + 3 * then + 5 * els) % 65536 % 256
+        nexts[n - 1], heads[b] = heads[b], n
+    return nexts, heads
+
+
+def listed(values):
+    return ",".join(map(str, values)) or "-"
+
+
+def named(names):
+    """A list of names in hexadecimal; None for no list."""
+    return "-" if not names else ",".join(n or "empty" for n in names)
+
+
+def words(command):
+    """The options of an export command."""
+    out, w, i = {}, command.split(" "), 2
+    while i < len(w):
+        if w[i] in ("--lenient", "--keep-names", "--empty-root-names"):
+            out[w[i]] = True
+            i += 1
+        else:
+            out[w[i]] = w[i + 1]
+            i += 2
+    return out
+
+
+def of_loads(rng, load, folder):
+    """Export commands for the accepted files of LOAD, as (file, levels, level list, command)."""
+    with open(load) as f:
+        for line in f:
+            file, levels, level_list, _, refusal, _, roots, _, _ = line.rstrip("\n").split("\t")
+            path = os.path.join(folder, file)
+            if refusal != "0" or os.path.getsize(path) > 3000:
+                continue
+            n, m = int(levels), 0 if roots == "-" else len(roots.split(","))
+            for mode in "AB":
+                for version in "23":
+                    order = list(range(n))
+                    rng.shuffle(order)
+                    c = ["export", path, "--levels", str(n), "--levels-list", ",".join(level_list.replace("-", "").split(",")) or ","]
+                    c += ["--mode", mode, "--version", version, "--var-to-level", ",".join(map(str, order)) or ","]
+                    if n and rng.random() < 0.6:
+                        c += ["--var-names-hex", ",".join((rng.choice(NAMES[:-1]) + str(i)).encode().hex() for i in range(n))]
+                    if m and rng.random() < 0.6:
+                        c += ["--root-names-hex", ",".join(rng.choice(NAMES).encode().hex() for _ in range(m))]
+                    if rng.random() < 0.4:
+                        c += ["--dd-hex", rng.choice(["plan", "a b", " a ", "\u2603", "  "]).encode().hex()]
+                    yield " ".join(c)
+
+
+def answers(oracle, commands, folder):
+    with tempfile.NamedTemporaryFile("w", suffix=".txt", delete=False) as f:
+        f.write("".join(c + "\n" for c in commands))
+    out = subprocess.run([oracle, "batch", f.name], stdout=subprocess.PIPE, check=True, cwd=folder).stdout.decode("ascii")
+    os.unlink(f.name)
+    found = []
+    for line in out.splitlines():
+        if line.startswith("case "):
+            found.append([])
+        else:
+            found[-1].append(line)
+    return found
+
+
+def main():
+    folder, generated, load, files = [os.path.abspath(x) for x in sys.argv[1:5]]
+    sys.path.insert(0, folder)
+    import model
+    rng = random.Random(20261115)
+    with open(os.path.join(generated, "export.txt")) as f:
+        commands = [line.rstrip("\n") for line in f if line.startswith("export ")]
+    commands += list(of_loads(rng, load, files))
+    left, made = {}, 0
+    for command, answer in zip(commands, answers(os.path.join(folder, "target/release/oracle"), commands, generated)):
+        o = words(command)
+        path = os.path.join(generated, command.split(" ")[1])
+        levels = int(o["--levels"])
+        level_list = o.get("--levels-list")
+        if level_list is not None:
+            level_list = [int(x) for x in level_list.split(",") if x]
+        m = model.load(open(path, "rb").read(), levels, level_list)
+        order = [int(x) for x in o["--var-to-level"].split(",") if x] if "--var-to-level" in o else list(range(levels))
+        variables = o["--var-names-hex"].split(",") if "--var-names-hex" in o else []
+        roots = o["--root-names-hex"].split(",") if "--root-names-hex" in o else []
+        dd = o.get("--dd-hex", "")
+        why = None
+        if "--lenient" in o:
+            why = "lenient"
+        elif "refused" in m or m.get("outside"):
+            why = "outside the comparison"
+        elif len(m["nodes"]) > 400 or levels > 300:
+            why = "large"
+        elif variables and "" in variables:
+            why = "unnamed variables"
+        elif answer[0] != "ok" and not answer[0].startswith("err export InvalidInput"):
+            why = answer[0]
+        if why:
+            left[why] = left.get(why, 0) + 1
+            continue
+        count = len(m["nodes"]) + 1
+        slots = count + rng.choice((0, 0, 1, 5))
+        lists = [[0] + [x[i] for x in m["nodes"]] + [0] * (slots - count) for i in range(3)]
+        nexts, heads = linked(m["nodes"], slots)
+        size = 256 + 32 * count + 24 * levels + 16 * len(m["edges"])
+        size += 3 * sum(len(x) // 2 for x in variables) + sum(len(x) // 2 for x in roots) + len(dd) // 2
+        data = bytes.fromhex(answer[1][6:]) if answer[0] == "ok" else b""
+        row = [levels, count, *map(listed, lists), listed(nexts), BUCKETS]
+        row += [",".join("%d:%d" % x for x in enumerate(heads) if x[1]) or "-", listed(m["edges"]), listed(order)]
+        row += [o.get("--mode", "B"), o.get("--version", "2"), named(variables), named(roots), dd or "-"]
+        row += [size + rng.choice((0, 0, 1, 7)), count + rng.choice((0, 0, 3)), 0 if answer[0] == "ok" else 5, data.hex() or "-"]
+        print("\t".join(map(str, row)))
+        made += 1
+    print("%d cases; left out: %s" % (made, ", ".join("%s %d" % x for x in sorted(left.items()))), file=sys.stderr)
+
+
+main()

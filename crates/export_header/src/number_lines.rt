@@ -97,7 +97,7 @@ fn put_permids(out: &mut [u8], at: usize, order: &[u16], seats: &[u16]) -> usize
     next
 }
 
-// Writes `.ids` and `.permids`.
+// Writes `.ids` and `.permids`. `vars` isn't read: it belongs to what `Ordered` says.
 pub fn write_ids(out: &mut [u8], at: usize, order: &[u16], vars: &[u16], seats: &[u16]) -> usize
     requires { ⌜ Ordered (now order) (now vars) (now seats) ⌝ }
     requires { ⌜ at + length (linesText (idLines (seated (now seats)) (now order))) ≤ length (now out) ⌝ }

@@ -17,7 +17,8 @@ use edges::Edge;
 use edges::Index;
 use values::Place;
 
-// Writes the file of roots, order and names that nothing is refused of.
+// Writes the file of roots, order and names that nothing is refused of. `next` and `heads` aren't read: they are what `requires` judges the
+// store by.
 pub fn write_file(
     version: DDDMPVersion,
     ascii: bool,

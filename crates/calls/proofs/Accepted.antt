@@ -23,10 +23,10 @@ use Rattle.import.proofs.Acceptance as import-accepted
 use Rattle.calls.specs.Load.{Load, variableLists, rootLists, headerOf, setupOf, nodesOf, loadOf}
 use Rattle.calls.specs.Acceptance.{Accepts}
 use Rattle.calls.proofs.HeaderStands.{Stands, answer-stands, stands-answer}
-use Rattle.calls.proofs.Stages.{Passes, load-passes, passes-load}
+use Rattle.calls.proofs.Passes.{Passes, load-passes, passes-load}
 
 -- scratch and level list are refused nothing where they are long enough and fit
-between-none : (k e s n m : ℕ) (l : List ℕ) → beforeNodes k e s n m l ≡ 0 → (k ≤ e) × ((k ≤ s) × (listFits n m l ≡ true))
+pub between-none : (k e s n m : ℕ) (l : List ℕ) → beforeNodes k e s n m l ≡ 0 → (k ≤ e) × ((k ≤ s) × (listFits n m l ≡ true))
 unfolding beforeNodes
 between-none k e s n m l q = go (leb k e && leb k s) refl (listFits n m l) q
   where
@@ -41,10 +41,10 @@ said c next lines = headerIn (c .file) (tableOf (c .file)) next lines
 
 module _ (c : Load) (σ : Store) where
   -- what the header of a load needs
-  abbrev HeaderOf : Header → Type 0
+  abbrev pub HeaderOf : Header → Type 0
   HeaderOf h = Stands (variableLists (c .lent)) (rootLists (c .lent)) (unless (keeps limits σ) 3) (c .file) h
 
-  header-stands : (h : Header) → headerOf c σ .answer ≡ header h → HeaderOf h
+  pub header-stands : (h : Header) → headerOf c σ .answer ≡ header h → HeaderOf h
   unfolding headerOf
   header-stands h q = answer-stands _ _ _ (c .file) h q
 
@@ -53,7 +53,7 @@ module _ (c : Load) (σ : Store) where
   stands-header h s = stands-answer _ _ _ (c .file) h s
 
   -- its store keeps the rules
-  stands-rules : (h : Header) → HeaderOf h → Rules limits σ
+  pub stands-rules : (h : Header) → HeaderOf h → Rules limits σ
   stands-rules h s = keeps-true limits σ (unless-none (keeps limits σ) 2 (s .nothing))
 
   -- the nodes are read exactly where they are accepted

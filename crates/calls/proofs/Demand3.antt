@@ -1,6 +1,6 @@
 -- Demand 3: of every list of public calls on one store, from an empty one on: two roots are equal as signed numbers exactly where their
 -- files' lines answer alike at every setting. Document 01, 'Agreed between us'.
-use mathlib.Core.Path.{_≡_, sym, subst, _∙_}
+use mathlib.Core.Path.{_≡_, sym, _∙_}
 use mathlib.Core.Logic.{_↔_}
 use mathlib.Core.List.{List}
 use Prim.Native.Nat.{ℕ, suc, _≤_}
@@ -18,7 +18,7 @@ use Rattle.store.proofs.Canonicity.{canonicity}
 use Rattle.calls.specs.Calls.{Call, leaves, before}
 use Rattle.calls.specs.Roots.{Meaning, Means, Gives, loaded, Root, Alike}
 use Rattle.calls.proofs.RootsAnswer.{roots-answer}
-use Rattle.calls.proofs.Growing.{run-grows, next-before, after-grows}
+use Rattle.calls.proofs.Growing.{run-grows, after-grows, after-rules}
 
 -- a call that gives a root leaves a store that keeps the rules, where the root has its meaning
 gives-rules : {c : Call} {σ : Store} {e : ℤ} {m : Meaning} → Gives c σ e m → Rules limits (leaves c σ)
@@ -42,27 +42,27 @@ one-store levels {τ} a b m n v R M N =
 
 module _ (levels slots : ℕ) (cs : List Call) where
   -- the store after the call at a place
-  abbrev after : ℕ → Store
+  abbrev pub after : ℕ → Store
   after k = before (empty levels slots) cs (suc k)
 
   -- it has as many levels as the empty one
-  levels-after : (k : ℕ) → after k .levels ≡ levels
+  pub levels-after : (k : ℕ) → after k .levels ≡ levels
   unfolding empty
   levels-after k = run-grows (empty levels slots) (take (suc k) cs) .levels
 
-  -- at a root's own place it keeps the rules
-  root-rules : (a : Root levels slots cs) → Rules limits (after (a .place))
-  root-rules a = subst (Rules limits) (next-before (empty levels slots) (a .at)) (gives-rules (a .given))
-
-  -- from there on the root has its meaning
-  root-means : (a : Root levels slots cs) (k : ℕ) → a .place ≤ k → Means (after k) (a .edge) (a .meaning)
+  -- from its own place on a root has its meaning
+  pub root-means : (a : Root levels slots cs) (k : ℕ) → a .place ≤ k → Means (after k) (a .edge) (a .meaning)
   root-means a k h =
       means-grown (after-grows (empty levels slots) (a .at) (suc k) (omega arith)) (gives-rules (a .given)) (gives-means (a .given))
+
+  -- and the store keeps the rules
+  pub root-rules : (a : Root levels slots cs) (k : ℕ) → a .place ≤ k → Rules limits (after k)
+  root-rules a k h = after-rules (empty levels slots) (a .at) (suc k) (omega arith) (gives-rules (a .given))
 
   -- so two roots are compared in the store after the later of their calls
   ordered : (a b : Root levels slots cs) → a .place ≤ b .place → (a .edge ≡ b .edge) ↔ Alike levels (a .meaning) (b .meaning)
   ordered a b h =
-      one-store levels (a .edge) (b .edge) (a .meaning) (b .meaning) (levels-after (b .place)) (root-rules b)
+      one-store levels (a .edge) (b .edge) (a .meaning) (b .meaning) (levels-after (b .place)) (root-rules b (b .place) (omega arith))
       (root-means a (b .place) h) (root-means b (b .place) (omega arith))
 
 -- Demand 3. The list and the two roots are arbitrary; nothing is asked of the store, of the files or of any answer, beyond that each root

@@ -1,7 +1,7 @@
 -- The definitions compute to what document 01 says.
 use mathlib.Core.Path.{_≡_, refl, sym, ap, subst, _∙_}
-use mathlib.Core.Bool.{Bool, true, false}
-use mathlib.Core.List.{_∷_}
+use mathlib.Core.Bool.{Bool, true, false, _&&_}
+use mathlib.Core.List.{[], _∷_}
 use Prim.Native.Nat.{ℕ, _≤_}
 use native.Mathlib.Omega.{arith}
 use lib.ListN.{replicate}
@@ -10,7 +10,7 @@ use Rattle.codes.specs.Lent.{laid}
 use Rattle.codes.specs.Limits.{varLimit}
 use Rattle.codes.specs.Machine.{run}
 use Rattle.codes.specs.Bytes.{isBlank, isDigit, isLineEnd, isWhitespace}
-use Rattle.edges.specs.Edge.{minus, eqZ}
+use Rattle.edges.specs.Edge.{minus, turn, eqZ}
 use Rattle.readers.specs.Line.{isOf, seek, trim, feedAt, lineOf, keyEnd, valueStart, valueEnd, fieldOf}
 use Rattle.readers.specs.Number.{digit, number, single, first}
 use Rattle.readers.specs.Lists.{judge, u32List}
@@ -29,6 +29,7 @@ use Rattle.whole.specs.Names.{upFrom, agree, variableNamesIn}
 use Rattle.whole.specs.Whole.{unless, firstFault, numberFaults, supportFaults, nameCountFaults, nameFaults, rootFaults, wholeFault}
 use Rattle.store.specs.Make.{findUpTo, find, added, insert, make}
 use Rattle.store.specs.Store.{Store}
+use Rattle.store.specs.Settings as settings
 use Rattle.store.specs.Rules.{limits, Rules}
 use Rattle.store.specs.Keeps.{keeps, says-no, is-keeps, rules-keeps}
 use Rattle.store.specs.Empty.{empty}
@@ -36,22 +37,25 @@ use Rattle.store.proofs.Empty.{empty-keeps}
 use Rattle.header.specs.Header as head
 use Rattle.header.specs.Header.{tableOf, answerOf, atLeast, beforeReading}
 use Rattle.header.specs.Examples.{bytesFrom, exampleLoaded}
-use Rattle.lines.specs.Line.{deeper, childFault}
+use Rattle.lines.specs.Line.{terminal, inner, deeper, childFault}
 use Rattle.lines.specs.Decode.{decodeFrom}
+use Rattle.lines.specs.Says.{saysBy, says}
 use Rattle.import_ascii.specs.Text.{wordFrom, numbered, afterExtra, variableWord, textLine, textLineAt}
 use Rattle.import.specs.Build.{edgeFor, addLine, buildOn, build}
 use Rattle.import.specs.Import.{lineBy, linesIn, linesAnswer, blankAll, endsWell, importOf}
 use Rattle.import.specs.List.{listFits, beforeNodes}
 use Rattle.calls.specs.Load.{Load, refusedAt, variableLists, rootLists, headerOf, setupOf, nodesOf, withHeader, loadOf}
+use Rattle.calls.specs.Roots.{fileSays}
 use Rattle.calls.specs.Examples.{bare, bareHeader, example, exampleHeader}
-use Rattle.calls.proofs.Stages.{Passes, load-refused, passes-load}
+use Rattle.calls.proofs.HeaderStands.{answer-roots}
+use Rattle.calls.proofs.Passes.{Passes, load-refused, passes-load}
 use Rattle.calls.proofs.RootsAnswer.{roots-answer}
 
 -- the header of a load, by whether the store keeps the rules
-abbrev headerBy : Load → Bool → head.Loaded
+abbrev pub headerBy : Load → Bool → head.Loaded
 headerBy c kept = head.loadOf (variableLists (c .lent)) (rootLists (c .lent)) (unless kept 3) (c .file)
 
-header-by : (c : Load) (σ : Store) {b : Bool} → keeps limits σ ≡ b → headerOf c σ ≡ headerBy c b
+pub header-by : (c : Load) (σ : Store) {b : Bool} → keeps limits σ ≡ b → headerOf c σ ≡ headerBy c b
 unfolding headerOf
 header-by c σ q = ap (headerBy c) q
 
@@ -59,7 +63,7 @@ header-by c σ q = ap (headerBy c) q
 breaks : (levels : ℕ) → keeps limits (empty levels 0) ≡ false
 breaks levels = sym (is-keeps limits (empty levels 0) false (says-no (λ R. omega (arith, empty-keeps levels 0 .0 R .0))))
 
-kept : (levels slots : ℕ) → levels ≤ varLimit → 1 ≤ slots → keeps limits (empty levels slots) ≡ true
+pub kept : (levels slots : ℕ) → levels ≤ varLimit → 1 ≤ slots → keeps limits (empty levels slots) ≡ true
 kept levels slots h k = rules-keeps limits (empty levels slots) (empty-keeps levels slots .1 (k, h))
 
 -- without a slot a file is refused with 3
@@ -113,6 +117,27 @@ example-roots =
     ap (λ r. r .roots) (passes-load example (empty 2 3) exampleHeader example-passes)
     ∙ ap (λ r. importOf (setupOf example 2 exampleHeader) (empty 2 3) (example .file) 192 (laid (r .roots) (replicate 1024 (pos 0))) .roots)
     (example-read (empty 2 3) (kept 2 3 (omega arith) (omega arith)))
+
+-- its lines, and the numbers of its roots
+example-lines : linesIn (setupOf example 2 exampleHeader) (example .file) 192 .lines
+    ≡ terminal ∷ inner 1 (pos 1) (negsuc 0) ∷ inner 0 (pos 2) (negsuc 0) ∷ []
+unfolding run isBlank isDigit isLineEnd isOf seek trim feedAt lineOf digit number single first wordsFrom words entryStep edgeAt edgeEnd edgeList children deeper childFault decodeFrom wordFrom numbered afterExtra variableWord textLine textLineAt minus eqZ lineBy linesIn bytesFrom alike
+example-lines = refl
+
+example-ids : rootsIn (example .file) (tableOf (example .file)) ≡ pos 3 ∷ negsuc 2 ∷ []
+example-ids =
+    sym (answer-roots _ _ _ (example .file) exampleHeader (ap (λ r. r .answer) example-header)) ∙ ap (λ r. r .roots) example-header
+
+-- its first root says yes just where both levels are yes
+pub example-says : (a b : Bool) → fileSays example 2 exampleHeader 0 (settings.chosen (a ∷ b ∷ [])) ≡ (a && b)
+unfolding says saysBy turn
+example-says a b = rw (example-lines, example-ids) (go a b)
+  where
+    go : (a b : Bool) → says (0 ∷ 1 ∷ []) (terminal ∷ inner 1 (pos 1) (negsuc 0) ∷ inner 0 (pos 2) (negsuc 0) ∷ []) (settings.chosen (a ∷ b ∷ [])) (pos 3) ≡ (a && b)
+    go true true = refl
+    go true false = refl
+    go false true = refl
+    go false false = refl
 
 -- with a slot less it is refused with 40
 pub example-crowded : loadOf example (empty 2 2) ≡ refusedAt example (empty 2 2) 40 0

@@ -1,17 +1,18 @@
--- Along a list of calls the store only grows: no call changes a node that is there, refused or not.
+-- Along a list of calls the store only grows, and keeps the rules: no call changes a node that is there, refused or not.
 use mathlib.Core.Path.{_≡_, refl}
 use mathlib.Core.List.{List, [], _∷_}
 use Prim.Native.Nat.{ℕ, zero, suc, _≤_, _<_}
 use native.Mathlib.Omega.{arith}
-use lib.ListN.{take}
+use lib.ListN.{length, take}
 use Rattle.store.specs.Store.{Store}
+use Rattle.store.specs.Rules.{limits, Rules}
 use Rattle.store.specs.Growth.{Grows}
 use Rattle.store.proofs.Growth.{grows-refl, grows-trans}
 use Rattle.header.specs.Header.{Answer, header, refusal}
 use Rattle.calls.specs.Load.{Load, loadOf}
 use Rattle.calls.specs.Calls.{Call, load, evaluate, export, leaves, run, before}
 use Rattle.calls.specs.Roots.{At, here, later}
-use Rattle.calls.proofs.Refused.{refused-leaves}
+use Rattle.calls.proofs.Passes.{load-refused}
 use Rattle.calls.proofs.RootsAnswer.{roots-answer}
 
 -- a load leaves a store that has only grown
@@ -20,7 +21,7 @@ load-grows c σ = go (loadOf c σ .answer) refl
   where
     go : (a : Answer) → loadOf c σ .answer ≡ a → Grows σ (loadOf c σ .after)
     go (header h) q = roots-answer c σ h q .grows
-    go (refusal n line) q = rw (refused-leaves c σ n line q .after) (grows-refl σ)
+    go (refusal n line) q = rw (load-refused c σ n line q) (grows-refl σ)
 
 -- so does every call
 pub call-grows : (c : Call) (σ : Store) → Grows σ (leaves c σ)
@@ -52,3 +53,41 @@ next-before σ (later {d = d} p) = next-before (leaves d σ) p
 pub after-grows : (σ : Store) {cs : List Call} {j : ℕ} {c : Call} → At cs j c → (k : ℕ) → j < k
     → Grows (leaves c (before σ cs j)) (before σ cs k)
 after-grows σ {cs} {j} p k h = rw (next-before σ p) (before-grows σ cs (suc j) k (omega arith))
+
+-- a load leaves a store that keeps the rules where it found one
+load-rules : (c : Load) (σ : Store) → Rules limits σ → Rules limits (loadOf c σ .after)
+load-rules c σ R = go (loadOf c σ .answer) refl
+  where
+    go : (a : Answer) → loadOf c σ .answer ≡ a → Rules limits (loadOf c σ .after)
+    go (header h) q = roots-answer c σ h q .rules
+    go (refusal n line) q = rw (load-refused c σ n line q) R
+
+-- so does every call
+call-rules : (c : Call) (σ : Store) → Rules limits σ → Rules limits (leaves c σ)
+call-rules (load c) σ R = load-rules c σ R
+call-rules (evaluate e s) σ R = R
+call-rules (export x) σ R = R
+
+-- and a list of calls
+run-rules : (σ : Store) (cs : List Call) → Rules limits σ → Rules limits (run σ cs)
+unfolding run
+run-rules σ [] R = R
+run-rules σ (c ∷ cs) R = run-rules (leaves c σ) cs (call-rules c σ R)
+
+-- where the store keeps the rules before a place, it does before every later one
+before-rules : (σ : Store) (cs : List Call) (j k : ℕ) → j ≤ k → Rules limits (before σ cs j) → Rules limits (before σ cs k)
+unfolding run
+before-rules σ cs zero k h R = run-rules σ (take k cs) R
+before-rules σ cs (suc j) zero h R = absurd (omega arith)
+before-rules σ [] (suc j) (suc k) h R = R
+before-rules σ (c ∷ cs) (suc j) (suc k) h R = before-rules (leaves c σ) cs j k (omega arith) R
+
+-- so a call that leaves such a store does so for every later place
+pub after-rules : (σ : Store) {cs : List Call} {j : ℕ} {c : Call} → At cs j c → (k : ℕ) → j < k
+    → Rules limits (leaves c (before σ cs j)) → Rules limits (before σ cs k)
+after-rules σ {cs} {j} p k h R = before-rules σ cs (suc j) k (omega arith) (rw (next-before σ p) at R)
+
+-- a call of a list stands at a place of it
+pub at-below : {cs : List Call} {k : ℕ} {c : Call} → At cs k c → k < length cs
+at-below here = omega arith
+at-below (later p) = let h = at-below p in omega arith

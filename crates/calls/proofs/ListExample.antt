@@ -1,17 +1,25 @@
--- A list of calls that gives roots, so that demand 3 speaks of something: document 01's example is loaded twice.
-use mathlib.Core.Path.{_≡_, ap, _∙_}
+-- A list of calls that gives roots, so that demand 3 speaks of something: document 01's example is loaded twice. And a refused load, so that
+-- demand 1 does.
+use mathlib.Core.Path.{_≡_, refl, sym, ap, _∙_}
+use mathlib.Core.Bool.{Bool, _&&_}
+use mathlib.Core.List.{[], _∷_}
 use native.Mathlib.Omega.{arith}
 use lib.ListN.{getD}
 use lib.IntN.{pos}
+use Rattle.codes.specs.Answer.{value}
 use Rattle.store.specs.Settings.{chosen}
 use Rattle.store.specs.Empty.{empty}
 use Rattle.calls.specs.Load.{loadOf}
-use Rattle.calls.specs.Calls.{load, run}
+use Rattle.calls.specs.Calls.{load, evaluateOf, run}
 use Rattle.calls.specs.Roots.{fileSays, loaded, here, later, Root}
+use Rattle.calls.specs.Outcome.{ofAnswer, loads}
+use Rattle.calls.specs.Evaluating.{byteOf}
 use Rattle.calls.specs.Examples.{example, exampleHeader, twice}
-use Rattle.calls.proofs.Examples.{example-loads, example-roots, again-loads}
+use Rattle.calls.proofs.Examples.{example-loads, example-roots, example-says, example-crowded, again-loads}
 use Rattle.calls.proofs.RootsAnswer.{roots-answer}
+use Rattle.calls.proofs.Demand1.{demand-1}
 use Rattle.calls.proofs.Demand3.{demand-3}
+use Rattle.calls.proofs.Evaluating.{evaluates-as-given}
 
 -- the first root of the first load
 first-root : Root 2 3 twice
@@ -44,3 +52,15 @@ same-root =
     let v = roots-answer example (empty 2 3) exampleHeader example-loads .grows .levels in
     demand-3 2 3 twice again-root first-root .1 (λ s l. ap (λ n. fileSays example n exampleHeader 0 (chosen s)) v)
     ∙ ap (λ r. getD r 0 (pos 0)) example-roots
+
+-- after all three calls evaluation still answers by the lines of the example: yes just where both levels are yes
+pub evaluates-both : (a b : Bool) → evaluateOf (pos 3) (byteOf a ∷ byteOf b ∷ []) (run (empty 2 3) twice) ≡ value (a && b)
+unfolding first-root
+evaluates-both a b =
+    ap (λ r. evaluateOf (getD r 0 (pos 0)) (byteOf a ∷ byteOf b ∷ []) (run (empty 2 3) twice)) (sym example-roots)
+    ∙ evaluates-as-given 2 3 twice first-root (a ∷ b ∷ []) refl
+    ∙ ap value (example-says a b)
+
+-- with a slot less than it needs the example leaves the store as it was, though its second line was made before its third found no room
+pub crowded-unchanged : loadOf example (empty 2 2) .after ≡ empty 2 2
+crowded-unchanged = demand-1 (loads example (empty 2 2)) 40 0 (ap (λ r. ofAnswer (r .answer)) example-crowded) .0

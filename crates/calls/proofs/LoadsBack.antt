@@ -33,7 +33,7 @@ use Rattle.reading_back.proofs.OutputBack.{written-file}
 use Rattle.calls.specs.Load.{Lengths, Load, variableLists, rootLists, headerOf, nodesOf, loadOf}
 use Rattle.calls.specs.LoadsBack.{ownLoad, LongEnough, LoadsBack, OutputLoads}
 use Rattle.calls.proofs.HeaderStands.{nothing-found, lists-answer}
-use Rattle.calls.proofs.Stages.{Passes, passes-load}
+use Rattle.calls.proofs.Passes.{Passes, passes-load}
 
 -- lists of roots that are long enough have room for every root that an export takes
 roots-room : (l : Lengths) → atLeast rootLimit (rootLists l) ≡ true → rootLimit ≤ l .roots

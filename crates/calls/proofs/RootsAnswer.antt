@@ -24,7 +24,7 @@ use Rattle.calls.specs.Load.{Load, headerOf, setupOf, nodesOf, loadOf}
 use Rattle.calls.specs.Acceptance.{Accepts}
 use Rattle.calls.specs.Roots.{Means, Gains, fileSays}
 use Rattle.calls.proofs.HeaderStands.{one-header, answer-roots}
-use Rattle.calls.proofs.Stages.{passes-load}
+use Rattle.calls.proofs.Passes.{passes-load}
 use Rattle.calls.proofs.Accepted.{saidBy, accepts-passes, accepted, accepted-header}
 use Rattle.calls.proofs.RootEntries.{root-within, laid-entry}
 

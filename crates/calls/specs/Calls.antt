@@ -1,12 +1,19 @@
 -- Lists of calls on one store. Document 01, 'Agreed between us': 'The list starts from an empty store with any level count and any number of
 -- slots, whatever else each call is lent.'
 use Prim.Native.Nat.{ℕ}
+use mathlib.Core.Bool.{Bool}
 use mathlib.Core.List.{List, [], _∷_}
 use lib.ListN.{take}
 use lib.IntN.{ℤ}
+use Rattle.codes.specs.Answer.{Read}
 use Rattle.store.specs.Store.{Store}
+use Rattle.store.specs.Rules.{limits}
+use Rattle.store.specs.Evaluation.{evaluation}
 use Rattle.export_header.specs.Tables.{Lent}
 use Rattle.exporter.specs.Settings.{Settings}
+use Rattle.exporter.specs.Export.{exportFault}
+use Rattle.exporter.specs.Promise as promise
+use Rattle.exporter.specs.declared.Exported.{Exported}
 use Rattle.calls.specs.Load.{Load, loadOf}
 
 -- an export: its settings, roots, variable order and names, and the lengths of the marks and of the output
@@ -18,6 +25,29 @@ pub record Export : Type 0 where
   pub slots : ℕ
   pub numbers : ℕ
   pub out : ℕ
+
+abbrev pub exportInto : Settings → List ℤ → List ℕ → Lent → ℕ → ℕ → ℕ → Export
+exportInto s roots order names slots numbers out = record {
+  settings = s;
+  roots = roots;
+  order = order;
+  names = names;
+  slots = slots;
+  numbers = numbers;
+  out = out;
+}
+
+-- 'Export gives 1, 3, 4, 6, 5'; 0 of none
+abbrev pub faultOf : Export → Store → ℕ
+faultOf x σ = exportFault σ (x .roots) (x .order) (x .names) (x .slots) (x .numbers) (x .out)
+
+-- what an export answers and leaves in its output: by its refusal
+abbrev pub Exports : Export → Store → Exported → List ℕ → Type 0
+Exports x σ r out = promise.Exports (faultOf x σ) (x .settings) σ (x .roots) (x .order) (x .names) (x .out) r out
+
+-- what an evaluation answers: 'Evaluation gives 3, 4'
+abbrev pub evaluateOf : ℤ → List ℕ → Store → Read Bool
+evaluateOf e s σ = evaluation limits σ e s
 
 -- 'Its calls are those that the firmware or a program makes', each with everything that it is lent
 pub data Call : Type 0 where

@@ -1,7 +1,9 @@
 pub mod Load
 pub mod Calls
 pub mod Roots
-pub mod Refusal
+pub mod Outcome
 pub mod Acceptance
 pub mod LoadsBack
+pub mod Evaluating
 pub mod Examples
+pub mod Starred

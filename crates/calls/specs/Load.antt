@@ -1,15 +1,16 @@
 -- The call load, as a whole. Document 01: 'load gives 1 (lists), 3, 19 for the input's length, header, 1 (scratch), 2, nodes, 39.'
 use Prim.Native.Nat.{ℕ, zero, suc}
 use mathlib.Core.Bool.{not}
-use mathlib.Core.List.{List, [], _∷_}
+use mathlib.Core.List.{List, [], _∷_, map}
 use lib.Dec.{eqb}
-use lib.ListN.{replicate}
+use lib.ListN.{length, replicate}
 use lib.IntN.{ℤ, pos}
 use Rattle.codes.specs.Lent.{laid}
-use Rattle.readers.specs.Text.{Place}
+use Rattle.readers.specs.Text.{Place, startOf, lenOf}
 use Rattle.store.specs.Store.{Store}
 use Rattle.store.specs.Rules.{limits}
 use Rattle.store.specs.Keeps.{keeps}
+use Rattle.values.specs.Values.{pad}
 use Rattle.whole.specs.Whole.{unless}
 use Rattle.header.specs.Header as head
 use Rattle.import.specs.List.{beforeNodes}
@@ -68,13 +69,20 @@ refusedAt c σ n line = record {
   rootnames = [];
 }
 
+-- '3 the store breaks its rules'; 0 where it keeps them
+abbrev pub storeFault : Store → ℕ
+storeFault σ = unless (keeps limits σ) 3
+
 -- '1 (lists), 3, 19 for the input's length, header'
 unfoldable pub headerOf : Load → Store → head.Loaded
-headerOf c σ = head.loadOf (variableLists (c .lent)) (rootLists (c .lent)) (unless (keeps limits σ) 3) (c .file)
+headerOf c σ = head.loadOf (variableLists (c .lent)) (rootLists (c .lent)) (storeFault σ) (c .file)
 
--- how the nodes are read, in a store of so many levels
+-- how the nodes of a header are read, by a level list and in a store of so many levels: varinfo 4 stands for no extra word
+abbrev pub setupFor : List ℕ → ℕ → head.Header → nodes.Setup
+setupFor list levels h = nodes.setup (h .ascii) (not (eqb (h .varinfo) 4)) (h .nnodes) (h .lines) list levels
+
 abbrev pub setupOf : Load → ℕ → head.Header → nodes.Setup
-setupOf c levels h = nodes.setup (h .ascii) (not (eqb (h .varinfo) 4)) (h .nnodes) (h .lines) (c .list) levels
+setupOf c levels h = setupFor (c .list) levels h
 
 -- 'nodes, 39': the roots take the place of their numbers
 abbrev pub nodesOf : Load → Store → head.Header → nodes.Imported
@@ -107,3 +115,66 @@ withHeader c σ (head.header h) =
 
 unfoldable pub loadOf : Load → Store → Loaded
 loadOf c σ = withHeader c σ (headerOf c σ .answer)
+
+-- the lists themselves that a load is lent beside the store
+pub record Parts : Type 0 where
+  pub ids : List ℕ
+  pub order : List ℕ
+  pub permids : List ℕ
+  pub auxids : List ℕ
+  pub names : List ℕ
+  pub lens : List ℕ
+  pub roots : List ℤ
+  pub rootnames : List ℕ
+  pub rootlens : List ℕ
+  pub edges : List ℤ
+  pub seats : List ℕ
+
+abbrev pub parts : List ℕ → List ℕ → List ℕ → List ℕ → List ℕ → List ℕ → List ℤ → List ℕ → List ℕ → List ℤ → List ℕ → Parts
+parts ids order permids auxids names lens roots rootnames rootlens edges seats = record {
+  ids = ids;
+  order = order;
+  permids = permids;
+  auxids = auxids;
+  names = names;
+  lens = lens;
+  roots = roots;
+  rootnames = rootnames;
+  rootlens = rootlens;
+  edges = edges;
+  seats = seats;
+}
+
+abbrev pub lengthsOf : Parts → Lengths
+lengthsOf p = record {
+  ids = length (p .ids);
+  order = length (p .order);
+  permids = length (p .permids);
+  auxids = length (p .auxids);
+  names = length (p .names);
+  lens = length (p .lens);
+  roots = length (p .roots);
+  rootnames = length (p .rootnames);
+  rootlens = length (p .rootlens);
+  edges = length (p .edges);
+  seats = length (p .seats);
+}
+
+-- a load of a file at the levels of a list, lent these parts
+abbrev pub loadInto : List ℕ → List ℕ → Parts → Load
+loadInto f list p = record { file = f; list = list; lent = lengthsOf p }
+
+-- What the parts hold after a load: the entries of each list, names as starts and lengths, and zeros. 'Scratch ends as zeros.'
+abbrev pub partsOf : Lengths → Loaded → Parts
+partsOf l r = parts
+    (pad (l .ids) (r .ids))
+    (pad (l .order) (r .order))
+    (pad (l .permids) (r .permids))
+    (pad (l .auxids) (r .auxids))
+    (pad (l .names) (map startOf (r .names)))
+    (pad (l .lens) (map lenOf (r .names)))
+    (r .roots)
+    (pad (l .rootnames) (map startOf (r .rootnames)))
+    (pad (l .rootlens) (map lenOf (r .rootnames)))
+    (replicate (l .edges) (pos 0))
+    (replicate (l .seats) 0)

@@ -1,1 +1,2 @@
-// The calls load, evaluate and export, as definitions: no code, and the theorem about every list of calls.
+// The calls load, evaluate and export as definitions, and the demands as theorems about them: no code. The functions of `dddmp` promise to
+// meet these definitions.

@@ -15,4 +15,3 @@ pub mod Signed
 pub mod EdgeWords
 pub mod Decoded
 pub mod Groups
-pub mod Starred

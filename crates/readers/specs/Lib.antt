@@ -6,7 +6,6 @@ pub mod Text
 pub mod Line
 pub mod Binary
 pub mod Kinds
-pub mod Starred
 pub mod Value
 pub mod Groups
 pub mod Utf8

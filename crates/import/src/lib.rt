@@ -208,7 +208,8 @@ fn put_roots(ok: bool, edges: &[Edge], roots: &mut [Edge])
     }
 }
 
-fn clear_edges(dst: &mut [Edge])
+// Fills a list of edges with zeros.
+pub fn clear_edges(dst: &mut [Edge])
     ensures { λ _. ⌜ now (dst .exit) ≡ replicate (length (now (dst .entry))) (pos 0) ⌝ }
 {
     let mut i = 0;
@@ -218,7 +219,8 @@ fn clear_edges(dst: &mut [Edge])
     }
 }
 
-fn clear_seats(dst: &mut [u16])
+// Fills a list of seats with zeros.
+pub fn clear_seats(dst: &mut [u16])
     ensures { λ _. ⌜ now (dst .exit) ≡ replicate (length (now (dst .entry))) 0 ⌝ }
 {
     let mut i = 0;

@@ -1,0 +1,77 @@
+-- What the functions of the stages promise, put together over plain variables: the promise of `load`.
+use mathlib.Core.Path.{_≡_, refl, sym, ap, subst, _∙_}
+use mathlib.Core.List.{List, []}
+use Prim.Native.Nat.{ℕ}
+use lib.ListN.{length, replicate}
+use lib.IntN.{ℤ, pos}
+use Rattle.codes.specs.Lent.{laid}
+use Rattle.values.specs.Values.{pad}
+use Rattle.store.specs.Store.{Store}
+use Rattle.header.specs.Header as head
+use Rattle.header.specs.Header.{Answer}
+use Rattle.calls.specs.Load.{variableLists, rootLists, storeFault, headerOf, Parts, parts, lengthsOf, loadInto, partsOf, Load, Loaded, loadOf}
+use Rattle.dddmp.specs.Stages.{checked, Readable, nodesAfter, isRefusal, clearedIf}
+use Rattle.dddmp.proofs.Readable.{readable}
+use Rattle.dddmp.proofs.Staged.{nodesLeft, left-load, Entries, loadEntries, headEntries, noEntries, cleared-list}
+
+-- parts that are equal list by list
+pub parts-alike : {a a' b b' c c' d d' e e' f f' : List ℕ} {g g' : List ℤ} {h h' i i' : List ℕ} {j j' : List ℤ} {k k' : List ℕ}
+    → a ≡ a' → b ≡ b' → c ≡ c' → d ≡ d' → e ≡ e' → f ≡ f' → g ≡ g' → h ≡ h' → i ≡ i' → j ≡ j' → k ≡ k'
+    → parts a b c d e f g h i j k ≡ parts a' b' c' d' e' f' g' h' i' j' k'
+parts-alike p q r s t u v w x y z = rw (p, q, r, s, t, u, v, w, x, y, z) refl
+
+module _ (file list : List ℕ) (p : Parts) (σ : Store) where
+  abbrev this : Load
+  this = loadInto file list p
+
+  -- the header, after what was found of the store
+  abbrev headAfter : ℕ → head.Loaded
+  headAfter found = head.loadOf (variableLists (lengthsOf p)) (rootLists (lengthsOf p)) found file
+
+  module _ (found : ℕ) (s : found ≡ storeFault σ) where
+    head-after : headAfter found ≡ headerOf this σ
+    unfolding headerOf
+    head-after = ap headAfter s
+
+    -- the answers after the header, and after scratch and level list
+    module _ (a b : Answer) (q : a ≡ headAfter found .answer) (r : b ≡ checked (length (p .edges)) (length (p .seats)) (σ .levels) list a) where
+      head-answer : a ≡ headerOf this σ .answer
+      head-answer = q ∙ ap (λ x. x .answer) head-after
+
+      ready-is : checked (length (p .edges)) (length (p .seats)) (σ .levels) list (headerOf this σ .answer) ≡ b
+      ready-is = ap (checked (length (p .edges)) (length (p .seats)) (σ .levels) list) (sym head-answer) ∙ sym r
+
+      -- the nodes can be read
+      pub ready-readable : Readable b σ list (length (p .edges)) (length (p .seats))
+      ready-readable =
+          subst (λ x. Readable x σ list (length (p .edges)) (length (p .seats))) ready-is (readable this σ (headerOf this σ .answer) refl)
+
+      -- the roots' numbers as the header leaves them
+      module _ (n : List ℤ) (w : n ≡ laid (headAfter found .roots) (replicate (length (p .roots)) (pos 0))) where
+        numbers-are : n ≡ laid (headerOf this σ .roots) (replicate (length (p .roots)) (pos 0))
+        numbers-are = w ∙ ap (λ x. laid (x .roots) (replicate (length (p .roots)) (pos 0))) head-after
+
+        -- what the nodes leave is what the load leaves
+        nodes-left : nodesAfter b σ file list n ≡ nodesLeft (loadOf this σ)
+        nodes-left =
+            ap (λ x. nodesAfter b σ file list x) numbers-are
+            ∙ ap (λ x. nodesAfter x σ file list (laid (headerOf this σ .roots) (replicate (length (p .roots)) (pos 0)))) (sym ready-is)
+            ∙ sym (left-load this σ)
+
+        pub answer-left : (d : Answer) → d ≡ nodesAfter b σ file list n .answer → d ≡ loadOf this σ .answer
+        answer-left d e = e ∙ ap (λ x. x .answer) nodes-left
+
+        pub store-left : (τ : Store) → τ ≡ nodesAfter b σ file list n .after → τ ≡ loadOf this σ .after
+        store-left τ e = e ∙ ap (λ x. x .after) nodes-left
+
+        pub roots-left : (l : List ℤ) → l ≡ nodesAfter b σ file list n .roots → l ≡ loadOf this σ .roots
+        roots-left l e = e ∙ ap (λ x. x .roots) nodes-left
+
+    -- a list as the header left it, cleared on a refusal, is what the load says
+    pub list-left : (d : Answer) → d ≡ loadOf this σ .answer → (n : ℕ) (g : Entries → List ℕ) → g noEntries ≡ []
+        → (l : List ℕ) → l ≡ pad n (g (headEntries (headAfter found))) → (out : List ℕ) → out ≡ clearedIf (isRefusal d) l
+        → out ≡ pad n (g (loadEntries (loadOf this σ)))
+    list-left d e n g z l v out o =
+        o ∙ ap (λ x. clearedIf (isRefusal x) l) e
+        ∙ ap (clearedIf (isRefusal (loadOf this σ .answer))) (v ∙ ap (λ x. pad n (g (headEntries x))) head-after)
+        ∙ cleared-list this σ n g z

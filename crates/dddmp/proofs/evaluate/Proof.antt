@@ -1,0 +1,14 @@
+-- `evaluate` meets its contract: it is the call of the store.
+use mir.Facts.{toZ-ofZ}
+use borrow.Author.Needs.{needs}
+use Rattle.dddmp.proofs.evaluate.Statement.{statement}
+use Rattle.dddmp.proofs.evaluate.Tie as tie
+
+evaluate-requires : tie.Need-evaluate-requires
+evaluate-requires c κs = search needs
+
+returns : tie.Need-returns
+returns c = rw (toZ-ofZ (c .before .before .before .before .before .fits .root)) at (c .evaluate .ensures)
+
+pub evaluate-spec : {M : Type 1} → statement M
+evaluate-spec = tie.close (tie.spec evaluate-requires returns)

@@ -1,0 +1,186 @@
+-- `load` meets its contract: what the functions of the stages promise, put together by the laws of `Loading`.
+use mathlib.Core.Path.{_≡_, refl, _∙_}
+use mathlib.Core.List.{List, map}
+use lib.ListN.{length, replicate}
+use lib.IntN.{ℤ, pos}
+use Rattle.codes.specs.Lent.{laid}
+use Rattle.readers.specs.Text.{startOf, lenOf}
+use Rattle.store.specs.Store.{Store, store}
+use Rattle.header.specs.Kinds.{ofLoaded}
+use Rattle.header.specs.Header.{Answer}
+use Rattle.calls.specs.Load.{Parts, parts, loadInto, loadOf}
+use Rattle.dddmp.proofs.Loading.{parts-alike, ready-readable, answer-left, store-left, roots-left, list-left}
+use Rattle.dddmp.proofs.load.Statement.{statement}
+use Rattle.dddmp.proofs.load.Tie as tie
+
+-- the function's entry and its calls, seen from its return
+abbrev start : tie.After-slice-known32 → tie.Start
+start c = c .before .before .before .before .before .before .before .before .before .before .before .before .before .before .before .before .before .before .before .before .before .before .before .before .before .before .before .before .before .before .before .before .before .before .before .before .before .before .before .before .before .before .before .before .before .before .before .before .before .before .before .before .before .before .before .before .before .before .before .before .before .before .before .before .before .before .before .before .before .before .before .before .before .before .before .before .before .before .before .before .before .before .before .before .before .before .before .before .before .before .before .before .before .before .before .before
+
+abbrev finished : tie.After-slice-known32 → tie.After-finish
+finished c = c .before .before .before .before .before .before .before .before .before .before .before .before .before .before .before .before
+
+abbrev noded : tie.After-slice-known32 → tie.After-load-nodes
+noded c = c .before .before .before .before .before .before .before .before .before .before .before .before .before .before .before .before .before .before .before .before .before .before .before .before .before .before .before .before .before .before .before .before .before .before .before .before .before
+
+abbrev readied : tie.After-slice-known32 → tie.After-check-levels
+readied c = c .before .before .before .before .before .before .before .before .before .before .before .before .before .before .before .before .before .before .before .before .before .before .before .before .before .before .before .before .before .before .before .before .before .before .before .before .before .before .before .before .before .before .before .before .before .before .before
+
+abbrev headed : tie.After-slice-known32 → tie.After-load
+headed c = c .before .before .before .before .before .before .before .before .before .before .before .before .before .before .before .before .before .before .before .before .before .before .before .before .before .before .before .before .before .before .before .before .before .before .before .before .before .before .before .before .before .before .before .before .before .before .before .before .before .before .before .before .before .before .before .before .before .before .before .before .before .before .before .before .before
+
+abbrev judged : tie.After-slice-known32 → tie.After-store-fault
+judged c = c .before .before .before .before .before .before .before .before .before .before .before .before .before .before .before .before .before .before .before .before .before .before .before .before .before .before .before .before .before .before .before .before .before .before .before .before .before .before .before .before .before .before .before .before .before .before .before .before .before .before .before .before .before .before .before .before .before .before .before .before .before .before .before .before .before .before .before .before .before .before .before .before .before .before .before
+
+-- and seen from where the nodes are read
+abbrev start-nodes : tie.After-load-nodes-arg9 → tie.Start
+start-nodes c = c .before .before .before .before .before .before .before .before .before .before .before .before .before .before .before .before .before .before .before .before .before .before .before .before .before .before .before .before .before .before .before .before .before .before .before .before .before .before .before .before .before .before .before .before .before .before .before .before .before .before .before .before .before .before .before .before .before .before
+
+abbrev readied-nodes : tie.After-load-nodes-arg9 → tie.After-check-levels
+readied-nodes c = c .before .before .before .before .before .before .before .before .before
+
+abbrev headed-nodes : tie.After-load-nodes-arg9 → tie.After-load
+headed-nodes c = c .before .before .before .before .before .before .before .before .before .before .before .before .before .before .before .before .before .before .before .before .before .before .before .before .before .before .before
+
+abbrev judged-nodes : tie.After-load-nodes-arg9 → tie.After-store-fault
+judged-nodes c = c .before .before .before .before .before .before .before .before .before .before .before .before .before .before .before .before .before .before .before .before .before .before .before .before .before .before .before .before .before .before .before .before .before .before .before .before .before
+
+-- what was lent
+abbrev given : tie.Start → Parts
+given s = parts (s .args .ids .now) (s .args .order .now) (s .args .permids .now) (s .args .auxids .now) (s .args .names .now) (s .args .lens .now) (s .args .roots .now) (s .args .rootnames .now) (s .args .rootlens .now) (s .args .edges .now) (s .args .seats .now)
+
+abbrev kept : tie.Start → Store
+kept s = store (s .args .levels) (s .args .count .now) (s .args .level .now) (s .args .then .now) (s .args .els .now) (s .args .next .now) (s .args .heads .now)
+
+store-fault-requires : tie.Need-store-fault-requires
+store-fault-requires c κs = tt
+
+load-requires : tie.Need-load-requires
+load-requires c κs = tt
+
+check-levels-requires : tie.Need-check-levels-requires
+check-levels-requires c κs = tt
+
+load-nodes-requires : tie.Need-load-nodes-requires
+load-nodes-requires c κs =
+    ready-readable (start-nodes c .args .f .now) (start-nodes c .args .list .now) (given (start-nodes c)) (kept (start-nodes c))
+    (judged-nodes c .store-fault .result) (judged-nodes c .store-fault .ensures)
+    (ofLoaded (headed-nodes c .load .result)) (ofLoaded (readied-nodes c .check-levels .result))
+    (headed-nodes c .load .ensures .0) (readied-nodes c .check-levels .ensures)
+
+finish-requires : tie.Need-finish-requires
+finish-requires c κs = tt
+
+same-length : tie.Need-same-length
+same-length c = noded c .load-nodes .kept .1 .1 .1 .1 .1 .0
+
+same-length-2 : tie.Need-same-length-2
+same-length-2 c = noded c .load-nodes .kept .1 .1 .1 .1 .1 .1 .0
+
+same-length-3 : tie.Need-same-length-3
+same-length-3 c = noded c .load-nodes .kept .1 .1 .1 .1 .1 .1 .1 .0
+
+same-length-4 : tie.Need-same-length-4
+same-length-4 c = noded c .load-nodes .kept .1 .1 .1 .1 .1 .1 .1 .1 .0
+
+same-length-5 : tie.Need-same-length-5
+same-length-5 c = noded c .load-nodes .kept .1 .1 .1 .1 .1 .1 .1 .1 .1 .0
+
+same-length-6 : tie.Need-same-length-6
+same-length-6 c = finished c .finish .kept .1 .0 ∙ headed c .load .kept .1 .1 .0
+
+same-length-7 : tie.Need-same-length-7
+same-length-7 c = finished c .finish .kept .1 .1 .0 ∙ headed c .load .kept .1 .1 .1 .0
+
+same-length-8 : tie.Need-same-length-8
+same-length-8 c = finished c .finish .kept .1 .1 .1 .0 ∙ headed c .load .kept .1 .1 .1 .1 .0
+
+same-length-9 : tie.Need-same-length-9
+same-length-9 c = finished c .finish .kept .1 .1 .1 .1 .0 ∙ headed c .load .kept .1 .1 .1 .1 .1 .0
+
+same-length-10 : tie.Need-same-length-10
+same-length-10 c = finished c .finish .kept .1 .1 .1 .1 .1 .0 ∙ headed c .load .kept .1 .1 .1 .1 .1 .1 .0
+
+same-length-11 : tie.Need-same-length-11
+same-length-11 c = finished c .finish .kept .1 .1 .1 .1 .1 .1 .0 ∙ headed c .load .kept .1 .1 .1 .1 .1 .1 .1 .0
+
+same-length-12 : tie.Need-same-length-12
+same-length-12 c = noded c .load-nodes .kept .1 .1 .1 .1 .1 .1 .1 .1 .1 .1 .0 ∙ headed c .load .kept .1 .1 .1 .1 .1 .1 .1 .1 .0
+
+same-length-13 : tie.Need-same-length-13
+same-length-13 c = finished c .finish .kept .1 .1 .1 .1 .1 .1 .1 .0 ∙ headed c .load .kept .1 .1 .1 .1 .1 .1 .1 .1 .1 .0
+
+same-length-14 : tie.Need-same-length-14
+same-length-14 c = finished c .finish .kept .1 .1 .1 .1 .1 .1 .1 .1 .0 ∙ headed c .load .kept .1 .1 .1 .1 .1 .1 .1 .1 .1 .1 .0
+
+same-length-15 : tie.Need-same-length-15
+same-length-15 c = noded c .load-nodes .kept .1 .1 .1 .1 .1 .1 .1 .1 .1 .1 .1 .0
+
+same-length-16 : tie.Need-same-length-16
+same-length-16 c = noded c .load-nodes .kept .1 .1 .1 .1 .1 .1 .1 .1 .1 .1 .1 .1 .0
+
+-- the answer of the load, as the stages give it
+answered : (c : tie.After-slice-known32) → ofLoaded (noded c .load-nodes .result) ≡ loadOf (loadInto (start c .args .f .now) (start c .args .list .now) (given (start c))) (kept (start c)) .answer
+answered c =
+    answer-left (start c .args .f .now) (start c .args .list .now) (given (start c)) (kept (start c))
+    (judged c .store-fault .result) (judged c .store-fault .ensures)
+    (ofLoaded (headed c .load .result)) (ofLoaded (readied c .check-levels .result))
+    (headed c .load .ensures .0) (readied c .check-levels .ensures)
+    (headed c .load .last .1 .1 .1 .1 .1 .1 .1 .1 .0) (headed c .load .ensures .1 .1 .1 .1 .1 .1 .1 .1 .0) (ofLoaded (noded c .load-nodes .result)) (noded c .load-nodes .ensures .0)
+
+-- the store after it
+stored : (c : tie.After-slice-known32) → (store (start c .args .levels) (noded c .load-nodes .last .1 .1 .1 .1 .0) (noded c .load-nodes .last .1 .1 .1 .1 .1 .0) (noded c .load-nodes .last .1 .1 .1 .1 .1 .1 .0) (noded c .load-nodes .last .1 .1 .1 .1 .1 .1 .1 .0) (noded c .load-nodes .last .1 .1 .1 .1 .1 .1 .1 .1 .0) (noded c .load-nodes .last .1 .1 .1 .1 .1 .1 .1 .1 .1 .0)) ≡ loadOf (loadInto (start c .args .f .now) (start c .args .list .now) (given (start c))) (kept (start c)) .after
+stored c =
+    store-left (start c .args .f .now) (start c .args .list .now) (given (start c)) (kept (start c))
+    (judged c .store-fault .result) (judged c .store-fault .ensures)
+    (ofLoaded (headed c .load .result)) (ofLoaded (readied c .check-levels .result))
+    (headed c .load .ensures .0) (readied c .check-levels .ensures)
+    (headed c .load .last .1 .1 .1 .1 .1 .1 .1 .1 .0) (headed c .load .ensures .1 .1 .1 .1 .1 .1 .1 .1 .0) (store (start c .args .levels) (noded c .load-nodes .last .1 .1 .1 .1 .0) (noded c .load-nodes .last .1 .1 .1 .1 .1 .0) (noded c .load-nodes .last .1 .1 .1 .1 .1 .1 .0) (noded c .load-nodes .last .1 .1 .1 .1 .1 .1 .1 .0) (noded c .load-nodes .last .1 .1 .1 .1 .1 .1 .1 .1 .0) (noded c .load-nodes .last .1 .1 .1 .1 .1 .1 .1 .1 .1 .0)) (noded c .load-nodes .ensures .1 .0)
+
+-- the roots
+rooted : (c : tie.After-slice-known32) → (noded c .load-nodes .last .1 .1 .1 .1 .1 .1 .1 .1 .1 .1 .0) ≡ loadOf (loadInto (start c .args .f .now) (start c .args .list .now) (given (start c))) (kept (start c)) .roots
+rooted c =
+    roots-left (start c .args .f .now) (start c .args .list .now) (given (start c)) (kept (start c))
+    (judged c .store-fault .result) (judged c .store-fault .ensures)
+    (ofLoaded (headed c .load .result)) (ofLoaded (readied c .check-levels .result))
+    (headed c .load .ensures .0) (readied c .check-levels .ensures)
+    (headed c .load .last .1 .1 .1 .1 .1 .1 .1 .1 .0) (headed c .load .ensures .1 .1 .1 .1 .1 .1 .1 .1 .0) (noded c .load-nodes .last .1 .1 .1 .1 .1 .1 .1 .1 .1 .1 .0) (noded c .load-nodes .ensures .1 .1 .0)
+
+returns : tie.Need-returns
+returns c = (
+  answered c,
+  (
+    stored c,
+    parts-alike
+        (list-left (start c .args .f .now) (start c .args .list .now) (given (start c)) (kept (start c))
+        (judged c .store-fault .result) (judged c .store-fault .ensures) (ofLoaded (noded c .load-nodes .result)) (answered c)
+        (length (start c .args .ids .now)) (λ x. x .ids) refl (headed c .load .last .1 .1 .0) (headed c .load .ensures .1 .1 .0) (finished c .finish .last .1 .0) (finished c .finish .ensures .0))
+        (list-left (start c .args .f .now) (start c .args .list .now) (given (start c)) (kept (start c))
+        (judged c .store-fault .result) (judged c .store-fault .ensures) (ofLoaded (noded c .load-nodes .result)) (answered c)
+        (length (start c .args .order .now)) (λ x. x .order) refl (headed c .load .last .1 .1 .1 .0) (headed c .load .ensures .1 .1 .1 .0) (finished c .finish .last .1 .1 .0) (finished c .finish .ensures .1 .0))
+        (list-left (start c .args .f .now) (start c .args .list .now) (given (start c)) (kept (start c))
+        (judged c .store-fault .result) (judged c .store-fault .ensures) (ofLoaded (noded c .load-nodes .result)) (answered c)
+        (length (start c .args .permids .now)) (λ x. x .permids) refl (headed c .load .last .1 .1 .1 .1 .0) (headed c .load .ensures .1 .1 .1 .1 .0) (finished c .finish .last .1 .1 .1 .0) (finished c .finish .ensures .1 .1 .0))
+        (list-left (start c .args .f .now) (start c .args .list .now) (given (start c)) (kept (start c))
+        (judged c .store-fault .result) (judged c .store-fault .ensures) (ofLoaded (noded c .load-nodes .result)) (answered c)
+        (length (start c .args .auxids .now)) (λ x. x .auxids) refl (headed c .load .last .1 .1 .1 .1 .1 .0) (headed c .load .ensures .1 .1 .1 .1 .1 .0) (finished c .finish .last .1 .1 .1 .1 .0) (finished c .finish .ensures .1 .1 .1 .0))
+        (list-left (start c .args .f .now) (start c .args .list .now) (given (start c)) (kept (start c))
+        (judged c .store-fault .result) (judged c .store-fault .ensures) (ofLoaded (noded c .load-nodes .result)) (answered c)
+        (length (start c .args .names .now)) (λ x. map startOf (x .names)) refl (headed c .load .last .1 .1 .1 .1 .1 .1 .0) (headed c .load .ensures .1 .1 .1 .1 .1 .1 .0) (finished c .finish .last .1 .1 .1 .1 .1 .0) (finished c .finish .ensures .1 .1 .1 .1 .0))
+        (list-left (start c .args .f .now) (start c .args .list .now) (given (start c)) (kept (start c))
+        (judged c .store-fault .result) (judged c .store-fault .ensures) (ofLoaded (noded c .load-nodes .result)) (answered c)
+        (length (start c .args .lens .now)) (λ x. map lenOf (x .names)) refl (headed c .load .last .1 .1 .1 .1 .1 .1 .1 .0) (headed c .load .ensures .1 .1 .1 .1 .1 .1 .1 .0) (finished c .finish .last .1 .1 .1 .1 .1 .1 .0) (finished c .finish .ensures .1 .1 .1 .1 .1 .0))
+        (rooted c)
+        (list-left (start c .args .f .now) (start c .args .list .now) (given (start c)) (kept (start c))
+        (judged c .store-fault .result) (judged c .store-fault .ensures) (ofLoaded (noded c .load-nodes .result)) (answered c)
+        (length (start c .args .rootnames .now)) (λ x. map startOf (x .rootnames)) refl (headed c .load .last .1 .1 .1 .1 .1 .1 .1 .1 .1 .0) (headed c .load .ensures .1 .1 .1 .1 .1 .1 .1 .1 .1 .0) (finished c .finish .last .1 .1 .1 .1 .1 .1 .1 .0) (finished c .finish .ensures .1 .1 .1 .1 .1 .1 .0))
+        (list-left (start c .args .f .now) (start c .args .list .now) (given (start c)) (kept (start c))
+        (judged c .store-fault .result) (judged c .store-fault .ensures) (ofLoaded (noded c .load-nodes .result)) (answered c)
+        (length (start c .args .rootlens .now)) (λ x. map lenOf (x .rootnames)) refl (headed c .load .last .1 .1 .1 .1 .1 .1 .1 .1 .1 .1 .0) (headed c .load .ensures .1 .1 .1 .1 .1 .1 .1 .1 .1 .1) (finished c .finish .last .1 .1 .1 .1 .1 .1 .1 .1 .0) (finished c .finish .ensures .1 .1 .1 .1 .1 .1 .1))
+        (noded c .load-nodes .ensures .1 .1 .1 .0)
+        (noded c .load-nodes .ensures .1 .1 .1 .1),
+  ),
+)
+
+pub load-spec : {M : Type 1} → statement M
+load-spec = tie.close (tie.spec store-fault-requires load-requires check-levels-requires load-nodes-requires finish-requires same-length same-length-2 same-length-3 same-length-4 same-length-5 same-length-6 same-length-7 same-length-8 same-length-9 same-length-10 same-length-11 same-length-12 same-length-13 same-length-14 same-length-15 same-length-16 returns)

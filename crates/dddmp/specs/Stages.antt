@@ -1,0 +1,60 @@
+-- The stages of a load, as the functions that carry them out promise them; proofs/Staged.antt shows that one after the other they are
+-- `loadOf`. Document 01: 'load gives 1 (lists), 3, 19 for the input's length, header, 1 (scratch), 2, nodes, 39.'
+use Prim.Native.Nat.{ℕ, zero, suc}
+use mathlib.Core.Bool.{Bool, true, false}
+use mathlib.Core.List.{List}
+use lib.ListN.{length, replicate}
+use lib.IntN.{ℤ, pos}
+use Rattle.store.specs.Store.{Store}
+use Rattle.store.specs.Rules.{limits, Rules}
+use Rattle.header.specs.Header.{Header, Answer, header, refusal}
+use Rattle.import.specs.Build.{LevelsOf}
+use Rattle.import.specs.List.{beforeNodes}
+use Rattle.import.specs.Import as nodes
+use Rattle.calls.specs.Load.{setupFor}
+
+-- a header, where nothing is refused of it
+abbrev pub unlessRefused : Header → ℕ → Answer
+unlessRefused h zero = header h
+unlessRefused h (suc k) = refusal (suc k) 0
+
+-- '1 (scratch), 2': the lengths of the two scratch lists and the level list, after the header's answer
+abbrev pub checked : ℕ → ℕ → ℕ → List ℕ → Answer → Answer
+checked edges seats levels list (header h) = unlessRefused h (beforeNodes (h .nnodes) edges seats (h .nsuppvars) levels list)
+checked edges seats levels list (refusal n line) = refusal n line
+
+-- what the nodes lean on, where there is a header: the store's rules, the level list, and limits that were judged before
+abbrev pub Readable : Answer → Store → List ℕ → ℕ → ℕ → Type 0
+Readable (header h) σ list edges seats =
+    Rules limits σ × (LevelsOf σ list × nodes.Bounded (setupFor list (σ .levels) h) edges seats)
+Readable (refusal n line) σ list edges seats = Unit
+
+-- the header stands where its nodes are read
+abbrev pub withNodes : Header → nodes.Answer → Answer
+withNodes h (nodes.nodes at) = header h
+withNodes h (nodes.refusal k line) = refusal k line
+
+-- what the nodes leave: the answer, the store, and the roots in place of their numbers
+pub record Noded : Type 0 where
+  pub answer : Answer
+  pub after : Store
+  pub roots : List ℤ
+
+abbrev pub noded : Header → nodes.Imported → Noded
+noded h r = record { answer = withNodes h (r .answer); after = r .after; roots = r .roots }
+
+-- 'nodes, 39', after the answer so far
+unfoldable pub nodesAfter : Answer → Store → List ℕ → List ℕ → List ℤ → Noded
+nodesAfter (header h) σ f list ids = noded h (nodes.importOf (setupFor list (σ .levels) h) σ f (h .next) ids)
+nodesAfter (refusal n line) σ f list ids =
+    record { answer = refusal n line; after = σ; roots = replicate (length ids) (pos 0) }
+
+-- is it a refusal?
+abbrev pub isRefusal : Answer → Bool
+isRefusal (header h) = false
+isRefusal (refusal n line) = true
+
+-- the end: 'On any refusal outputs are all zeros'
+unfoldable pub clearedIf : Bool → List ℕ → List ℕ
+clearedIf true l = replicate (length l) 0
+clearedIf false l = l

@@ -1,0 +1,156 @@
+// The public calls: load, evaluate and export, on one store.
+mod stages;
+
+ghost use mathlib.Core.Path.{_≡_};
+ghost use lib.ListN.{length, replicate};
+ghost use Rattle.store.specs.Store.{store};
+ghost use Rattle.store.specs.Evaluated.{ofEvaluation};
+ghost use Rattle.header.specs.Kinds.{ofLoaded};
+ghost use Rattle.export_header.specs.Tables.{lent};
+ghost use Rattle.exporter.specs.Settings.{ofSettings};
+ghost use Rattle.calls.specs.Load.{parts, lengthsOf, loadInto, partsOf, loadOf};
+ghost use Rattle.calls.specs.Calls.{evaluateOf, exportInto, Exports};
+use edges::Edge;
+use edges::Index;
+use exporter::ExportSettings;
+use exporter::Exported;
+use header::load::DumpHeader;
+use header::load::Loaded;
+use store::answers::Evaluation;
+
+// Loads a file into the store. `list` is the level list, one level of the store for each support variable. Beside the store are lent: the
+// lists of the header, that is `.ids`, the support order, `.permids`, `.auxids`, the variables' names as starts and lengths, the roots, the
+// roots' names as starts and lengths; and scratch for the nodes, `edges` and `seats`.
+pub fn load(
+    f: &[u8],
+    list: &[u16],
+    levels: u16,
+    count: &mut Index,
+    level: &mut [u16],
+    then: &mut [Edge],
+    els: &mut [Edge],
+    next: &mut [Index],
+    heads: &mut [Index],
+    ids: &mut [u32],
+    order: &mut [u32],
+    permids: &mut [u32],
+    auxids: &mut [u32],
+    names: &mut [u32],
+    lens: &mut [u32],
+    roots: &mut [Edge],
+    rootnames: &mut [u32],
+    rootlens: &mut [u32],
+    edges: &mut [Edge],
+    seats: &mut [u16],
+) -> Loaded
+    ensures { λ r. ⌜ ofLoaded r ≡ loadOf (loadInto (now (f .entry)) (now (list .entry)) (parts (now (ids .entry)) (now (order .entry)) (now (permids .entry)) (now (auxids .entry)) (now (names .entry)) (now (lens .entry)) (now (roots .entry)) (now (rootnames .entry)) (now (rootlens .entry)) (now (edges .entry)) (now (seats .entry)))) (store levels (now (count .entry)) (now (level .entry)) (now (then .entry)) (now (els .entry)) (now (next .entry)) (now (heads .entry))) .answer ⌝ }
+    ensures { λ _. ⌜ (store levels (now (count .exit)) (now (level .exit)) (now (then .exit)) (now (els .exit)) (now (next .exit)) (now (heads .exit))) ≡ loadOf (loadInto (now (f .entry)) (now (list .entry)) (parts (now (ids .entry)) (now (order .entry)) (now (permids .entry)) (now (auxids .entry)) (now (names .entry)) (now (lens .entry)) (now (roots .entry)) (now (rootnames .entry)) (now (rootlens .entry)) (now (edges .entry)) (now (seats .entry)))) (store levels (now (count .entry)) (now (level .entry)) (now (then .entry)) (now (els .entry)) (now (next .entry)) (now (heads .entry))) .after ⌝ }
+    ensures { λ _. ⌜ (parts (now (ids .exit)) (now (order .exit)) (now (permids .exit)) (now (auxids .exit)) (now (names .exit)) (now (lens .exit)) (now (roots .exit)) (now (rootnames .exit)) (now (rootlens .exit)) (now (edges .exit)) (now (seats .exit))) ≡ partsOf (lengthsOf (parts (now (ids .entry)) (now (order .entry)) (now (permids .entry)) (now (auxids .entry)) (now (names .entry)) (now (lens .entry)) (now (roots .entry)) (now (rootnames .entry)) (now (rootlens .entry)) (now (edges .entry)) (now (seats .entry)))) (loadOf (loadInto (now (f .entry)) (now (list .entry)) (parts (now (ids .entry)) (now (order .entry)) (now (permids .entry)) (now (auxids .entry)) (now (names .entry)) (now (lens .entry)) (now (roots .entry)) (now (rootnames .entry)) (now (rootlens .entry)) (now (edges .entry)) (now (seats .entry)))) (store levels (now (count .entry)) (now (level .entry)) (now (then .entry)) (now (els .entry)) (now (next .entry)) (now (heads .entry)))) ⌝ }
+{
+    let found = stages::store_fault(levels, *count, level, then, els, next, heads);
+    let read = DumpHeader::load(
+        f,
+        found,
+        ids,
+        order,
+        permids,
+        auxids,
+        names,
+        lens,
+        roots,
+        rootnames,
+        rootlens,
+    );
+    let ready = stages::check_levels(read, edges.len(), seats.len(), levels, list);
+    let answer = stages::load_nodes(
+        ready,
+        f,
+        levels,
+        list,
+        count,
+        level,
+        then,
+        els,
+        next,
+        heads,
+        roots,
+        edges,
+        seats,
+    );
+    stages::finish(
+        answer,
+        ids,
+        order,
+        permids,
+        auxids,
+        names,
+        lens,
+        rootnames,
+        rootlens,
+    );
+    answer
+}
+
+// What an edge of the store answers at a setting, one byte for each level.
+pub fn evaluate(
+    levels: u16,
+    count: Index,
+    level: &[u16],
+    then: &[Edge],
+    els: &[Edge],
+    next: &[Index],
+    heads: &[Index],
+    root: Edge,
+    setting: &[u8],
+) -> Evaluation
+    ensures { λ r. ⌜ ofEvaluation r ≡ evaluateOf root (now (setting .entry)) (store levels count (now (level .entry)) (now (then .entry)) (now (els .entry)) (now (next .entry)) (now (heads .entry))) ⌝ }
+{
+    store::answers::evaluate(levels, count, level, then, els, next, heads, root, setting)
+}
+
+// Exports the diagrams of roots of the store into `out`. `order` has each variable's level; `bytes` holds the names, `starts` and `lens`
+// the places of the variables', `rootstarts` and `rootlens` of the roots'. `slots` and `numbers` are marks, one for each node.
+pub fn export(
+    settings: ExportSettings,
+    levels: u16,
+    count: Index,
+    level: &[u16],
+    then: &[Edge],
+    els: &[Edge],
+    next: &[Index],
+    heads: &[Index],
+    roots: &[Edge],
+    order: &[u16],
+    bytes: &[u8],
+    starts: &[u32],
+    lens: &[u32],
+    rootstarts: &[u32],
+    rootlens: &[u32],
+    slots: &mut [Index],
+    numbers: &mut [Index],
+    out: &mut [u8],
+) -> Exported
+    ensures { λ r. ⌜ Exports (exportInto (ofSettings settings) (now (roots .entry)) (now (order .entry)) (lent (now (bytes .entry)) (now (starts .entry)) (now (lens .entry)) (now (rootstarts .entry)) (now (rootlens .entry)) (ofSettings settings .dd)) (length (now (slots .entry))) (length (now (numbers .entry))) (length (now (out .entry)))) (store levels count (now (level .entry)) (now (then .entry)) (now (els .entry)) (now (next .entry)) (now (heads .entry))) r (now (out .exit)) ⌝ }
+    ensures { λ _. ⌜ now (slots .exit) ≡ replicate (length (now (slots .entry))) 0 ⌝ }
+    ensures { λ _. ⌜ now (numbers .exit) ≡ replicate (length (now (numbers .entry))) 0 ⌝ }
+{
+    settings.export(
+        levels,
+        count,
+        level,
+        then,
+        els,
+        next,
+        heads,
+        roots,
+        order,
+        bytes,
+        starts,
+        lens,
+        rootstarts,
+        rootlens,
+        slots,
+        numbers,
+        out,
+    )
+}

@@ -1,0 +1,189 @@
+// The stages of a load after the lists that it is lent, in document 01's order. Each takes the answer so far and hands a refusal on, so
+// that a further check is a further stage. `DumpHeader::load` has the first ones: lists, the store's fault, length, header.
+ghost use mathlib.Core.Path.{_≡_};
+ghost use mathlib.Core.Bool.{not};
+ghost use lib.Dec.{eqb};
+ghost use lib.IntN.{pos};
+ghost use lib.ListN.{length, replicate};
+ghost use Rattle.store.specs.Store.{store};
+ghost use Rattle.values.specs.Kinds.{ofVarInfo};
+ghost use Rattle.header.specs.Kinds.{ofHeader, ofLoaded};
+ghost use Rattle.import.specs.Kinds.{ofImported};
+ghost use Rattle.calls.specs.Load.{storeFault};
+ghost use Rattle.dddmp.specs.Stages.{checked, Readable, withNodes, nodesAfter, isRefusal, clearedIf};
+use codes::VarInfo;
+use codes::refusal;
+use edges::Edge;
+use edges::Index;
+use header::load::DumpHeader;
+use header::load::Loaded;
+use import::Imported;
+
+// The store: 3 where it breaks its rules, else 0.
+pub fn store_fault(
+    levels: u16,
+    count: Index,
+    level: &[u16],
+    then: &[Edge],
+    els: &[Edge],
+    next: &[Index],
+    heads: &[Index],
+) -> u8
+    ensures { λ r. ⌜ r ≡ storeFault (store levels count (now (level .entry)) (now (then .entry)) (now (els .entry)) (now (next .entry)) (now (heads .entry))) ⌝ }
+{
+    if store::rules::keeps_rules(levels, count, level, then, els, next, heads) {
+        return 0;
+    }
+    refusal::BROKEN_STORE
+}
+
+// Scratch, by the lengths of its two lists, and the level list.
+pub fn check_levels(read: Loaded, edges: usize, seats: usize, levels: u16, list: &[u16]) -> Loaded
+    ensures { λ r. ⌜ ofLoaded r ≡ checked edges seats levels (now (list .entry)) (ofLoaded read) ⌝ }
+{
+    match read {
+        Loaded::Header(h) => {
+            let refused = import::list::before_nodes(
+                h.nnodes,
+                edges,
+                seats,
+                list,
+                h.nsuppvars,
+                levels,
+            );
+            if refused != 0 {
+                return Loaded::Refused(refused, 0);
+            }
+            Loaded::Header(h)
+        }
+        Loaded::Refused(n, line) => Loaded::Refused(n, line),
+    }
+}
+
+// Do node lines have an extra word?
+fn has_extra(v: VarInfo) -> bool
+    ensures { λ r. ⌜ r ≡ not (eqb (ofVarInfo v) 4) ⌝ }
+{
+    match v {
+        VarInfo::VariableID => true,
+        VarInfo::PermutationID => true,
+        VarInfo::AuxiliaryID => true,
+        VarInfo::VariableName => true,
+        VarInfo::None => false,
+    }
+}
+
+// The header, where its nodes are read.
+fn with_nodes(h: DumpHeader, nodes: Imported) -> Loaded
+    ensures { λ r. ⌜ ofLoaded r ≡ withNodes (ofHeader h) (ofImported nodes) ⌝ }
+{
+    match nodes {
+        Imported::Nodes(_) => Loaded::Header(h),
+        Imported::Refused(k, line) => Loaded::Refused(k, line),
+    }
+}
+
+// The nodes and `.end`. The edges of the roots take the place of their numbers, or zeros; the scratch ends as zeros.
+pub fn load_nodes(
+    ready: Loaded,
+    f: &[u8],
+    levels: u16,
+    list: &[u16],
+    count: &mut Index,
+    level: &mut [u16],
+    then: &mut [Edge],
+    els: &mut [Edge],
+    next: &mut [Index],
+    heads: &mut [Index],
+    roots: &mut [Edge],
+    edges: &mut [Edge],
+    seats: &mut [u16],
+) -> Loaded
+    requires { ⌜ Readable (ofLoaded ready) (store levels (now count) (now level) (now then) (now els) (now next) (now heads)) (now list) (length (now edges)) (length (now seats)) ⌝ }
+    ensures { λ r. ⌜ ofLoaded r ≡ nodesAfter (ofLoaded ready) (store levels (now (count .entry)) (now (level .entry)) (now (then .entry)) (now (els .entry)) (now (next .entry)) (now (heads .entry))) (now (f .entry)) (now (list .entry)) (now (roots .entry)) .answer ⌝ }
+    ensures { λ _. ⌜ store levels (now (count .exit)) (now (level .exit)) (now (then .exit)) (now (els .exit)) (now (next .exit)) (now (heads .exit)) ≡ nodesAfter (ofLoaded ready) (store levels (now (count .entry)) (now (level .entry)) (now (then .entry)) (now (els .entry)) (now (next .entry)) (now (heads .entry))) (now (f .entry)) (now (list .entry)) (now (roots .entry)) .after ⌝ }
+    ensures { λ _. ⌜ now (roots .exit) ≡ nodesAfter (ofLoaded ready) (store levels (now (count .entry)) (now (level .entry)) (now (then .entry)) (now (els .entry)) (now (next .entry)) (now (heads .entry))) (now (f .entry)) (now (list .entry)) (now (roots .entry)) .roots ⌝ }
+    ensures { λ _. ⌜ now (edges .exit) ≡ replicate (length (now (edges .entry))) (pos 0) ⌝ }
+    ensures { λ _. ⌜ now (seats .exit) ≡ replicate (length (now (seats .entry))) 0 ⌝ }
+{
+    match ready {
+        Loaded::Header(h) => {
+            let varinfo = h.varinfo;
+            let nodes = import::import(
+                f,
+                h.next,
+                h.ascii,
+                has_extra(varinfo),
+                h.nnodes as Index,
+                h.lines,
+                list,
+                levels,
+                count,
+                level,
+                then,
+                els,
+                next,
+                heads,
+                edges,
+                seats,
+                roots,
+            );
+            with_nodes(h, nodes)
+        }
+        Loaded::Refused(n, line) => {
+            import::clear_edges(roots);
+            import::clear_edges(edges);
+            import::clear_seats(seats);
+            Loaded::Refused(n, line)
+        }
+    }
+}
+
+fn is_refusal(answer: Loaded) -> bool
+    ensures { λ r. ⌜ r ≡ isRefusal (ofLoaded answer) ⌝ }
+{
+    match answer {
+        Loaded::Header(_) => false,
+        Loaded::Refused(_, _) => true,
+    }
+}
+
+fn clear_if(refused: bool, dst: &mut [u32])
+    ensures { λ _. ⌜ now (dst .exit) ≡ clearedIf refused (now (dst .entry)) ⌝ }
+{
+    if refused {
+        values::clear(dst);
+    }
+}
+
+// The end: zeros in the lists of a load that is refused.
+pub fn finish(
+    answer: Loaded,
+    ids: &mut [u32],
+    order: &mut [u32],
+    permids: &mut [u32],
+    auxids: &mut [u32],
+    names: &mut [u32],
+    lens: &mut [u32],
+    rootnames: &mut [u32],
+    rootlens: &mut [u32],
+)
+    ensures { λ _. ⌜ now (ids .exit) ≡ clearedIf (isRefusal (ofLoaded answer)) (now (ids .entry)) ⌝ }
+    ensures { λ _. ⌜ now (order .exit) ≡ clearedIf (isRefusal (ofLoaded answer)) (now (order .entry)) ⌝ }
+    ensures { λ _. ⌜ now (permids .exit) ≡ clearedIf (isRefusal (ofLoaded answer)) (now (permids .entry)) ⌝ }
+    ensures { λ _. ⌜ now (auxids .exit) ≡ clearedIf (isRefusal (ofLoaded answer)) (now (auxids .entry)) ⌝ }
+    ensures { λ _. ⌜ now (names .exit) ≡ clearedIf (isRefusal (ofLoaded answer)) (now (names .entry)) ⌝ }
+    ensures { λ _. ⌜ now (lens .exit) ≡ clearedIf (isRefusal (ofLoaded answer)) (now (lens .entry)) ⌝ }
+    ensures { λ _. ⌜ now (rootnames .exit) ≡ clearedIf (isRefusal (ofLoaded answer)) (now (rootnames .entry)) ⌝ }
+    ensures { λ _. ⌜ now (rootlens .exit) ≡ clearedIf (isRefusal (ofLoaded answer)) (now (rootlens .entry)) ⌝ }
+{
+    let refused = is_refusal(answer);
+    clear_if(refused, ids);
+    clear_if(refused, order);
+    clear_if(refused, permids);
+    clear_if(refused, auxids);
+    clear_if(refused, names);
+    clear_if(refused, lens);
+    clear_if(refused, rootnames);
+    clear_if(refused, rootlens);
+}

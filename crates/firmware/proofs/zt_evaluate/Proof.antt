@@ -1,0 +1,20 @@
+-- `zt_evaluate` meets its contract: it hands everything on, and gives the answer in C's form.
+use mir.Facts.{toZ-ofZ}
+use Rattle.firmware.proofs.zt_evaluate.Statement.{statement}
+use Rattle.firmware.proofs.zt_evaluate.Tie as tie
+
+-- the function's entry, seen from its return
+abbrev start : tie.After-evaluate-answer → tie.Start
+start c = c .before .before .before .before .before .before
+
+evaluate-requires : tie.Need-evaluate-requires
+evaluate-requires c κs = tt
+
+evaluate-answer-requires : tie.Need-evaluate-answer-requires
+evaluate-answer-requires c κs = tt
+
+returns : tie.Need-returns
+returns c = rw (c .evaluate-answer .ensures, c .before .evaluate .ensures, toZ-ofZ (start c .fits .root))
+
+pub zt-evaluate-spec : {M : Type 1} → statement M
+zt-evaluate-spec = tie.close (tie.spec evaluate-requires evaluate-answer-requires returns)

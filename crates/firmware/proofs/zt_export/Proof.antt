@@ -1,0 +1,50 @@
+-- `zt_export` meets its contract: the export is that of the settings that the bytes stand for.
+use Rattle.firmware.proofs.Exported.{exported-as}
+use Rattle.firmware.proofs.zt_export.Statement.{statement}
+use Rattle.firmware.proofs.zt_export.Tie as tie
+
+-- the export, seen from the return
+abbrev exporting : tie.After-export-answer → tie.After-export
+exporting c = c .before .before .before .before .before .before .before
+
+-- the settings, seen from the return
+abbrev setting : tie.After-export-answer → tie.After-settings-of
+setting c = c .before .before .before .before .before .before .before .before .before .before .before
+
+settings-of-requires : tie.Need-settings-of-requires
+settings-of-requires c κs = tt
+
+export-requires : tie.Need-export-requires
+export-requires c κs = tt
+
+export-answer-requires : tie.Need-export-answer-requires
+export-answer-requires c κs = tt
+
+-- no list that is lent changes its length
+same-length : tie.Need-same-length
+same-length c = exporting c .export .kept .1 .1 .1 .1 .1 .1 .1 .1 .1 .1 .1 .1 .1 .1 .1 .0
+
+same-length-2 : tie.Need-same-length-2
+same-length-2 c = exporting c .export .kept .1 .1 .1 .1 .1 .1 .1 .1 .1 .1 .1 .1 .1 .1 .1 .1 .0
+
+same-length-3 : tie.Need-same-length-3
+same-length-3 c = exporting c .export .kept .1 .1 .1 .1 .1 .1 .1 .1 .1 .1 .1 .1 .1 .1 .1 .1 .1 .0
+
+returns : tie.Need-returns
+returns c = (
+  exported-as (setting c .settings-of .result) (exporting c .export .result) (setting c .settings-of .ensures)
+      (exporting c .export .ensures .0) (c .export-answer .ensures),
+  exporting c .export .ensures .1,
+)
+
+pub zt-export-spec : {M : Type 1} → statement M
+zt-export-spec =
+    tie.close
+    (tie.spec
+    settings-of-requires
+    export-requires
+    export-answer-requires
+    same-length
+    same-length-2
+    same-length-3
+    returns)

@@ -1,0 +1,296 @@
+// The public calls for C: `include/zonetweed.h` declares and explains them. A slice is a pointer and then a length.
+ghost use mathlib.Core.Path.{_≡_};
+ghost use mathlib.Core.Bool.{not};
+ghost use lib.Dec.{eqb};
+ghost use lib.ListN.{length, replicate};
+ghost use Rattle.store.specs.Store.{store};
+ghost use Rattle.store.specs.Evaluated.{ofEvaluation};
+ghost use Rattle.values.specs.Kinds.{ofVarInfo};
+ghost use Rattle.header.specs.Kinds.{ofLoaded};
+ghost use Rattle.readers.specs.Text.{place};
+ghost use Rattle.export_header.specs.Tables.{lent};
+ghost use Rattle.exporter.specs.Settings.{ofSettings};
+ghost use Rattle.exporter.specs.Promise.{ofExported};
+ghost use Rattle.calls.specs.Load.{parts, lengthsOf, loadInto, partsOf, loadOf};
+ghost use Rattle.calls.specs.Calls.{evaluateOf, exportInto};
+ghost use Rattle.calls.specs.Evaluating.{byteOf};
+ghost use Rattle.firmware.specs.Answers.{ofAnswer, ofEvaluated, ofLength, Exporting};
+ghost use Rattle.firmware.specs.Settings.{versionOf, settingsOf};
+use codes::DDDMPVersion;
+use codes::VarInfo;
+use edges::Edge;
+use edges::Index;
+use exporter::ExportSettings;
+use exporter::Exported;
+use header::load::Loaded;
+use store::answers::Evaluation;
+
+// The answer of a load: the number of a refusal, 0 of none, and its line; then the numbers of the header, zeros on a refusal.
+#[repr(C)]
+pub struct LoadAnswer {
+    pub refusal: u8,
+    pub line: usize,
+    pub ascii: u8,
+    pub varinfo: u8,
+    pub ddstart: u32,
+    pub ddlen: u32,
+    pub nnodes: u64,
+    pub nvars: u32,
+    pub nsuppvars: u32,
+    pub nroots: u64,
+    pub next: usize,
+    pub lines: usize,
+}
+
+// The answer of an evaluation: 1 for yes, 0 for no or on a refusal. The line is always 0.
+#[repr(C)]
+pub struct EvaluateAnswer {
+    pub refusal: u8,
+    pub line: usize,
+    pub answer: u8,
+}
+
+// The answer of an export: the length of the file, 0 on a refusal. The line is always 0.
+#[repr(C)]
+pub struct ExportAnswer {
+    pub refusal: u8,
+    pub line: usize,
+    pub len: usize,
+}
+
+// 1 for yes, 0 for no.
+fn byte_of(b: bool) -> u8
+    ensures { λ r. ⌜ r ≡ byteOf b ⌝ }
+{
+    if b { 1 } else { 0 }
+}
+
+// The value of `.varinfo`.
+fn varinfo_of(v: VarInfo) -> u8
+    ensures { λ r. ⌜ r ≡ ofVarInfo v ⌝ }
+{
+    match v {
+        VarInfo::VariableID => 0,
+        VarInfo::PermutationID => 1,
+        VarInfo::AuxiliaryID => 2,
+        VarInfo::VariableName => 3,
+        VarInfo::None => 4,
+    }
+}
+
+fn load_answer(loaded: Loaded) -> LoadAnswer
+    ensures { λ r. ⌜ r ≡ ofAnswer (ofLoaded loaded) ⌝ }
+{
+    match loaded {
+        Loaded::Header(h) => {
+            let varinfo = h.varinfo;
+            let dd = h.dd;
+            LoadAnswer {
+                refusal: 0,
+                line: 0,
+                ascii: byte_of(h.ascii),
+                varinfo: varinfo_of(varinfo),
+                ddstart: dd.start,
+                ddlen: dd.len,
+                nnodes: h.nnodes,
+                nvars: h.nvars,
+                nsuppvars: h.nsuppvars,
+                nroots: h.nroots,
+                next: h.next,
+                lines: h.lines,
+            }
+        }
+        Loaded::Refused(n, line) => LoadAnswer {
+            refusal: n,
+            line: line,
+            ascii: 0,
+            varinfo: 0,
+            ddstart: 0,
+            ddlen: 0,
+            nnodes: 0,
+            nvars: 0,
+            nsuppvars: 0,
+            nroots: 0,
+            next: 0,
+            lines: 0,
+        },
+    }
+}
+
+fn evaluate_answer(evaluation: Evaluation) -> EvaluateAnswer
+    ensures { λ r. ⌜ r ≡ ofEvaluated (ofEvaluation evaluation) ⌝ }
+{
+    match evaluation {
+        Evaluation::Answer(yes) => EvaluateAnswer {
+            refusal: 0,
+            line: 0,
+            answer: byte_of(yes),
+        },
+        Evaluation::Refused(n) => EvaluateAnswer {
+            refusal: n,
+            line: 0,
+            answer: 0,
+        },
+    }
+}
+
+fn export_answer(exported: Exported) -> ExportAnswer
+    ensures { λ r. ⌜ r ≡ ofLength (ofExported exported) ⌝ }
+{
+    match exported {
+        Exported::Written(n) => ExportAnswer {
+            refusal: 0,
+            line: 0,
+            len: n,
+        },
+        Exported::Refused(n) => ExportAnswer {
+            refusal: n,
+            line: 0,
+            len: 0,
+        },
+    }
+}
+
+// The version: a byte that isn't 0 stands for 3.0.
+fn version_of(version: u8) -> DDDMPVersion
+    ensures { λ r. ⌜ r ≡ versionOf version ⌝ }
+{
+    if version == 0 {
+        return DDDMPVersion::V2_0;
+    }
+    DDDMPVersion::V3_0
+}
+
+// The settings: a byte that isn't 0 stands for version 3.0, and for text.
+fn settings_of(version: u8, text: u8, ddstart: u32, ddlen: u32) -> ExportSettings
+    ensures { λ r. ⌜ ofSettings r ≡ settingsOf version text ddstart ddlen ⌝ }
+{
+    let named = ExportSettings::default().diagram_name(ddstart, ddlen);
+    let settings = named.version(version_of(version));
+    if text == 0 {
+        return settings.binary();
+    }
+    settings.ascii()
+}
+
+// Loads a file into the store.
+#[no_mangle]
+pub extern "C" fn zt_load(
+    file: &[u8],
+    list: &[u16],
+    levels: u16,
+    count: &mut Index,
+    level: &mut [u16],
+    then: &mut [Edge],
+    els: &mut [Edge],
+    next: &mut [Index],
+    heads: &mut [Index],
+    ids: &mut [u32],
+    order: &mut [u32],
+    permids: &mut [u32],
+    auxids: &mut [u32],
+    names: &mut [u32],
+    lens: &mut [u32],
+    roots: &mut [Edge],
+    rootnames: &mut [u32],
+    rootlens: &mut [u32],
+    edges: &mut [Edge],
+    seats: &mut [u16],
+) -> LoadAnswer
+    ensures { λ r. ⌜ r ≡ ofAnswer (loadOf (loadInto (now (file .entry)) (now (list .entry)) (parts (now (ids .entry)) (now (order .entry)) (now (permids .entry)) (now (auxids .entry)) (now (names .entry)) (now (lens .entry)) (now (roots .entry)) (now (rootnames .entry)) (now (rootlens .entry)) (now (edges .entry)) (now (seats .entry)))) (store levels (now (count .entry)) (now (level .entry)) (now (then .entry)) (now (els .entry)) (now (next .entry)) (now (heads .entry))) .answer) ⌝ }
+    ensures { λ _. ⌜ (store levels (now (count .exit)) (now (level .exit)) (now (then .exit)) (now (els .exit)) (now (next .exit)) (now (heads .exit))) ≡ loadOf (loadInto (now (file .entry)) (now (list .entry)) (parts (now (ids .entry)) (now (order .entry)) (now (permids .entry)) (now (auxids .entry)) (now (names .entry)) (now (lens .entry)) (now (roots .entry)) (now (rootnames .entry)) (now (rootlens .entry)) (now (edges .entry)) (now (seats .entry)))) (store levels (now (count .entry)) (now (level .entry)) (now (then .entry)) (now (els .entry)) (now (next .entry)) (now (heads .entry))) .after ⌝ }
+    ensures { λ _. ⌜ (parts (now (ids .exit)) (now (order .exit)) (now (permids .exit)) (now (auxids .exit)) (now (names .exit)) (now (lens .exit)) (now (roots .exit)) (now (rootnames .exit)) (now (rootlens .exit)) (now (edges .exit)) (now (seats .exit))) ≡ partsOf (lengthsOf (parts (now (ids .entry)) (now (order .entry)) (now (permids .entry)) (now (auxids .entry)) (now (names .entry)) (now (lens .entry)) (now (roots .entry)) (now (rootnames .entry)) (now (rootlens .entry)) (now (edges .entry)) (now (seats .entry)))) (loadOf (loadInto (now (file .entry)) (now (list .entry)) (parts (now (ids .entry)) (now (order .entry)) (now (permids .entry)) (now (auxids .entry)) (now (names .entry)) (now (lens .entry)) (now (roots .entry)) (now (rootnames .entry)) (now (rootlens .entry)) (now (edges .entry)) (now (seats .entry)))) (store levels (now (count .entry)) (now (level .entry)) (now (then .entry)) (now (els .entry)) (now (next .entry)) (now (heads .entry)))) ⌝ }
+{
+    load_answer(dddmp::load(
+        file,
+        list,
+        levels,
+        count,
+        level,
+        then,
+        els,
+        next,
+        heads,
+        ids,
+        order,
+        permids,
+        auxids,
+        names,
+        lens,
+        roots,
+        rootnames,
+        rootlens,
+        edges,
+        seats,
+    ))
+}
+
+// What an edge of the store answers at a setting.
+#[no_mangle]
+pub extern "C" fn zt_evaluate(
+    levels: u16,
+    count: Index,
+    level: &[u16],
+    then: &[Edge],
+    els: &[Edge],
+    next: &[Index],
+    heads: &[Index],
+    root: Edge,
+    setting: &[u8],
+) -> EvaluateAnswer
+    ensures { λ r. ⌜ r ≡ ofEvaluated (evaluateOf root (now (setting .entry)) (store levels count (now (level .entry)) (now (then .entry)) (now (els .entry)) (now (next .entry)) (now (heads .entry)))) ⌝ }
+{
+    evaluate_answer(dddmp::evaluate(levels, count, level, then, els, next, heads, root, setting))
+}
+
+// Exports the diagrams of roots of the store.
+#[no_mangle]
+pub extern "C" fn zt_export(
+    version: u8,
+    text: u8,
+    ddstart: u32,
+    ddlen: u32,
+    levels: u16,
+    count: Index,
+    level: &[u16],
+    then: &[Edge],
+    els: &[Edge],
+    next: &[Index],
+    heads: &[Index],
+    roots: &[Edge],
+    order: &[u16],
+    bytes: &[u8],
+    starts: &[u32],
+    lens: &[u32],
+    rootstarts: &[u32],
+    rootlens: &[u32],
+    slots: &mut [Index],
+    numbers: &mut [Index],
+    out: &mut [u8],
+) -> ExportAnswer
+    ensures { λ r. ⌜ Exporting (exportInto (settingsOf version text ddstart ddlen) (now (roots .entry)) (now (order .entry)) (lent (now (bytes .entry)) (now (starts .entry)) (now (lens .entry)) (now (rootstarts .entry)) (now (rootlens .entry)) (place ddstart ddlen)) (length (now (slots .entry))) (length (now (numbers .entry))) (length (now (out .entry)))) (store levels count (now (level .entry)) (now (then .entry)) (now (els .entry)) (now (next .entry)) (now (heads .entry))) r (now (out .exit)) ⌝ }
+    ensures { λ _. ⌜ now (slots .exit) ≡ replicate (length (now (slots .entry))) 0 ⌝ }
+    ensures { λ _. ⌜ now (numbers .exit) ≡ replicate (length (now (numbers .entry))) 0 ⌝ }
+{
+    let settings = settings_of(version, text, ddstart, ddlen);
+    export_answer(dddmp::export(
+        settings,
+        levels,
+        count,
+        level,
+        then,
+        els,
+        next,
+        heads,
+        roots,
+        order,
+        bytes,
+        starts,
+        lens,
+        rootstarts,
+        rootlens,
+        slots,
+        numbers,
+        out,
+    ))
+}

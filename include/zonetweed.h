@@ -1,0 +1,306 @@
+/*
+ * Zonetweed: loads DDDMP files of decision diagrams into a store, evaluates their roots and exports files.
+ *
+ * The three calls are proved against the definitions of the repository: for every content of the parts that it is lent, a call gives the
+ * answer, and leaves in each part the content, that are stated there. What the caller owes is not proved, and is listed under 'Parts'.
+ *
+ * Words
+ *   part      memory that the caller lends for the time of a call: a pointer, then a length, counted in entries and not in bytes.
+ *   level     a place in the order of a diagram, counted from 0. A store has a fixed number of them.
+ *   edge      a signed number: its magnitude names a node of the store, counted from 1, and a minus turns the node's answer over.
+ *             Node 1 answers yes at every setting.
+ *   root      an edge that a load gave. It stays valid, with the same answers, as long as the store is only changed by loads.
+ *   setting   one byte for each level: 1 for yes, 0 for no.
+ *   place     where a name stands: its start and its length in bytes. In a load's lists a start counts from the first byte of the file, and
+ *             a name that there isn't is start 0, length 0.
+ *
+ * Parts
+ *   - A pointer is valid for as many entries as its length says, and aligned as its type asks. An empty part, of length 0, may have a null
+ *     pointer. The pointer `count` of a load is never null.
+ *   - No part that a call writes may overlap another part that the same call is lent. Parts that are only read may overlap each other.
+ *     A pointer to const is only read; every other part is written.
+ *   - A part may be longer than it has to be. What isn't used of a part that is written is zeros afterwards, but for the store's.
+ *   - A part that is written need not be cleared before the call, but for the store's.
+ *
+ * Store
+ *   A store is its level count `levels`, its node count `count`, four slot lists of equal length, `level`, `then`, `els` and `next`, and
+ *   the list `heads` of ZT_BUCKETS entries. Entry n - 1 of the slot lists is node n. The caller keeps all of them from call to call, and
+ *   changes none. An empty store is made by the caller's zeros: all entries of the five lists 0, count 1, and any level count up to
+ *   ZT_MOST_LEVELS, which stays as it is for the store's whole life. One slot is the least, since node 1 has one. Every call checks that
+ *   the store keeps its rules before it uses it, and answers ZT_BROKEN_STORE where it doesn't; no content of a store makes a call read or
+ *   write outside its parts.
+ *
+ * Refusals
+ *   Every answer starts with the number of a refusal, 0 for none, and a line, counted from 1 at the top of the file, or 0 where no line is
+ *   given. On any refusal all outputs are zeros, scratch and marks are zeros, and the store is as it was.
+ *
+ * Threads
+ *   There is no state beside the parts. Calls at the same time are independent of each other where none writes a part that another is lent:
+ *   calls on different stores always are, and so are evaluations and exports of one store while no load changes it.
+ *
+ * Stack
+ *   The library takes no memory but the stack's. A load takes about 170 KB of it; an evaluation about 1 KB and 80 bytes for each level that
+ *   the root leads down, up to 330 KB; an export about 25 KB and 160 bytes for each such level, up to 680 KB. These were measured on x86-64,
+ *   and are not proved.
+ */
+#ifndef ZONETWEED_H
+#define ZONETWEED_H
+
+#include <stddef.h>
+#include <stdint.h>
+
+#ifdef __cplusplus
+extern "C" {
+#endif
+
+/* Lengths and limits. A value at a limit passes. */
+#define ZT_VARIABLE_ENTRIES 4096 /* the least length of each variable list of a load, and the most variables of a file */
+#define ZT_ROOT_ENTRIES 1024     /* the least length of each root list of a load, and the most roots of a file */
+#define ZT_BUCKETS 256           /* the length of the list of bucket heads */
+#define ZT_MOST_LEVELS 4096      /* levels of a store */
+#define ZT_MOST_NODES 32767      /* nodes of a file, and of a store */
+#define ZT_MOST_ROOTS 1024       /* roots of an export */
+#define ZT_MOST_INPUT 16777216   /* bytes of a file that is loaded */
+#define ZT_MOST_NAME 255         /* bytes of a name that is exported */
+
+/* An edge, and the number of a node. */
+typedef int16_t zt_edge;
+typedef uint16_t zt_index;
+
+/* The numbers of the refusals, by who can cause them. 0 stands for no refusal. */
+enum zt_refusal {
+    /* the calling program; the line is 0 */
+    ZT_TOO_SHORT = 1,           /* a lent part is too short */
+    ZT_BAD_LEVELS = 2,          /* the level list isn't one level per support variable, strictly ascending, below the level count */
+    ZT_BROKEN_STORE = 3,        /* the store breaks its rules */
+    ZT_BAD_ROOT_OR_SETTING = 4, /* a root is 0 or beyond the count, over 1,024 roots, or a setting isn't one byte 0 or 1 per level */
+    ZT_BAD_NAME = 5,            /* a name list has neither no entry nor one per variable or root, or a name is unfit (see zt_export) */
+    ZT_BAD_ORDER = 6,           /* the variable order isn't a permutation of the levels */
+
+    /* the file's writer, line by line; with the line, but for 10 */
+    ZT_NO_NODES = 10,        /* the input ends before `.nodes`; line 0 */
+    ZT_UNKNOWN_KEY = 11,     /* unknown key */
+    ZT_BAD_VERSION = 12,     /* a version other than DDDMP-2.0 or DDDMP-3.0 */
+    ZT_BAD_MODE = 13,        /* unknown value of `.mode` or `.varinfo` */
+    ZT_NOT_A_NUMBER = 14,    /* a single number has a foreign character or no digit */
+    ZT_TOO_LARGE = 15,       /* a number is too large */
+    ZT_FOREIGN = 16,         /* a list has a foreign character */
+    ZT_MISPLACED_MINUS = 17, /* a second minus, or a minus after a digit */
+    ZT_NOT_UTF8 = 18,        /* a name or the `.dd` value isn't UTF-8 */
+    ZT_OVER_LIMIT = 19,      /* over a limit; line 0 for `.nvars`, `.nnodes` and the input's length */
+
+    /* the file's writer, header as a whole; the line is 0 */
+    ZT_OVER_NVARS = 20,       /* `.nsuppvars` is above `.nvars` */
+    ZT_WRONG_COUNT = 21,      /* a list of the header has the wrong number of entries */
+    ZT_BAD_IDS = 22,          /* `.ids` isn't strictly ascending, or its last entry isn't below `.nvars` */
+    ZT_BAD_PERMIDS = 23,      /* a permid isn't below `.nvars`, or stands twice */
+    ZT_UNLIKE_NAMES = 24,     /* two lists give a support variable unlike names */
+    ZT_ZERO_ROOT = 25,        /* a root is 0 */
+    ZT_ROOT_OVER_NNODES = 26, /* a root's magnitude is above `.nnodes` */
+
+    /* the file's writer, nodes; with the line in text but for 30 and 39, line 0 in binary. 14 to 17 stand for text nodes too. */
+    ZT_ENDS_EARLY = 30,   /* the nodes end early; line 0 */
+    ZT_WRONG_NODE = 31,   /* not the expected node number */
+    ZT_BAD_LINE = 32,     /* a missing blank, or not two children */
+    ZT_BAD_TERMINAL = 33, /* a terminal is described by other than `T` */
+    ZT_BAD_VARIABLE = 34, /* a variable is out of range */
+    ZT_BAD_CHILD = 35,    /* a child is 0 (binary), or not below its node */
+    ZT_BAD_LEVEL = 36,    /* a level isn't above both children's */
+    ZT_BAD_ESCAPE = 37,   /* bad escape (binary) */
+    ZT_OVER_64_BITS = 38, /* a binary number is over 64 bits */
+    ZT_NO_END = 39,       /* no `.end`, or something after it other than space, tab, LF, FF and CR; line 0 */
+
+    /* whoever filled the store; the line is 0 */
+    ZT_NO_ROOM = 40 /* a line needs a new node, and every slot that was lent, or 32,767, is used */
+};
+
+/* The answer of a load. From `ascii` on it has the numbers of the file's header; on a refusal they are zeros. */
+struct zt_load_answer {
+    uint8_t refusal;    /* the number of the refusal, 0 for none */
+    size_t line;        /* its line, or 0 */
+    uint8_t ascii;      /* 1 where the nodes are text (`.mode A`), 0 where they are binary */
+    uint8_t varinfo;    /* the value of `.varinfo`, 0 to 4 */
+    uint32_t ddstart;   /* the place of the diagram's name (`.dd`) in the file: start .. */
+    uint32_t ddlen;     /* .. and length */
+    uint64_t nnodes;    /* node lines */
+    uint32_t nvars;     /* variables */
+    uint32_t nsuppvars; /* support variables */
+    uint64_t nroots;    /* roots */
+    size_t next;        /* the position after `.nodes`' line, where the nodes start */
+    size_t lines;       /* how many lines the header has, `.nodes`' line included */
+};
+
+/* The answer of an evaluation. */
+struct zt_evaluate_answer {
+    uint8_t refusal; /* the number of the refusal, 0 for none */
+    size_t line;     /* always 0 */
+    uint8_t answer;  /* 1 for yes, 0 for no; 0 on a refusal */
+};
+
+/* The answer of an export. */
+struct zt_export_answer {
+    uint8_t refusal; /* the number of the refusal, 0 for none */
+    size_t line;     /* always 0 */
+    size_t len;      /* how many bytes of `out` are the file; 0 on a refusal */
+};
+
+/*
+ * Loads a file into a store.
+ *
+ * Read
+ *   file       the file's bytes, text or binary
+ *   list       the level list: entry i is the store's level of the file's i-th support variable, where support variables are counted from 0
+ *              in the order of ascending permid. One entry for each support variable, strictly ascending, each below `levels`.
+ *
+ * The store: `levels` by value, `count`, `level`, `then`, `els`, `next`, `heads`. See 'Store' above.
+ *
+ * Outputs, with their least lengths. v counts variables, i support variables in the order of `.ids`, r roots.
+ *   ids        ZT_VARIABLE_ENTRIES   ids[i] is an entry of `.ids`
+ *   order      ZT_VARIABLE_ENTRIES   the support order: the entries of `.ids`, arranged by ascending permid
+ *   permids    ZT_VARIABLE_ENTRIES   permids[i] is an entry of `.permids`
+ *   auxids     ZT_VARIABLE_ENTRIES   auxids[i] is an entry of `.auxids`, where the file has any
+ *   names      ZT_VARIABLE_ENTRIES   names[v] and lens[v] are the place of a variable's name in the file: start ..
+ *   lens       ZT_VARIABLE_ENTRIES   .. and length
+ *   roots      ZT_ROOT_ENTRIES       roots[r] is the root, an edge of the store, at an entry of `.rootids`
+ *   rootnames  ZT_ROOT_ENTRIES       rootnames[r] and rootlens[r] are the place of a root's name in the file: start ..
+ *   rootlens   ZT_ROOT_ENTRIES       .. and length
+ *
+ * Scratch
+ *   edges      as many entries as the file has node lines (`.nnodes`). ZT_MOST_NODES is enough for every file.
+ *   seats      likewise
+ *
+ * Refusals, in the order in which they are judged
+ *   ZT_TOO_SHORT      a variable list or a root list is too short
+ *   ZT_BROKEN_STORE
+ *   ZT_OVER_LIMIT     the file is longer than ZT_MOST_INPUT
+ *   10 to 19          the first fault of the header's lines, with its line (0 for ZT_NO_NODES)
+ *   19 to 26          the header as a whole: ZT_OVER_LIMIT for `.nvars`, then for `.nnodes`; ZT_OVER_NVARS; ZT_WRONG_COUNT for `.ids`,
+ *                     `.permids`, `.auxids`; ZT_BAD_IDS; ZT_BAD_PERMIDS; ZT_WRONG_COUNT for `.orderedvarnames`, `.suppvarnames`,
+ *                     `.varnames`; ZT_UNLIKE_NAMES; ZT_WRONG_COUNT for `.rootids`; for each root ZT_ZERO_ROOT, then ZT_ROOT_OVER_NNODES;
+ *                     ZT_WRONG_COUNT for `.rootnames`
+ *   ZT_TOO_SHORT      scratch is too short
+ *   ZT_BAD_LEVELS
+ *   14 to 17, 30 to 38, 40   the first fault of the node lines, ZT_NO_ROOM taking its turn among them
+ *   ZT_NO_END
+ *
+ * Afterwards, on success: the answer has the header's numbers. The outputs hold their entries and then zeros. Scratch is zeros. The store
+ * has the nodes that the file's lines need beside all those that it had, whose numbers and answers are the same as before. A node that was
+ * there is used again, so that two roots with the same answer at every setting are the same number. `count` has grown by the new nodes.
+ *
+ * Afterwards, on a refusal: the answer's numbers, the outputs and scratch are zeros, also those parts that were long enough under
+ * ZT_TOO_SHORT. `count` and the five lists of the store are as they were.
+ */
+struct zt_load_answer zt_load(
+    const uint8_t *file, size_t file_len,
+    const uint16_t *list, size_t list_len,
+    uint16_t levels,
+    zt_index *count,
+    uint16_t *level, size_t level_len,
+    zt_edge *then, size_t then_len,
+    zt_edge *els, size_t els_len,
+    zt_index *next, size_t next_len,
+    zt_index *heads, size_t heads_len,
+    uint32_t *ids, size_t ids_len,
+    uint32_t *order, size_t order_len,
+    uint32_t *permids, size_t permids_len,
+    uint32_t *auxids, size_t auxids_len,
+    uint32_t *names, size_t names_len,
+    uint32_t *lens, size_t lens_len,
+    zt_edge *roots, size_t roots_len,
+    uint32_t *rootnames, size_t rootnames_len,
+    uint32_t *rootlens, size_t rootlens_len,
+    zt_edge *edges, size_t edges_len,
+    uint16_t *seats, size_t seats_len);
+
+/*
+ * What an edge of a store answers at a setting.
+ *
+ * Read
+ *   the store  `levels`, `count`, and the five lists. See 'Store' above.
+ *   root       the edge: a root that a load gave, or any number from 1 to `count` in magnitude
+ *   setting    `levels` entries, each 0 or 1
+ *
+ * Refusals, in the order in which they are judged: ZT_BROKEN_STORE, ZT_BAD_ROOT_OR_SETTING.
+ *
+ * Nothing is written; all parts are as they were.
+ */
+struct zt_evaluate_answer zt_evaluate(
+    uint16_t levels,
+    zt_index count,
+    const uint16_t *level, size_t level_len,
+    const zt_edge *then, size_t then_len,
+    const zt_edge *els, size_t els_len,
+    const zt_index *next, size_t next_len,
+    const zt_index *heads, size_t heads_len,
+    zt_edge root,
+    const uint8_t *setting, size_t setting_len);
+
+/*
+ * Exports the diagrams of roots of a store as one file.
+ *
+ * Settings
+ *   version    0 for DDDMP-2.0, any other value for DDDMP-3.0
+ *   text       0 for binary nodes, any other value for text nodes
+ *   ddstart    the place of the diagram's name in `bytes`: start ..
+ *   ddlen      .. and length; 0, 0 for none
+ *
+ * Read
+ *   the store  `levels`, `count`, and the five lists. See 'Store' above.
+ *   roots      up to ZT_MOST_ROOTS roots, from 1 to `count` in magnitude; there may be none
+ *   order      the variable order: order[v] is the level of variable v. `levels` entries, a permutation of the levels.
+ *   bytes      the bytes of all names
+ *   starts     starts[v] and lens[v] are the place of the name of variable v in `bytes`: start ..
+ *   lens       .. and length; as many entries as levels, or none in both for no variable names
+ *   rootstarts rootstarts[r] and rootlens[r] are the place of the name of root r in `bytes`: start ..
+ *   rootlens   .. and length; as many entries as roots, or none in both for no root names
+ *
+ * A name is fit where its place lies inside `bytes` (start + length isn't above their length), and it is 1 to ZT_MOST_NAME bytes of UTF-8
+ * with no control byte (00 to 1f, 7f) and no space. The diagram's name may be empty, and may have spaces.
+ *
+ * Marks
+ *   slots      `count` entries
+ *   numbers    `count` entries
+ *
+ * Output
+ *   out        as many bytes as the export size:
+ *              256 + 32 * count + 24 * levels + 16 * number of roots + 3 * variable name bytes + root name bytes + ddlen,
+ *              where each name counts by its own length even where places overlap. All places that are lent count, also unfit ones, so a
+ *              sum of lengths can be large. It is taken without loss: a size that passes 64 bits is too long for any part, and is refused.
+ *
+ * Refusals, in the order in which they are judged: ZT_TOO_SHORT (marks or output), ZT_BROKEN_STORE, ZT_BAD_ROOT_OR_SETTING, ZT_BAD_ORDER,
+ * ZT_BAD_NAME.
+ *
+ * Afterwards, on success: the first `len` bytes of `out` are the file, and zeros follow; marks are zeros. The file has one line for each
+ * node that a root leads to, the terminal first and then the deepest level first; the order of lines inside a level is left open. Loaded
+ * into the same store, at the levels of those nodes in ascending order, it gives the same roots and no new node.
+ *
+ * Afterwards, on a refusal: `len`, `out` and the marks are zeros. What is read is as it was, always.
+ */
+struct zt_export_answer zt_export(
+    uint8_t version,
+    uint8_t text,
+    uint32_t ddstart,
+    uint32_t ddlen,
+    uint16_t levels,
+    zt_index count,
+    const uint16_t *level, size_t level_len,
+    const zt_edge *then, size_t then_len,
+    const zt_edge *els, size_t els_len,
+    const zt_index *next, size_t next_len,
+    const zt_index *heads, size_t heads_len,
+    const zt_edge *roots, size_t roots_len,
+    const uint16_t *order, size_t order_len,
+    const uint8_t *bytes, size_t bytes_len,
+    const uint32_t *starts, size_t starts_len,
+    const uint32_t *lens, size_t lens_len,
+    const uint32_t *rootstarts, size_t rootstarts_len,
+    const uint32_t *rootlens, size_t rootlens_len,
+    zt_index *slots, size_t slots_len,
+    zt_index *numbers, size_t numbers_len,
+    uint8_t *out, size_t out_len);
+
+#ifdef __cplusplus
+}
+#endif
+
+#endif

@@ -1,0 +1,360 @@
+#include "calls.h"
+
+#include <stdlib.h>
+#include <string.h>
+
+#include "report.h"
+
+/* Loads */
+
+static size_t width_of(enum load_part part)
+{
+    switch (part) {
+    case LOAD_ROOTS: case LOAD_EDGES: return sizeof(zt_edge);
+    case LOAD_SEATS: return sizeof(uint16_t);
+    default: return sizeof(uint32_t);
+    }
+}
+
+struct load load_of(const void *file, size_t file_len, const uint16_t *list, size_t list_len, size_t scratch)
+{
+    struct load c;
+    size_t p;
+
+    memset(&c, 0, sizeof c);
+    c.file = file;
+    c.file_len = file_len;
+    c.list = list;
+    c.list_len = list_len;
+    for (p = LOAD_IDS; p <= LOAD_LENS; p++)
+        c.lens[p] = ZT_VARIABLE_ENTRIES;
+    for (p = LOAD_ROOTS; p <= LOAD_ROOTLENS; p++)
+        c.lens[p] = ZT_ROOT_ENTRIES;
+    c.lens[LOAD_EDGES] = c.lens[LOAD_SEATS] = scratch;
+    return c;
+}
+
+static void lend_parts(struct load *c, const struct store *s)
+{
+    struct lent *p = c->parts;
+    size_t part;
+
+    p[LOAD_FILE] = lend(c->file, c->file_len, sizeof *c->file);
+    p[LOAD_LIST] = lend(c->list, c->list_len, sizeof *c->list);
+    p[LOAD_COUNT] = lend(&s->count, 1, sizeof s->count);
+    p[LOAD_LEVEL] = lend(s->level, s->level_len, sizeof *s->level);
+    p[LOAD_THEN] = lend(s->then, s->then_len, sizeof *s->then);
+    p[LOAD_ELS] = lend(s->els, s->els_len, sizeof *s->els);
+    p[LOAD_NEXT] = lend(s->next, s->next_len, sizeof *s->next);
+    p[LOAD_HEADS] = lend(s->heads, s->heads_len, sizeof *s->heads);
+    for (part = LOAD_IDS; part < LOAD_PARTS; part++)
+        p[part] = lend_room(c->lens[part], width_of((enum load_part)part));
+}
+
+static struct zt_load_answer load_with(const struct lent *p, uint16_t levels)
+{
+    return zt_load(p[LOAD_FILE].at, p[LOAD_FILE].entries, p[LOAD_LIST].at, p[LOAD_LIST].entries, levels, p[LOAD_COUNT].at,
+        p[LOAD_LEVEL].at, p[LOAD_LEVEL].entries, p[LOAD_THEN].at, p[LOAD_THEN].entries, p[LOAD_ELS].at, p[LOAD_ELS].entries,
+        p[LOAD_NEXT].at, p[LOAD_NEXT].entries, p[LOAD_HEADS].at, p[LOAD_HEADS].entries,
+        p[LOAD_IDS].at, p[LOAD_IDS].entries, p[LOAD_ORDER].at, p[LOAD_ORDER].entries, p[LOAD_PERMIDS].at, p[LOAD_PERMIDS].entries,
+        p[LOAD_AUXIDS].at, p[LOAD_AUXIDS].entries, p[LOAD_NAMES].at, p[LOAD_NAMES].entries, p[LOAD_LENS].at, p[LOAD_LENS].entries,
+        p[LOAD_ROOTS].at, p[LOAD_ROOTS].entries, p[LOAD_ROOTNAMES].at, p[LOAD_ROOTNAMES].entries,
+        p[LOAD_ROOTLENS].at, p[LOAD_ROOTLENS].entries, p[LOAD_EDGES].at, p[LOAD_EDGES].entries, p[LOAD_SEATS].at, p[LOAD_SEATS].entries);
+}
+
+static int all_as_before(const struct lent *parts, size_t from, size_t to)
+{
+    for (; from <= to; from++)
+        if (!as_before(&parts[from]))
+            return 0;
+    return 1;
+}
+
+static int all_zeros(const struct lent *parts, size_t from, size_t to)
+{
+    for (; from <= to; from++)
+        if (!zeros_from(&parts[from], 0))
+            return 0;
+    return 1;
+}
+
+static int all_guards_hold(const struct lent *parts, size_t count)
+{
+    size_t i;
+
+    for (i = 0; i < count; i++)
+        if (!guards_hold(&parts[i]))
+            return 0;
+    return 1;
+}
+
+static int has_no_values(const struct zt_load_answer *a)
+{
+    return a->ascii == 0 && a->varinfo == 0 && a->ddstart == 0 && a->ddlen == 0 && a->nnodes == 0 && a->nvars == 0
+        && a->nsuppvars == 0 && a->nroots == 0 && a->next == 0 && a->lines == 0;
+}
+
+static void check_refused(const struct load *c)
+{
+    holds(has_no_values(&c->answer), "the answer of a refused load has no values");
+    holds(all_zeros(c->parts, LOAD_IDS, LOAD_ROOTLENS), "outputs of a refused load are zeros");
+    holds(all_as_before(c->parts, LOAD_COUNT, LOAD_HEADS), "a refused load leaves the store as it was");
+}
+
+static void check_unused(const struct load *c)
+{
+    const struct zt_load_answer *a = &c->answer;
+    size_t p;
+
+    for (p = LOAD_IDS; p <= LOAD_AUXIDS; p++)
+        holds(zeros_from(&c->parts[p], a->nsuppvars), "a list of support variables is zeros after its entries");
+    for (p = LOAD_NAMES; p <= LOAD_LENS; p++)
+        holds(zeros_from(&c->parts[p], a->nvars), "the list of names is zeros after its entries");
+    for (p = LOAD_ROOTS; p <= LOAD_ROOTLENS; p++)
+        holds(zeros_from(&c->parts[p], (size_t)a->nroots), "a root list is zeros after its entries");
+}
+
+/* The store's content after the call. */
+static void take_over(const struct load *c, struct store *s)
+{
+    const struct lent *p = c->parts;
+
+    memcpy(&s->count, p[LOAD_COUNT].at, sizeof s->count);
+    memcpy(s->level, p[LOAD_LEVEL].at, s->level_len * sizeof *s->level);
+    memcpy(s->then, p[LOAD_THEN].at, s->then_len * sizeof *s->then);
+    memcpy(s->els, p[LOAD_ELS].at, s->els_len * sizeof *s->els);
+    memcpy(s->next, p[LOAD_NEXT].at, s->next_len * sizeof *s->next);
+    memcpy(s->heads, p[LOAD_HEADS].at, s->heads_len * sizeof *s->heads);
+}
+
+static int keeps_old_nodes(const struct load *c, zt_index old)
+{
+    size_t p;
+
+    for (p = LOAD_LEVEL; p <= LOAD_NEXT; p++)
+        if (memcmp(c->parts[p].at, c->parts[p].before, old * c->parts[p].width) != 0)
+            return 0;
+    return 1;
+}
+
+static void check_accepted(struct load *c, struct store *s)
+{
+    zt_index old = s->count;
+    size_t i;
+
+    holds(c->answer.line == 0, "an accepted load has line 0");
+    check_unused(c);
+    take_over(c, s);
+    holds(s->count >= old, "the count doesn't fall");
+    holds(keeps_old_nodes(c, old), "old nodes stay as they were");
+    holds(keeps_rules(s), "an accepted load leaves a store that keeps the rules");
+    for (i = 0; i < c->answer.nroots; i++)
+        holds(magnitude_of(roots_of(c)[i]) >= 1 && magnitude_of(roots_of(c)[i]) <= s->count, "a root is an edge of the store");
+}
+
+void call_load(struct load *c, struct store *s)
+{
+    lend_parts(c, s);
+    c->answer = load_with(c->parts, s->levels);
+    holds(all_guards_hold(c->parts, LOAD_PARTS), "a load writes nothing beside its parts");
+    holds(all_as_before(c->parts, LOAD_FILE, LOAD_LIST), "a load leaves the file and the level list as they were");
+    holds(all_zeros(c->parts, LOAD_EDGES, LOAD_SEATS), "scratch ends as zeros");
+    if (c->answer.refusal != 0)
+        check_refused(c);
+    else
+        check_accepted(c, s);
+}
+
+void done_with(struct load *c)
+{
+    give_back(c->parts, LOAD_PARTS);
+}
+
+const zt_edge *roots_of(const struct load *c)
+{
+    return c->parts[LOAD_ROOTS].at;
+}
+
+const uint32_t *numbers_of(const struct load *c, enum load_part part)
+{
+    return c->parts[part].at;
+}
+
+/* Stores that are only read */
+
+enum store_part { STORE_LEVEL, STORE_THEN, STORE_ELS, STORE_NEXT, STORE_HEADS, STORE_PARTS };
+
+static void lend_store(struct lent *p, const struct store *s)
+{
+    p[STORE_LEVEL] = lend(s->level, s->level_len, sizeof *s->level);
+    p[STORE_THEN] = lend(s->then, s->then_len, sizeof *s->then);
+    p[STORE_ELS] = lend(s->els, s->els_len, sizeof *s->els);
+    p[STORE_NEXT] = lend(s->next, s->next_len, sizeof *s->next);
+    p[STORE_HEADS] = lend(s->heads, s->heads_len, sizeof *s->heads);
+}
+
+/* Evaluations */
+
+enum evaluate_part { EVALUATE_SETTING = STORE_PARTS, EVALUATE_PARTS };
+
+struct zt_evaluate_answer call_evaluate(const struct store *s, zt_edge root, const uint8_t *setting, size_t setting_len)
+{
+    struct lent p[EVALUATE_PARTS];
+    struct zt_evaluate_answer a;
+
+    lend_store(p, s);
+    p[EVALUATE_SETTING] = lend(setting, setting_len, sizeof *setting);
+    a = zt_evaluate(s->levels, s->count, p[STORE_LEVEL].at, p[STORE_LEVEL].entries, p[STORE_THEN].at, p[STORE_THEN].entries,
+        p[STORE_ELS].at, p[STORE_ELS].entries, p[STORE_NEXT].at, p[STORE_NEXT].entries, p[STORE_HEADS].at, p[STORE_HEADS].entries,
+        root, p[EVALUATE_SETTING].at, p[EVALUATE_SETTING].entries);
+    holds(all_guards_hold(p, EVALUATE_PARTS), "an evaluation writes nothing beside its parts");
+    holds(all_as_before(p, 0, EVALUATE_PARTS - 1), "an evaluation leaves all its parts as they were");
+    holds(a.line == 0, "an evaluation has line 0");
+    holds(a.answer <= 1, "an evaluation answers 1 or 0");
+    holds(a.refusal == 0 || a.answer == 0, "a refused evaluation answers 0");
+    give_back(p, EVALUATE_PARTS);
+    return a;
+}
+
+/* Exports */
+
+enum export_part {
+    EXPORT_ROOTS = STORE_PARTS, EXPORT_ORDER, EXPORT_BYTES, EXPORT_STARTS, EXPORT_LENS, EXPORT_ROOTSTARTS, EXPORT_ROOTLENS,
+    EXPORT_SLOTS, EXPORT_NUMBERS, EXPORT_OUT,
+    EXPORT_PARTS
+};
+
+struct export export_of(const struct store *s, const zt_edge *roots, size_t roots_len, const uint16_t *order, size_t order_len)
+{
+    struct export c;
+
+    memset(&c, 0, sizeof c);
+    c.roots = roots;
+    c.roots_len = roots_len;
+    c.order = order;
+    c.order_len = order_len;
+    c.slots_len = c.numbers_len = s->count;
+    fit_output(&c, s);
+    return c;
+}
+
+static size_t sum_of(const uint32_t *numbers, size_t count)
+{
+    size_t i, sum = 0;
+
+    for (i = 0; i < count; i++)
+        sum += numbers[i];
+    return sum;
+}
+
+void fit_output(struct export *c, const struct store *s)
+{
+    const struct names *n = &c->names;
+
+    c->out_len = 256 + 32 * (size_t)s->count + 24 * (size_t)s->levels + 16 * c->roots_len + 3 * sum_of(n->lens, n->lens_len)
+        + sum_of(n->rootlens, n->rootlens_len) + n->ddlen;
+}
+
+static void lend_export(const struct export *c, const struct store *s, struct lent *p)
+{
+    const struct names *n = &c->names;
+
+    lend_store(p, s);
+    p[EXPORT_ROOTS] = lend(c->roots, c->roots_len, sizeof *c->roots);
+    p[EXPORT_ORDER] = lend(c->order, c->order_len, sizeof *c->order);
+    p[EXPORT_BYTES] = lend(n->bytes, n->bytes_len, sizeof *n->bytes);
+    p[EXPORT_STARTS] = lend(n->starts, n->starts_len, sizeof *n->starts);
+    p[EXPORT_LENS] = lend(n->lens, n->lens_len, sizeof *n->lens);
+    p[EXPORT_ROOTSTARTS] = lend(n->rootstarts, n->rootstarts_len, sizeof *n->rootstarts);
+    p[EXPORT_ROOTLENS] = lend(n->rootlens, n->rootlens_len, sizeof *n->rootlens);
+    p[EXPORT_SLOTS] = lend_room(c->slots_len, sizeof(zt_index));
+    p[EXPORT_NUMBERS] = lend_room(c->numbers_len, sizeof(zt_index));
+    p[EXPORT_OUT] = lend_room(c->out_len, 1);
+}
+
+static struct zt_export_answer export_with(const struct export *c, const struct store *s, const struct lent *p)
+{
+    return zt_export(c->version, c->text, c->names.ddstart, c->names.ddlen, s->levels, s->count,
+        p[STORE_LEVEL].at, p[STORE_LEVEL].entries, p[STORE_THEN].at, p[STORE_THEN].entries, p[STORE_ELS].at, p[STORE_ELS].entries,
+        p[STORE_NEXT].at, p[STORE_NEXT].entries, p[STORE_HEADS].at, p[STORE_HEADS].entries,
+        p[EXPORT_ROOTS].at, p[EXPORT_ROOTS].entries, p[EXPORT_ORDER].at, p[EXPORT_ORDER].entries,
+        p[EXPORT_BYTES].at, p[EXPORT_BYTES].entries, p[EXPORT_STARTS].at, p[EXPORT_STARTS].entries,
+        p[EXPORT_LENS].at, p[EXPORT_LENS].entries, p[EXPORT_ROOTSTARTS].at, p[EXPORT_ROOTSTARTS].entries,
+        p[EXPORT_ROOTLENS].at, p[EXPORT_ROOTLENS].entries, p[EXPORT_SLOTS].at, p[EXPORT_SLOTS].entries,
+        p[EXPORT_NUMBERS].at, p[EXPORT_NUMBERS].entries, p[EXPORT_OUT].at, p[EXPORT_OUT].entries);
+}
+
+void call_export(struct export *c, const struct store *s)
+{
+    struct lent p[EXPORT_PARTS];
+
+    lend_export(c, s, p);
+    c->answer = export_with(c, s, p);
+    holds(all_guards_hold(p, EXPORT_PARTS), "an export writes nothing beside its parts");
+    holds(all_as_before(p, 0, EXPORT_ROOTLENS), "an export leaves what it reads as it was");
+    holds(all_zeros(p, EXPORT_SLOTS, EXPORT_NUMBERS), "marks end as zeros");
+    holds(c->answer.line == 0, "an export has line 0");
+    holds(c->answer.refusal == 0 || c->answer.len == 0, "a refused export has length 0");
+    if (holds(c->answer.len <= c->out_len, "a file lies inside its output"))
+        holds(zeros_from(&p[EXPORT_OUT], c->answer.len), "output is zeros after the file");
+    c->out = p[EXPORT_OUT];
+    give_back(p, EXPORT_OUT);
+}
+
+void done_exporting(struct export *c)
+{
+    give_back(&c->out, 1);
+}
+
+/* Names */
+
+struct names room_for_names(size_t bytes, size_t variables, size_t roots)
+{
+    struct names n;
+
+    memset(&n, 0, sizeof n);
+    n.bytes = room(bytes);
+    n.starts = room(variables * sizeof *n.starts);
+    n.lens = room(variables * sizeof *n.lens);
+    n.rootstarts = room(roots * sizeof *n.rootstarts);
+    n.rootlens = room(roots * sizeof *n.rootlens);
+    return n;
+}
+
+/* Appends the bytes of a name; answers where they start. */
+static uint32_t append(struct names *n, const void *name, size_t len)
+{
+    uint32_t start = (uint32_t)n->bytes_len;
+
+    if (len != 0)
+        memcpy(n->bytes + n->bytes_len, name, len);
+    n->bytes_len += len;
+    return start;
+}
+
+void name_variable(struct names *n, const void *name, size_t len)
+{
+    n->starts[n->starts_len++] = append(n, name, len);
+    n->lens[n->lens_len++] = (uint32_t)len;
+}
+
+void name_root(struct names *n, const void *name, size_t len)
+{
+    n->rootstarts[n->rootstarts_len++] = append(n, name, len);
+    n->rootlens[n->rootlens_len++] = (uint32_t)len;
+}
+
+void name_diagram(struct names *n, const void *name, size_t len)
+{
+    n->ddstart = append(n, name, len);
+    n->ddlen = (uint32_t)len;
+}
+
+void drop_names(struct names *n)
+{
+    free(n->bytes);
+    free(n->starts);
+    free(n->lens);
+    free(n->rootstarts);
+    free(n->rootlens);
+}

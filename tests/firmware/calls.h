@@ -1,0 +1,87 @@
+/*
+ * The three calls, each with all that holds of every call: guards stay, what is only read stays, scratch and marks end as zeros, a refusal
+ * leaves zeros in every output and the store as it was, and an accepted load leaves a store that keeps the rules and has only grown.
+ */
+#ifndef CALLS_H
+#define CALLS_H
+
+#include <stddef.h>
+#include <stdint.h>
+
+#include "lent.h"
+#include "stores.h"
+#include "zonetweed.h"
+
+/* The parts of a load: those that are only read, the store's, the outputs, and the scratch. */
+enum load_part {
+    LOAD_FILE, LOAD_LIST,
+    LOAD_COUNT, LOAD_LEVEL, LOAD_THEN, LOAD_ELS, LOAD_NEXT, LOAD_HEADS,
+    LOAD_IDS, LOAD_ORDER, LOAD_PERMIDS, LOAD_AUXIDS, LOAD_NAMES, LOAD_LENS, LOAD_ROOTS, LOAD_ROOTNAMES, LOAD_ROOTLENS,
+    LOAD_EDGES, LOAD_SEATS,
+    LOAD_PARTS
+};
+
+struct load {
+    const uint8_t *file;
+    size_t file_len;
+    const uint16_t *list;
+    size_t list_len;
+    /* the lengths of the outputs and of the scratch, by `enum load_part` */
+    size_t lens[LOAD_PARTS];
+    /* what the call gives */
+    struct zt_load_answer answer;
+    struct lent parts[LOAD_PARTS];
+};
+
+/* A load with outputs of just the length that is asked for, and so many entries of scratch. */
+struct load load_of(const void *file, size_t file_len, const uint16_t *list, size_t list_len, size_t scratch);
+
+/* Makes the call; the store is as the call leaves it. `done_with` gives the load's parts back. */
+void call_load(struct load *c, struct store *s);
+void done_with(struct load *c);
+
+/* Outputs of a load that was made. */
+const zt_edge *roots_of(const struct load *c);
+const uint32_t *numbers_of(const struct load *c, enum load_part part);
+
+struct zt_evaluate_answer call_evaluate(const struct store *s, zt_edge root, const uint8_t *setting, size_t setting_len);
+
+/* Names of an export, as the places that are lent. */
+struct names {
+    uint8_t *bytes;
+    size_t bytes_len;
+    uint32_t *starts, *lens, *rootstarts, *rootlens;
+    size_t starts_len, lens_len, rootstarts_len, rootlens_len;
+    uint32_t ddstart, ddlen;
+};
+
+struct export {
+    uint8_t version, text;
+    const zt_edge *roots;
+    size_t roots_len;
+    const uint16_t *order;
+    size_t order_len;
+    struct names names;
+    size_t slots_len, numbers_len, out_len;
+    /* what the call gives: its answer, and the output, which `done_exporting` gives back */
+    struct zt_export_answer answer;
+    struct lent out;
+};
+
+/* An export with marks and output of just the length that is asked for. */
+struct export export_of(const struct store *s, const zt_edge *roots, size_t roots_len, const uint16_t *order, size_t order_len);
+
+/* Sets the output's length to the export size. */
+void fit_output(struct export *c, const struct store *s);
+
+void call_export(struct export *c, const struct store *s);
+void done_exporting(struct export *c);
+
+/* Room for names: so many bytes, variables and roots. A name is added as the next one of its list. */
+struct names room_for_names(size_t bytes, size_t variables, size_t roots);
+void name_variable(struct names *n, const void *name, size_t len);
+void name_root(struct names *n, const void *name, size_t len);
+void name_diagram(struct names *n, const void *name, size_t len);
+void drop_names(struct names *n);
+
+#endif

@@ -1,0 +1,70 @@
+/* The groups of tests. Each counts its cases and writes its summary. */
+#ifndef GROUPS_H
+#define GROUPS_H
+
+#include "calls.h"
+#include "table.h"
+
+/* Where the stored cases are. */
+extern const char *vectors;
+
+/* vectors.c: the stored cases, and changed ones, which must be noticed */
+void try_loads(void);
+void try_stores(void);
+void try_evaluations(void);
+void try_exports(void);
+void try_changed_cases(void);
+
+/* loads.c: stored loads, as other groups use them */
+struct load_vector {
+    struct bytes file;
+    struct store before;
+    uint16_t *list;
+    size_t list_len;
+    size_t scratch;
+    /* a list that is one entry too short, or LOAD_PARTS for none */
+    enum load_part too_short;
+    /* what the load must give */
+    unsigned refusal;
+    size_t line;
+    zt_edge *roots;
+    size_t roots_len;
+    struct store after;
+    /* each root's answers between commas, `-` where none are stored: character k is for the setting in which bit l of k is level l */
+    char *answers;
+};
+
+/* Reads the cases of `load.tsv` or of `room.tsv`; 0 after the last one. */
+int next_load(struct table *t, struct load_vector *v);
+void drop_load(struct load_vector *v);
+int has_answers(const struct load_vector *v);
+void setting_of(size_t k, size_t levels, uint8_t *setting);
+
+/* back.c */
+void try_reading_back(void);
+void try_one_store(void);
+void try_full_store(void);
+
+/* Loads a file into a copy of its store, at the levels of its nodes, and holds that to the roots. */
+void hold_back(const struct store *s, const zt_edge *roots, size_t roots_len, const void *file, size_t len);
+
+/* refusals.c */
+void try_refusals(void);
+void try_order_of_refusals(void);
+
+/* lengths.c */
+void try_lengths(void);
+void try_empty_parts(void);
+
+/* damage.c */
+void try_damaged_stores(size_t cases);
+
+/* own.c: the tests' own tools notice what they are there for */
+void try_own_tools(void);
+
+/* own.c: document 01's example */
+extern const char plan[];
+struct store plan_store(void);
+extern const uint16_t plan_levels[2];
+
+#endif

@@ -1,0 +1,112 @@
+/* Stored loads: `load.tsv`, into an empty store, and `room.tsv`, into a store that may hold nodes already. */
+#include <stdlib.h>
+#include <string.h>
+
+#include "groups.h"
+#include "report.h"
+
+enum { LOAD_COLUMNS = 9, ROOM_REFUSED_COLUMNS = 15, ROOM_COLUMNS = 21 };
+
+int has_answers(const struct load_vector *v)
+{
+    return v->refusal == 0 && strcmp(v->answers, "-") != 0;
+}
+
+void setting_of(size_t k, size_t levels, uint8_t *setting)
+{
+    size_t l;
+
+    for (l = 0; l < levels; l++)
+        setting[l] = (uint8_t)(k >> l & 1);
+}
+
+/* The nodes from number 2 on, as `level:then:else` between commas. */
+static void add_nodes(struct store *s, const char *column)
+{
+    size_t n = entries_in(column), i;
+
+    for (i = 0; i < n; i++) {
+        const char *then = strchr(column, ':') + 1, *els = strchr(then, ':') + 1;
+
+        if (s->count >= s->level_len)
+            stop("a stored case has more nodes than slots");
+        add_node(s, (uint16_t)number_in(column), (zt_edge)number_in(then), (zt_edge)number_in(els));
+        if (i + 1 < n)
+            column = strchr(column, ',') + 1;
+    }
+}
+
+static void read_load(char **column, struct load_vector *v)
+{
+    v->before = empty_store((uint16_t)number_in(column[1]), (size_t)number_in(column[3]));
+    v->list = unsigned_list(column[2], &v->list_len);
+    v->scratch = ZT_MOST_NODES;
+    v->too_short = LOAD_PARTS;
+    v->refusal = (unsigned)number_in(column[4]);
+    v->line = (size_t)number_in(column[5]);
+    v->roots = signed_list(column[6], &v->roots_len);
+    v->after = copy_of(&v->before);
+    add_nodes(&v->after, column[7]);
+    v->answers = column[8];
+}
+
+/* The store after an accepted load: count, the four slot lists, the heads. */
+static struct store store_after(char **column, const struct store *before)
+{
+    struct store s;
+
+    s.levels = before->levels;
+    s.count = (zt_index)number_in(column[0]);
+    s.level = unsigned_list(column[1], &s.level_len);
+    s.then = signed_list(column[2], &s.then_len);
+    s.els = signed_list(column[3], &s.els_len);
+    s.next = unsigned_list(column[4], &s.next_len);
+    s.heads_len = ZT_BUCKETS;
+    s.heads = room(s.heads_len * sizeof *s.heads);
+    heads_in(column[5], s.heads, s.heads_len);
+    return s;
+}
+
+/* The list that is too short is another one for each line. */
+static void read_room(char **column, size_t line, struct load_vector *v)
+{
+    size_t lists = LOAD_ROOTLENS - LOAD_IDS + 1;
+
+    v->before = store_in(column + 1);
+    v->list = unsigned_list(column[9], &v->list_len);
+    v->scratch = (size_t)number_in(column[10]);
+    v->too_short = strcmp(column[11], "short") == 0 ? (enum load_part)(LOAD_IDS + line % lists) : LOAD_PARTS;
+    v->refusal = (unsigned)number_in(column[12]);
+    v->line = (size_t)number_in(column[13]);
+    v->roots = signed_list(column[14], &v->roots_len);
+    v->after = v->refusal == 0 ? store_after(column + 15, &v->before) : copy_of(&v->before);
+    v->answers = "-";
+}
+
+int next_load(struct table *t, struct load_vector *v)
+{
+    int rooms = strcmp(t->name, "room.tsv") == 0;
+    char folder[1000];
+
+    if (rooms ? !next_line(t, ROOM_REFUSED_COLUMNS, ROOM_COLUMNS) : !next_line(t, LOAD_COLUMNS, LOAD_COLUMNS))
+        return 0;
+    if (rooms)
+        read_room(t->columns, t->line, v);
+    else
+        read_load(t->columns, v);
+    if (strlen(vectors) + sizeof "/files" > sizeof folder)
+        stop("a path is too long");
+    strcpy(folder, vectors);
+    strcat(folder, "/files");
+    v->file = read_bytes(folder, t->columns[0]);
+    return 1;
+}
+
+void drop_load(struct load_vector *v)
+{
+    free(v->file.at);
+    free(v->list);
+    free(v->roots);
+    drop_store(&v->before);
+    drop_store(&v->after);
+}

@@ -1,0 +1,64 @@
+/*
+ * The library for C, held to document 01 through its header file.
+ *
+ *     firmware [-e] [-d DAMAGED] VECTORS
+ *
+ * VECTORS is the folder of the stored cases. -e gives each part memory of its own size, for a run under a tool that watches memory, and
+ * leaves out the changed cases, which make the same calls again; -d sets the number of stores that are damaged. The status is 0 where
+ * nothing failed.
+ */
+#include <stdio.h>
+#include <stdlib.h>
+#include <string.h>
+
+#include "groups.h"
+#include "report.h"
+
+static size_t count_in(const char *text)
+{
+    char *end;
+    unsigned long n = strtoul(text, &end, 10);
+
+    if (end == text || *end != 0 || n == 0)
+        stop("an option's number is none");
+    return (size_t)n;
+}
+
+static void try_all(size_t damaged)
+{
+    try_own_tools();
+    try_refusals();
+    try_order_of_refusals();
+    try_lengths();
+    try_empty_parts();
+    try_loads();
+    try_stores();
+    try_evaluations();
+    try_exports();
+    try_reading_back();
+    try_one_store();
+    try_full_store();
+    try_damaged_stores(damaged);
+    if (!exact)
+        try_changed_cases();
+}
+
+int main(int argc, char **argv)
+{
+    size_t damaged = 4000;
+    int i;
+
+    for (i = 1; i + 1 < argc; i++) {
+        if (strcmp(argv[i], "-e") == 0)
+            exact = 1;
+        else if (strcmp(argv[i], "-d") == 0 && i + 2 < argc)
+            damaged = count_in(argv[++i]);
+        else
+            stop("an option isn't known");
+    }
+    if (i >= argc)
+        stop("usage: firmware [-e] [-d DAMAGED] VECTORS");
+    vectors = argv[i];
+    try_all(damaged);
+    return failures() == 0 ? 0 : 1;
+}

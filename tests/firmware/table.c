@@ -1,0 +1,188 @@
+#include "table.h"
+
+#include <stdio.h>
+#include <stdlib.h>
+#include <string.h>
+
+#include "report.h"
+
+struct bytes read_bytes(const char *folder, const char *name)
+{
+    char path[1000];
+    struct bytes b;
+    FILE *f;
+    long end = 0;
+
+    if (snprintf(path, sizeof path, "%s/%s", folder, name) >= (int)sizeof path)
+        stop("a path is too long");
+    f = fopen(path, "rb");
+    if (f == NULL || fseek(f, 0, SEEK_END) != 0 || (end = ftell(f)) < 0 || fseek(f, 0, SEEK_SET) != 0)
+        stop(path);
+    b.len = (size_t)end;
+    b.at = room(b.len + 1);
+    if (fread(b.at, 1, b.len, f) != b.len || fclose(f) != 0)
+        stop(path);
+    b.at[b.len] = 0;
+    return b;
+}
+
+struct table open_table(const char *folder, const char *name)
+{
+    struct table t;
+
+    memset(&t, 0, sizeof t);
+    t.text = t.rest = (char *)read_bytes(folder, name).at;
+    t.name = name;
+    return t;
+}
+
+/* The text up to a mark, which becomes its end. Moves behind the mark. */
+static char *cut(char **rest, char mark)
+{
+    char *from = *rest, *end = strchr(from, mark);
+
+    if (end == NULL) {
+        *rest = from + strlen(from);
+    } else {
+        *end = 0;
+        *rest = end + 1;
+    }
+    return from;
+}
+
+static size_t columns_of(struct table *t, char *line)
+{
+    size_t n = 1, i;
+    char *at;
+
+    for (at = line; *at != 0; at++)
+        n += *at == '\t';
+    if (n > MOST_COLUMNS)
+        stop("too many columns");
+    for (i = 0; i < n; i++)
+        t->columns[i] = cut(&line, '\t');
+    return n;
+}
+
+int next_line(struct table *t, size_t width, size_t other_width)
+{
+    if (*t->rest == 0)
+        return 0;
+    t->line++;
+    case_is("%s line %zu", t->name, t->line);
+    t->width = columns_of(t, cut(&t->rest, '\n'));
+    if (t->width != width && t->width != other_width)
+        stop("a line has another number of columns");
+    return 1;
+}
+
+void close_table(struct table *t)
+{
+    free(t->text);
+}
+
+long number_in(const char *column)
+{
+    char *end;
+    long n = strtol(column, &end, 10);
+
+    if (end == column || (*end != 0 && *end != ',' && *end != ':'))
+        stop("a number is none");
+    return n;
+}
+
+static int is_none(const char *column)
+{
+    return strcmp(column, "-") == 0;
+}
+
+size_t entries_in(const char *column)
+{
+    size_t n = 1;
+
+    if (is_none(column))
+        return 0;
+    for (; *column != 0; column++)
+        n += *column == ',';
+    return n;
+}
+
+/* The entry after this one; there must be one. */
+static const char *entry_after(const char *entry)
+{
+    return strchr(entry, ',') + 1;
+}
+
+uint16_t *unsigned_list(const char *column, size_t *count)
+{
+    size_t n = entries_in(column), i;
+    uint16_t *list = room(n * sizeof *list);
+
+    for (i = 0; i < n; i++) {
+        list[i] = (uint16_t)number_in(column);
+        if (i + 1 < n)
+            column = entry_after(column);
+    }
+    *count = n;
+    return list;
+}
+
+int16_t *signed_list(const char *column, size_t *count)
+{
+    return (int16_t *)unsigned_list(column, count);
+}
+
+static uint8_t digit_in(char c)
+{
+    const char *digits = "0123456789abcdef", *at = c == 0 ? NULL : strchr(digits, c);
+
+    if (at == NULL)
+        stop("a hexadecimal digit is none");
+    return (uint8_t)(at - digits);
+}
+
+struct bytes bytes_in(const char *column, size_t len)
+{
+    struct bytes b = {NULL, 0};
+    size_t i;
+
+    if ((len == 1 && *column == '-') || (len == 5 && strncmp(column, "empty", 5) == 0))
+        len = 0;
+    b.len = len / 2;
+    b.at = room(b.len);
+    for (i = 0; i < b.len; i++)
+        b.at[i] = (uint8_t)(digit_in(column[2 * i]) * 16 + digit_in(column[2 * i + 1]));
+    return b;
+}
+
+void heads_in(const char *column, zt_index *heads, size_t heads_len)
+{
+    size_t n = entries_in(column), i;
+
+    memset(heads, 0, heads_len * sizeof *heads);
+    for (i = 0; i < n; i++) {
+        size_t bucket = (size_t)number_in(column);
+
+        if (bucket >= heads_len)
+            stop("a bucket has no head");
+        heads[bucket] = (zt_index)number_in(strchr(column, ':') + 1);
+        if (i + 1 < n)
+            column = entry_after(column);
+    }
+}
+
+struct store store_in(char **columns)
+{
+    struct store s;
+
+    s.levels = (uint16_t)number_in(columns[0]);
+    s.count = (zt_index)number_in(columns[1]);
+    s.level = unsigned_list(columns[2], &s.level_len);
+    s.then = signed_list(columns[3], &s.then_len);
+    s.els = signed_list(columns[4], &s.els_len);
+    s.next = unsigned_list(columns[5], &s.next_len);
+    s.heads_len = (size_t)number_in(columns[6]);
+    s.heads = room(s.heads_len * sizeof *s.heads);
+    heads_in(columns[7], s.heads, s.heads_len);
+    return s;
+}

@@ -1,0 +1,499 @@
+/* The stored cases, held to what the calls give; and changed cases, which must be noticed. */
+#include <stdlib.h>
+#include <string.h>
+
+#include "groups.h"
+#include "report.h"
+
+const char *vectors = "tests/vectors";
+
+/* Loads */
+
+static void hold_answers(const struct store *s, zt_edge root, const char *answers)
+{
+    size_t k, settings = (size_t)1 << s->levels;
+    uint8_t setting[16];
+
+    for (k = 0; k < settings; k++) {
+        struct zt_evaluate_answer a;
+
+        setting_of(k, s->levels, setting);
+        a = call_evaluate(s, root, setting, s->levels);
+        holds(a.refusal == 0 && a.answer == answers[k] - '0', "a root answers as stored");
+    }
+    holds(answers[settings] == 0 || answers[settings] == ',', "answers are stored for every setting");
+}
+
+static void hold_roots(const struct load_vector *v, const struct load *c, const struct store *s)
+{
+    const char *answers = v->answers;
+    size_t i;
+
+    if (!holds(c->answer.nroots == v->roots_len, "as many roots as stored"))
+        return;
+    for (i = 0; i < v->roots_len; i++)
+        holds(roots_of(c)[i] == v->roots[i], "a root is the stored one");
+    for (i = 0; has_answers(v) && i < v->roots_len; i++) {
+        hold_answers(s, roots_of(c)[i], answers);
+        answers = i + 1 < v->roots_len ? strchr(answers, ',') + 1 : answers;
+    }
+}
+
+static void hold_load(const struct load_vector *v)
+{
+    struct store s = copy_of(&v->before);
+    struct load c = load_of(v->file.at, v->file.len, v->list, v->list_len, v->scratch);
+
+    if (v->too_short != LOAD_PARTS)
+        c.lens[v->too_short]--;
+    call_load(&c, &s);
+    holds(c.answer.refusal == v->refusal, "the refusal is the stored one");
+    holds(c.answer.line == v->line, "the line is the stored one");
+    holds(same_store(&s, &v->after), "the store is the stored one");
+    if (c.answer.refusal == 0 && v->refusal == 0)
+        hold_roots(v, &c, &s);
+    done_with(&c);
+    drop_store(&s);
+}
+
+static size_t try_load_table(const char *name)
+{
+    struct table t = open_table(vectors, name);
+    struct load_vector v;
+    size_t cases = 0;
+
+    for (; next_load(&t, &v); cases++) {
+        hold_load(&v);
+        drop_load(&v);
+    }
+    close_table(&t);
+    return cases;
+}
+
+void try_loads(void)
+{
+    group_done("load.tsv", try_load_table("load.tsv"));
+    group_done("room.tsv", try_load_table("room.tsv"));
+}
+
+/* Stores: each call says 3 of a store that breaks its rules, and of no other */
+
+enum { STORE_COLUMNS = 9 };
+
+static void hold_store_of_evaluation(const struct store *s, unsigned refusal)
+{
+    uint8_t *setting = room(s->levels);
+    struct zt_evaluate_answer a;
+
+    memset(setting, 0, s->levels);
+    a = call_evaluate(s, 1, setting, s->levels);
+    holds(a.refusal == refusal && a.answer == (refusal == 0), "an evaluation says what is stored of a store");
+    free(setting);
+}
+
+static uint16_t *levels_in_order(size_t levels)
+{
+    uint16_t *order = room(levels * sizeof *order);
+    size_t l;
+
+    for (l = 0; l < levels; l++)
+        order[l] = (uint16_t)l;
+    return order;
+}
+
+static void hold_store_of_export(const struct store *s, unsigned refusal)
+{
+    uint16_t *order = levels_in_order(s->levels);
+    struct export c = export_of(s, NULL, 0, order, s->levels);
+
+    call_export(&c, s);
+    holds(c.answer.refusal == refusal, "an export says what is stored of a store");
+    done_exporting(&c);
+    free(order);
+}
+
+static void hold_store_of_load(const struct store *s, unsigned refusal)
+{
+    static const char file[] = ".nodes\n.end\n";
+    struct store copy = copy_of(s);
+    struct load c = load_of(file, sizeof file - 1, NULL, 0, 0);
+
+    call_load(&c, &copy);
+    holds(c.answer.refusal == refusal, "a load says what is stored of a store");
+    holds(same_store(&copy, s), "a load of no nodes leaves the store as it was");
+    done_with(&c);
+    drop_store(&copy);
+}
+
+static void hold_store(const struct store *s, unsigned refusal)
+{
+    holds(keeps_rules(s) == (refusal == 0), "the tests' own reading of the rules says what is stored");
+    hold_store_of_evaluation(s, refusal);
+    hold_store_of_export(s, refusal);
+    hold_store_of_load(s, refusal);
+}
+
+void try_stores(void)
+{
+    struct table t = open_table(vectors, "stores.tsv");
+    size_t cases = 0;
+
+    for (; next_line(&t, STORE_COLUMNS, STORE_COLUMNS); cases++) {
+        struct store s = store_in(t.columns);
+
+        hold_store(&s, (unsigned)number_in(t.columns[8]));
+        drop_store(&s);
+    }
+    close_table(&t);
+    group_done("stores.tsv", cases);
+}
+
+/* Evaluations */
+
+enum { EVALUATE_COLUMNS = 12 };
+
+struct evaluate_vector {
+    struct store store;
+    zt_edge root;
+    struct bytes setting;
+    unsigned refusal;
+    int answer;
+};
+
+static int next_evaluation(struct table *t, struct evaluate_vector *v)
+{
+    if (!next_line(t, EVALUATE_COLUMNS, EVALUATE_COLUMNS))
+        return 0;
+    v->store = store_in(t->columns);
+    v->root = (zt_edge)number_in(t->columns[8]);
+    v->setting = bytes_in(t->columns[9], strlen(t->columns[9]));
+    v->refusal = (unsigned)number_in(t->columns[10]);
+    v->answer = v->refusal == 0 ? (int)number_in(t->columns[11]) : 0;
+    return 1;
+}
+
+static void drop_evaluation(struct evaluate_vector *v)
+{
+    drop_store(&v->store);
+    free(v->setting.at);
+}
+
+static void hold_evaluation(const struct evaluate_vector *v)
+{
+    struct zt_evaluate_answer a = call_evaluate(&v->store, v->root, v->setting.at, v->setting.len);
+
+    holds(a.refusal == v->refusal, "the refusal is the stored one");
+    holds(a.answer == v->answer, "the answer is the stored one");
+}
+
+void try_evaluations(void)
+{
+    struct table t = open_table(vectors, "evaluate.tsv");
+    struct evaluate_vector v;
+    size_t cases = 0;
+
+    for (; next_evaluation(&t, &v); cases++) {
+        hold_evaluation(&v);
+        drop_evaluation(&v);
+    }
+    close_table(&t);
+    group_done("evaluate.tsv", cases);
+}
+
+/* Exports */
+
+enum { EXPORT_COLUMNS = 19 };
+
+struct export_vector {
+    struct store store;
+    zt_edge *roots;
+    uint16_t *order;
+    struct export call;
+    unsigned refusal;
+    struct bytes file;
+};
+
+/* Adds the names of a column by the function for their kind. */
+static void add_names(struct names *n, const char *column, void (*add)(struct names *, const void *, size_t))
+{
+    size_t count = entries_in(column), i;
+
+    for (i = 0; i < count; i++) {
+        size_t digits = strcspn(column, ",");
+        struct bytes name = bytes_in(column, digits);
+
+        add(n, name.at, name.len);
+        free(name.at);
+        column += i + 1 < count ? digits + 1 : 0;
+    }
+}
+
+static struct names names_in(char **column)
+{
+    size_t bytes = strlen(column[0]) + strlen(column[1]) + strlen(column[2]);
+    struct names n = room_for_names(bytes, entries_in(column[0]), entries_in(column[1]));
+
+    add_names(&n, column[0], name_variable);
+    add_names(&n, column[1], name_root);
+    if (strcmp(column[2], "-") != 0)
+        add_names(&n, column[2], name_diagram);
+    return n;
+}
+
+static int next_export(struct table *t, struct export_vector *v)
+{
+    size_t roots_len, order_len;
+
+    if (!next_line(t, EXPORT_COLUMNS, EXPORT_COLUMNS))
+        return 0;
+    v->store = store_in(t->columns);
+    v->roots = signed_list(t->columns[8], &roots_len);
+    v->order = unsigned_list(t->columns[9], &order_len);
+    v->call = export_of(&v->store, v->roots, roots_len, v->order, order_len);
+    v->call.text = *t->columns[10] == 'A';
+    v->call.version = *t->columns[11] == '3';
+    v->call.names = names_in(t->columns + 12);
+    v->call.out_len = (size_t)number_in(t->columns[15]);
+    v->call.slots_len = v->call.numbers_len = (size_t)number_in(t->columns[16]);
+    v->refusal = (unsigned)number_in(t->columns[17]);
+    v->file = bytes_in(t->columns[18], strlen(t->columns[18]));
+    return 1;
+}
+
+static void drop_export(struct export_vector *v)
+{
+    drop_store(&v->store);
+    drop_names(&v->call.names);
+    free(v->roots);
+    free(v->order);
+    free(v->file.at);
+}
+
+/* A line of a file: the bytes up to LF, and where the next one starts. */
+static struct bytes line_at(const struct bytes *f, size_t *at)
+{
+    struct bytes line;
+    uint8_t *end;
+
+    line.at = f->at + *at;
+    end = memchr(line.at, '\n', f->len - *at);
+    line.len = end == NULL ? f->len - *at : (size_t)(end - line.at);
+    *at += line.len + (end != NULL);
+    return line;
+}
+
+static int starts_with(const struct bytes *line, const char *text)
+{
+    return line->len >= strlen(text) && memcmp(line->at, text, strlen(text)) == 0;
+}
+
+static int same_bytes(const struct bytes *a, const struct bytes *b)
+{
+    return a->len == b->len && (a->len == 0 || memcmp(a->at, b->at, a->len) == 0);
+}
+
+/* The second word of a node line: the variable's position. */
+static struct bytes second_word(const struct bytes *line)
+{
+    uint8_t *first = memchr(line->at, ' ', line->len), *second;
+    struct bytes word = {line->at, 0};
+
+    if (first == NULL)
+        return word;
+    word.at = first + 1;
+    second = memchr(word.at, ' ', line->len - (size_t)(word.at - line->at));
+    word.len = second == NULL ? 0 : (size_t)(second - word.at);
+    return word;
+}
+
+/* Header lines are the stored ones, but for `.rootids`: the numbers in it hang on the order of lines inside a level. */
+static void hold_header(const struct bytes *stored, const struct bytes *written, size_t *stored_at, size_t *written_at)
+{
+    struct bytes a, b;
+
+    do {
+        if (!holds(*stored_at < stored->len && *written_at < written->len, "both files have `.nodes`"))
+            return;
+        a = line_at(stored, stored_at);
+        b = line_at(written, written_at);
+        if (starts_with(&a, ".rootids"))
+            holds(starts_with(&b, ".rootids"), "`.rootids` stands where it is stored");
+        else
+            holds(same_bytes(&a, &b), "a header line is the stored one");
+    } while (!starts_with(&a, ".nodes"));
+}
+
+/* Text lines have the stored positions, one by one: so the deepest level comes first, and each level has as many lines as stored. */
+static void hold_positions(const struct bytes *stored, const struct bytes *written, size_t stored_at, size_t written_at)
+{
+    while (stored_at < stored->len && written_at < written->len) {
+        struct bytes a = line_at(stored, &stored_at), b = line_at(written, &written_at), x = second_word(&a), y = second_word(&b);
+
+        holds(same_bytes(&x, &y), "a node line has the stored position");
+    }
+    holds(stored_at == stored->len && written_at == written->len, "there are as many node lines as stored");
+}
+
+/* 'Order inside a level is left open': a file is held to the stored one up to that order. */
+static void hold_file(const struct export_vector *v, const struct bytes *written)
+{
+    size_t stored_at = 0, written_at = 0;
+
+    hold_header(&v->file, written, &stored_at, &written_at);
+    if (v->call.text)
+        hold_positions(&v->file, written, stored_at, written_at);
+    hold_back(&v->store, v->roots, v->call.roots_len, written->at, written->len);
+    hold_back(&v->store, v->roots, v->call.roots_len, v->file.at, v->file.len);
+}
+
+static void hold_export(struct export_vector *v)
+{
+    struct bytes written;
+
+    call_export(&v->call, &v->store);
+    written.at = v->call.out.at;
+    written.len = v->call.answer.len;
+    holds(v->call.answer.refusal == v->refusal, "the refusal is the stored one");
+    if (v->call.answer.refusal == 0 && v->refusal == 0)
+        hold_file(v, &written);
+    done_exporting(&v->call);
+}
+
+void try_exports(void)
+{
+    struct table t = open_table(vectors, "export.tsv");
+    struct export_vector v;
+    size_t cases = 0;
+
+    for (; next_export(&t, &v); cases++) {
+        hold_export(&v);
+        drop_export(&v);
+    }
+    close_table(&t);
+    group_done("export.tsv", cases);
+}
+
+/* Changed cases: one stored value is another, and the comparison must say so */
+
+static size_t changed_cases;
+
+static void must_be_noticed(const char *change)
+{
+    changed_cases++;
+    holds(failures_met() > 0, change);
+}
+
+static void try_changed_load(const struct load_vector *v, const char *change)
+{
+    expect_failures();
+    hold_load(v);
+    must_be_noticed(change);
+}
+
+static void change_accepted(struct load_vector *v)
+{
+    if (v->roots_len > 0) {
+        v->roots[0] = (zt_edge)-v->roots[0];
+        try_changed_load(v, "another root is noticed");
+        v->roots[0] = (zt_edge)-v->roots[0];
+        v->roots_len--;
+        try_changed_load(v, "a root more is noticed");
+        v->roots_len++;
+    }
+    if (v->roots_len > 0 && has_answers(v)) {
+        v->answers[0] ^= 1;
+        try_changed_load(v, "another answer is noticed");
+        v->answers[0] ^= 1;
+    }
+    v->after.els[v->after.count - 1]++;
+    try_changed_load(v, "another node is noticed");
+    v->after.els[v->after.count - 1]--;
+}
+
+static void change_loads(const char *name)
+{
+    struct table t = open_table(vectors, name);
+    struct load_vector v;
+
+    while (next_load(&t, &v)) {
+        v.refusal++;
+        try_changed_load(&v, "another refusal is noticed");
+        v.refusal--;
+        v.line++;
+        try_changed_load(&v, "another line is noticed");
+        v.line--;
+        if (v.refusal == 0)
+            change_accepted(&v);
+        drop_load(&v);
+    }
+    close_table(&t);
+}
+
+static void change_stores(void)
+{
+    struct table t = open_table(vectors, "stores.tsv");
+
+    while (next_line(&t, STORE_COLUMNS, STORE_COLUMNS)) {
+        struct store s = store_in(t.columns);
+
+        expect_failures();
+        hold_store(&s, (unsigned)(3 - number_in(t.columns[8])));
+        must_be_noticed("another refusal of a store is noticed");
+        drop_store(&s);
+    }
+    close_table(&t);
+}
+
+static void change_evaluations(void)
+{
+    struct table t = open_table(vectors, "evaluate.tsv");
+    struct evaluate_vector v;
+
+    while (next_evaluation(&t, &v)) {
+        expect_failures();
+        v.answer = !v.answer;
+        hold_evaluation(&v);
+        must_be_noticed("another answer of an evaluation is noticed");
+        drop_evaluation(&v);
+    }
+    close_table(&t);
+}
+
+static void try_changed_export(struct export_vector *v, const char *change)
+{
+    expect_failures();
+    hold_export(v);
+    must_be_noticed(change);
+}
+
+static void change_exports(void)
+{
+    struct table t = open_table(vectors, "export.tsv");
+    struct export_vector v;
+
+    while (next_export(&t, &v)) {
+        v.refusal++;
+        try_changed_export(&v, "another refusal of an export is noticed");
+        v.refusal--;
+        if (v.refusal == 0) {
+            v.file.at[v.file.len / 4] ^= 1;
+            try_changed_export(&v, "another header of a file is noticed");
+            v.file.at[v.file.len / 4] ^= 1;
+            v.file.at[v.file.len - 2] ^= 1;
+            try_changed_export(&v, "another end of a file is noticed");
+        }
+        drop_export(&v);
+    }
+    close_table(&t);
+}
+
+void try_changed_cases(void)
+{
+    changed_cases = 0;
+    change_loads("load.tsv");
+    change_loads("room.tsv");
+    change_stores();
+    change_evaluations();
+    change_exports();
+    group_done("changed cases, which must be noticed", changed_cases);
+}

@@ -1,0 +1,69 @@
+-- What an accepted header says: limits that it was judged by, and how many entries its lists have.
+use mathlib.Core.Path.{_≡_, sym, subst}
+use mathlib.Core.List.{List}
+use Prim.Native.Nat.{ℕ, _≤_}
+use native.Mathlib.Omega.{arith}
+use lib.ListN.{length}
+use Rattle.codes.specs.Limits.{varLimit, rootLimit}
+use Rattle.fields.specs.declared.keys.Key.the-variants.{Ids, Permids}
+use Rattle.values.specs.Values.{u32sIn}
+use Rattle.values.proofs.Counted.{u32s-most, roots-most}
+use Rattle.whole.proofs.Accepted as whole
+use Rattle.store.specs.Store.{Store}
+use Rattle.header.specs.Header.{Header, Answer, header, refusal, tableOf, listsBy, after, beforeReading, loadOf}
+use Rattle.header.proofs.Faultless.{faultless-settled}
+use Rattle.calls.specs.Load as calls
+use Rattle.calls.proofs.HeaderStands.{Sound, no-header, answer-stands}
+use Rattle.calls.proofs.Passes.{load-passes, passes-load}
+use Rattle.recoding.specs.Levels.{Judged}
+
+-- the limits, and as many ids and permids as support variables
+pub record Says (h : Header) (ids permids : List ℕ) : Type 0 where
+  pub judged : Judged (h .nvars) ids permids
+  pub ids-counted : length ids ≡ h .nsuppvars
+  pub permids-counted : length permids ≡ h .nsuppvars
+  pub few-support : h .nsuppvars ≤ varLimit
+  pub few-roots : h .nroots ≤ rootLimit
+
+-- what the file's own lists and numbers say where the header as a whole has no fault
+table-says : (f : List ℕ) (h : Header) → Sound f h → Says h (u32sIn f (tableOf f) Ids) (u32sIn f (tableOf f) Permids)
+table-says f h s =
+    let t = tableOf f in
+    let A = whole.accepted f t (s .whole) in
+    let S = faultless-settled f t (s .whole) in
+    let ids = u32s-most f t Ids in
+    let permids = u32s-most f t Permids in
+    let roots = roots-most f t in
+    let a = A .ids-counted in
+    let b = A .roots-counted in
+    subst (λ g. Says g (u32sIn f t Ids) (u32sIn f t Permids)) (sym (s .is)) (record {
+      judged = record { few = A .few-vars; ids-few = ids; permids-few = permids; below = S .below };
+      ids-counted = A .ids-counted;
+      permids-counted = A .permids-counted;
+      few-support = omega arith;
+      few-roots = omega arith;
+    })
+
+module _ (vars roots : List ℕ) (found : ℕ) (f : List ℕ) (h : Header) where
+  -- the lists of an accepted header are the file's own
+  lists-say : (a : Answer) → listsBy f a .answer ≡ header h → Sound f h → Says h (listsBy f a .ids) (listsBy f a .permids)
+  lists-say (header g) q s = table-says f h s
+  lists-say (refusal n line) q s = no-header q
+
+  -- What an accepted header says.
+  pub header-says : loadOf vars roots found f .answer ≡ header h
+      → Says h (loadOf vars roots found f .ids) (loadOf vars roots found f .permids)
+  unfolding loadOf
+  header-says q = lists-say (after (beforeReading vars roots found) f) q (answer-stands vars roots found f h q .sound)
+
+module _ (c : calls.Load) (σ : Store) (h : Header) where
+  -- a header that a load reads
+  read-says : calls.headerOf c σ .answer ≡ header h → Says h (calls.headerOf c σ .ids) (calls.headerOf c σ .permids)
+  unfolding calls.headerOf
+  read-says q = header-says _ _ _ (c .file) h q
+
+  -- What the header of an accepted load says.
+  pub load-says : calls.loadOf c σ .answer ≡ header h → Says h (calls.loadOf c σ .ids) (calls.loadOf c σ .permids)
+  load-says q =
+      let p = load-passes c σ h q in
+      subst (λ r. Says h (r .ids) (r .permids)) (sym (passes-load c σ h p)) (read-says (p .header-read))

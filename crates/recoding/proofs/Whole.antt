@@ -1,0 +1,127 @@
+-- The stages of `recode`: the input's length, the header, the load and the export.
+use mathlib.Core.Path.{_≡_, refl, sym, ap, subst, _∙_}
+use mathlib.Core.List.{List, _∷_}
+use Prim.Native.Nat.{ℕ, zero, suc, _+_, _≤_, _<_}
+use native.Mathlib.Omega.{arith}
+use lib.ListN.{length, take, replicate}
+use borrow.Author.Tests.{le-ltb, lt-ltb}
+use Rattle.codes.specs.Lent.{laid}
+use Rattle.codes.specs.Limits.{varLimit}
+use Rattle.codes.proofs.Lent.{length-laid}
+use Rattle.checks.specs.Seats.{seatOf}
+use Rattle.values.proofs.Padded.{take-laid}
+use Rattle.header.specs.Header as head
+use Rattle.calls.specs.Load.{variableLists, rootLists}
+use Rattle.recoding.specs.Levels.{takenFrom, levelList}
+use Rattle.recoding.specs.Recode.{inputMost, lists, headOf, loadedAt, Recoded, refusal, Reloads, Heads, Sized, Recodes}
+use Rattle.recoding.specs.Kinds.{planBy, listBy}
+use Rattle.recoding.specs.declared.Plan.{Plan}
+use Rattle.recoding.specs.declared.Plan.the-variants as plan
+use Rattle.recoding.proofs.Said.{Says, header-says}
+
+-- an input that is too long: 19, and zeros
+pub recodes-long : (f : List ℕ) → inputMost < length f → (out : ℕ) (bytes : List ℕ) → bytes ≡ replicate out 0
+    → Recodes f out (refusal 19 0) bytes
+recodes-long f h out bytes e =
+    subst (λ b. Sized b f out (refusal 19 0) bytes) (sym (lt-ltb inputMost (length f) h)) (record { answer = refl; bytes = e })
+
+-- of n levels no more than n are taken
+taken-few : (n p : ℕ) (permids : List ℕ) → length (takenFrom n p permids) ≤ n
+unfolding takenFrom
+taken-few zero p permids = omega arith
+taken-few (suc n) p permids = go (taken-few n (p + 1) permids) (seatOf p permids)
+  where
+    go : length (takenFrom n (p + 1) permids) ≤ n → (k : ℕ) → length {A = ℕ}
+        (elim k as (λ x. List ℕ) [ zero ↦ takenFrom n (p + 1) permids | suc i ↦ p ∷ takenFrom n (p + 1) permids ]) ≤ suc n
+    go h zero = omega arith
+    go h (suc i) = omega arith
+
+-- a level list has no more entries than there are variables
+list-few : (nvars : ℕ) (permids : List ℕ) → length (levelList nvars permids) ≤ nvars
+unfolding levelList
+list-few nvars permids = taken-few nvars 0 permids
+
+-- a refusal is no plan with levels
+no-levels : {n line levels k : ℕ} {B : Type 0} → plan.Refused n line ≡ plan.Levels levels k → B
+no-levels q = absurd (let z : _≡_ {A = ℕ} 0 1 = cc in omega arith)
+
+-- the two numbers of a plan
+same-levels : {a b c d : ℕ} → plan.Levels a b ≡ plan.Levels c d → (a ≡ c) × (b ≡ d)
+same-levels q = (cc, cc)
+
+-- the two numbers of a refusal
+same-refusal : {a b c d : ℕ} → plan.Refused a b ≡ plan.Refused c d → (a ≡ c) × (b ≡ d)
+same-refusal q = (cc, cc)
+
+-- what a plan with levels comes from: a header and its level list
+pub record Comes (f : List ℕ) (levels n : ℕ) (old dst : List ℕ) : Type 0 where
+  pub from : head.Header
+  pub read : headOf f .answer ≡ head.header from
+  pub count : levels ≡ from .nvars
+  pub entries : n ≡ length (levelList (from .nvars) (headOf f .permids))
+  pub there : dst ≡ laid (levelList (from .nvars) (headOf f .permids)) old
+
+module _ (f : List ℕ) where
+  -- the level list of the plan
+  abbrev planned : List ℕ
+  planned = listBy (headOf f) (headOf f .answer)
+
+  -- what the header says
+  head-says : (h : head.Header) → headOf f .answer ≡ head.header h → Says h (headOf f .ids) (headOf f .permids)
+  unfolding headOf
+  head-says h q = header-says (variableLists lists) (rootLists lists) 0 f h q
+
+  module _ (p : Plan) (q : p ≡ planBy (headOf f) (headOf f .answer)) where
+    module _ (levels n : ℕ) (k : p ≡ plan.Levels levels n) (old dst : List ℕ) (d : dst ≡ laid planned old) where
+      -- a plan with levels comes from a header
+      comes : Comes f levels n old dst
+      comes = go (headOf f .answer) refl (sym k ∙ q) d
+        where
+          go : (a : head.Answer) → headOf f .answer ≡ a → plan.Levels levels n ≡ planBy (headOf f) a → dst ≡ laid (listBy (headOf f) a) old
+              → Comes f levels n old dst
+          go (head.header h) r e d = let w = same-levels e in record { from = h; read = r; count = w .0; entries = w .1; there = d }
+          go (head.refusal m line) r e d = no-levels (sym e)
+
+      module _ (long : length old ≡ varLimit) where
+        -- the level list fits
+        short : n ≤ length old
+        short =
+            let c = comes in
+            let a = head-says (c .from) (c .read) .judged .few in
+            let b = list-few (c .from .nvars) (headOf f .permids) in
+            omega (arith, long, c .entries)
+
+        -- the list reaches as far as the level list
+        pub list-reaches : n ≤ length dst
+        list-reaches =
+            let c = comes in
+            let s = short in
+            let l = ap length (c .there) ∙ length-laid (levelList (c .from .nvars) (headOf f .permids)) old in
+            omega arith
+
+        -- its front is the level list
+        list-is : take n dst ≡ levelList (comes .from .nvars) (headOf f .permids)
+        list-is =
+            let es = levelList (comes .from .nvars) (headOf f .permids) in
+            ap (λ m. take m dst) (comes .entries) ∙ ap (take (length es)) (comes .there)
+            ∙ take-laid es old (subst (λ m. m ≤ length old) (comes .entries) short)
+
+        -- What the load at these levels leaves is what the program leaves.
+        pub recodes : length f ≤ inputMost → (out : ℕ) (a : Recoded) (bytes : List ℕ)
+            → Reloads f (loadedAt f (take n dst) levels) (loadedAt f (take n dst) levels .answer) out a bytes → Recodes f out a bytes
+        recodes h out a bytes e =
+            let es = levelList (comes .from .nvars) (headOf f .permids) in
+            subst (λ b. Sized b f out a bytes) (sym (le-ltb inputMost (length f) h))
+            (subst (λ t. Heads f t out a bytes) (sym (comes .read))
+            (subst (λ m. Reloads f (loadedAt f es m) (loadedAt f es m .answer) out a bytes) (comes .count)
+            (subst (λ l. Reloads f (loadedAt f l levels) (loadedAt f l levels .answer) out a bytes) list-is e)))
+
+    -- a refusal of the header: it is answered, with zeros
+    pub recodes-none : (n line : ℕ) → p ≡ plan.Refused n line → length f ≤ inputMost → (out : ℕ) (bytes : List ℕ)
+        → bytes ≡ replicate out 0 → Recodes f out (refusal n line) bytes
+    recodes-none n line k h out bytes z =
+        subst (λ b. Sized b f out (refusal n line) bytes) (sym (le-ltb inputMost (length f) h)) (go (headOf f .answer) (sym k ∙ q))
+      where
+        go : (a : head.Answer) → plan.Refused n line ≡ planBy (headOf f) a → Heads f a out (refusal n line) bytes
+        go (head.header g) e = no-levels e
+        go (head.refusal m at) e = let w = same-refusal e in record { answer = rw (w .0, w .1); bytes = z }

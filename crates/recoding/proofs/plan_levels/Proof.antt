@@ -1,0 +1,119 @@
+-- `plan_levels` meets its contract: the header is loaded, and its permids give the level list.
+use mathlib.Core.Path.{refl}
+use borrow.Author.Needs.{needs}
+use Rattle.recoding.proofs.Planned.{permids-fit, permids-long, list-may, count-fits, plans, plans-none}
+use Rattle.recoding.proofs.plan_levels.Statement.{statement}
+use Rattle.recoding.proofs.plan_levels.Tie as tie
+
+-- the load of the header, seen from where its answer is known to be a header, and to be a refusal
+abbrev loaded : tie.After-read → tie.After-load
+loaded c = c .before .before .before .before .before .before .before .before .before .before .before
+
+abbrev loaded-2 : tie.After-read2 → tie.After-load
+loaded-2 c = c .before .before .before .before .before .before .before .before .before .before .before
+
+-- that place, and the call that lays the list, seen from the return
+abbrev known : tie.After-struct-known2 → tie.After-read
+known c = c .before .before .before .before .before .before .before .before
+
+abbrev listed : tie.After-struct-known2 → tie.After-level-list
+listed c = c .before .before .before
+
+slice-aggregate-load : tie.Need-slice-aggregate-load
+slice-aggregate-load c = search needs
+
+slice-aggregate-load-2 : tie.Need-slice-aggregate-load-2
+slice-aggregate-load-2 c = search needs
+
+slice-aggregate-load-3 : tie.Need-slice-aggregate-load-3
+slice-aggregate-load-3 c = search needs
+
+slice-aggregate-load-4 : tie.Need-slice-aggregate-load-4
+slice-aggregate-load-4 c = search needs
+
+slice-aggregate-load-5 : tie.Need-slice-aggregate-load-5
+slice-aggregate-load-5 c = search needs
+
+slice-aggregate-load-6 : tie.Need-slice-aggregate-load-6
+slice-aggregate-load-6 c = search needs
+
+slice-aggregate-load-7 : tie.Need-slice-aggregate-load-7
+slice-aggregate-load-7 c = search needs
+
+slice-aggregate-load-8 : tie.Need-slice-aggregate-load-8
+slice-aggregate-load-8 c = search needs
+
+slice-aggregate-load-9 : tie.Need-slice-aggregate-load-9
+slice-aggregate-load-9 c = search needs
+
+load-requires : tie.Need-load-requires
+load-requires c κs = tt
+
+enum-known-read : tie.Need-enum-known-read
+enum-known-read c = search needs
+
+cast-permids : tie.Need-cast-permids
+cast-permids c = search needs
+
+array-share-prefix-permids : tie.Need-array-share-prefix-permids
+array-share-prefix-permids c =
+    permids-fit _ _ _ refl refl _ (loaded (c .before .before) .load .ensures .0) _ ((c .before .before) .read .given .1) _ refl _ (loaded
+    (c .before .before) .load .ensures .1 .1 .1 .1 .0)
+
+slice-aggregate-level-list : tie.Need-slice-aggregate-level-list
+slice-aggregate-level-list c =
+    permids-long _ _ _ refl refl _ (loaded (c .before .before .before) .load .ensures .0) _
+    ((c .before .before .before) .read .given .1) _ refl _ (loaded (c .before .before .before) .load .ensures .1 .1 .1 .1 .0)
+
+level-list-requires : tie.Need-level-list-requires
+level-list-requires c κs =
+    list-may _ _ _ refl refl _ (loaded (c .before .before .before .before) .load .ensures .0) _
+    ((c .before .before .before .before) .read .given .1) _ refl _ (loaded (c .before .before .before .before) .load .ensures .1 .1 .1 .1
+    .0)
+
+cast-t42 : tie.Need-cast-t42
+cast-t42 c =
+    record {
+      fits = count-fits _ _ _ refl refl _ (loaded (known c) .load .ensures .0) _ ((known c) .read .given .1) _ refl _ (loaded
+          (known c) .load .ensures .1 .1 .1 .1 .0);
+    }
+
+enum-known-read-2 : tie.Need-enum-known-read-2
+enum-known-read-2 c = search needs
+
+same-length : tie.Need-same-length
+same-length c = search needs
+
+returns : tie.Need-returns
+returns c =
+    plans _ _ _ refl refl _ (loaded (known c) .load .ensures .0) _ ((known c) .read .given .1) _ refl _ (loaded
+    (known c) .load .ensures .1 .1 .1 .1 .0)
+    _ _ _ (listed c .level-list .ensures .0) (listed c .level-list .ensures .1)
+
+returns-2 : tie.Need-returns-2
+returns-2 c = plans-none _ _ _ refl refl _ (loaded-2 (c .before) .load .ensures .0) _ _ (c .before .read2 .given .1) _
+
+pub plan-levels-spec : {M : Type 1} → statement M
+plan-levels-spec =
+    tie.close
+    (tie.spec
+    slice-aggregate-load
+    slice-aggregate-load-2
+    slice-aggregate-load-3
+    slice-aggregate-load-4
+    slice-aggregate-load-5
+    slice-aggregate-load-6
+    slice-aggregate-load-7
+    slice-aggregate-load-8
+    slice-aggregate-load-9
+    load-requires
+    enum-known-read
+    cast-permids
+    array-share-prefix-permids
+    slice-aggregate-level-list
+    level-list-requires
+    cast-t42
+    enum-known-read-2
+    same-length
+    returns
+    returns-2)

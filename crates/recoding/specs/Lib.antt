@@ -1,0 +1,4 @@
+pub mod Levels
+pub mod Text
+pub mod Recode
+pub mod Kinds

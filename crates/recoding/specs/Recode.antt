@@ -1,0 +1,124 @@
+-- The program `recode`, as a function of its input. Document 01, 'Export', last part.
+use Prim.Native.Nat.{ℕ}
+use mathlib.Core.Path.{_≡_}
+use mathlib.Core.Bool.{Bool, true, false, _&&_, cond}
+use mathlib.Core.List.{List, [], _∷_}
+use lib.IntN.{ℤ}
+use lib.Dec.{ltb}
+use lib.ListN.{length, take, replicate}
+use Rattle.codes.specs.Answer.{Read, value, refused}
+use Rattle.codes.specs.Limits.{varLimit, rootLimit}
+use Rattle.codes.specs.declared.DDDMPVersion.the-variants.{«V2_0»}
+use Rattle.store.specs.Store.{Store}
+use Rattle.store.specs.Empty.{empty}
+use Rattle.header.specs.Header as head
+use Rattle.export_header.specs.Tables.{lent}
+use Rattle.exporter.specs.Settings.{settings}
+use Rattle.exporter.specs.Promise.{ofExported}
+use Rattle.exporter.specs.declared.Exported.{Exported}
+use Rattle.calls.specs.Load.{Lengths, Load, Loaded, variableLists, rootLists, partsOf, loadOf}
+use Rattle.calls.specs.Calls.{Export, exportInto, Exports}
+use Rattle.recoding.specs.Levels.{levelList, variableLevels}
+
+-- 'standard input (65,536 bytes at most ..)'
+abbrev pub inputMost : ℕ
+inputMost = 65536
+
+-- 'It lends 4,096 slots, as many scratch entries'; the export's marks are as many
+abbrev pub slots : ℕ
+slots = 4096
+
+-- the lists that it lends: no longer than a load asks for
+abbrev pub lists : Lengths
+lists = record {
+  ids = varLimit;
+  order = varLimit;
+  permids = varLimit;
+  auxids = varLimit;
+  names = varLimit;
+  lens = varLimit;
+  roots = rootLimit;
+  rootnames = rootLimit;
+  rootlens = rootLimit;
+  edges = slots;
+  seats = slots;
+}
+
+-- the header, read first for the level count and the level list
+unfoldable pub headOf : List ℕ → head.Loaded
+headOf f = head.loadOf (variableLists lists) (rootLists lists) 0 f
+
+-- a load at some levels, into an empty store of so many levels
+abbrev pub loadAt : List ℕ → List ℕ → Load
+loadAt f list = record { file = f; list = list; lent = lists }
+
+unfoldable pub loadedAt : List ℕ → List ℕ → ℕ → Loaded
+loadedAt f list levels = loadOf (loadAt f list) (empty levels slots)
+
+-- is every name there? 'An empty name .. is start 0, length 0.'
+unfoldable pub allThere : List ℕ → Bool
+allThere [] = true
+allThere (n ∷ lens) = ltb 0 n && allThere lens
+
+-- 'passes on variable names where all are present, root names': starts or lengths, by the lengths
+abbrev pub passed : List ℕ → List ℕ → List ℕ
+passed lens l = cond (allThere lens) l []
+
+-- The export of what was loaded: 'variable names where all are present, root names and the `.dd` value', 'mode A, version 2.0'. The lists have
+-- an entry for each root or variable.
+abbrev pub exportWith : List ℕ → head.Header → List ℤ → List ℕ → List ℕ → List ℕ → List ℕ → List ℕ → List ℕ → ℕ → Export
+exportWith f h roots ids permids names lens rootnames rootlens out =
+    exportInto (settings «V2_0» true (h .dd)) roots (variableLevels (h .nvars) ids permids)
+    (lent f (passed lens names) (passed lens lens) (passed rootlens rootnames) (passed rootlens rootlens) (h .dd))
+    slots slots out
+
+-- the lists as the load leaves them
+abbrev pub exportOf : List ℕ → head.Header → Loaded → ℕ → Export
+exportOf f h r out =
+    exportWith f h (take (h .nroots) (partsOf lists r .roots)) (r .ids) (r .permids)
+    (take (h .nvars) (partsOf lists r .names)) (take (h .nvars) (partsOf lists r .lens))
+    (take (h .nroots) (partsOf lists r .rootnames)) (take (h .nroots) (partsOf lists r .rootlens)) out
+
+-- a file of some length, or a refusal and its line
+pub data Recoded : Type 0 where
+  written : ℕ → Recoded
+  refusal : ℕ → ℕ → Recoded
+
+-- an export reads no file: its refusals have line 0
+abbrev pub ofRead : Read ℕ → Recoded
+ofRead (value n) = written n
+ofRead (refused k) = refusal k 0
+
+-- a refusal, and zeros in an output of so many bytes
+pub record Refuses (n line lent : ℕ) (a : Recoded) (out : List ℕ) : Type 0 where
+  pub answer : a ≡ refusal n line
+  pub bytes : out ≡ replicate lent 0
+
+-- what an export leaves: the order of lines inside a level is left open, as the export leaves it
+pub record Exporting (x : Export) (σ : Store) (a : Recoded) (out : List ℕ) : Type 0 where
+  pub exported : Exported
+  pub exports : Exports x σ exported out
+  pub answer : a ≡ ofRead (ofExported exported)
+
+-- after the load
+abbrev pub Reloads : List ℕ → Loaded → head.Answer → ℕ → Recoded → List ℕ → Type 0
+Reloads f r (head.refusal n line) lent a out = Refuses n line lent a out
+Reloads f r (head.header h) lent a out = Exporting (exportOf f h r lent) (r .after) a out
+
+-- at the levels that the header names
+abbrev pub reloadOf : List ℕ → head.Header → Loaded
+reloadOf f h = loadedAt f (levelList (h .nvars) (headOf f .permids)) (h .nvars)
+
+-- after the header
+abbrev pub Heads : List ℕ → head.Answer → ℕ → Recoded → List ℕ → Type 0
+Heads f (head.refusal n line) lent a out = Refuses n line lent a out
+Heads f (head.header h) lent a out = Reloads f (reloadOf f h) (reloadOf f h .answer) lent a out
+
+-- 'else 19 line 0'
+abbrev pub Sized : Bool → List ℕ → ℕ → Recoded → List ℕ → Type 0
+Sized true f lent a out = Refuses 19 0 lent a out
+Sized false f lent a out = Heads f (headOf f .answer) lent a out
+
+-- What the program makes of an input, in an output of so many bytes.
+abbrev pub Recodes : List ℕ → ℕ → Recoded → List ℕ → Type 0
+Recodes f lent a out = Sized (ltb inputMost (length f)) f lent a out

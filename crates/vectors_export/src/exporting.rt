@@ -1,4 +1,4 @@
-// An export, compared with the stored answer.
+// An export by `dddmp::export`, compared with the stored answer.
 ghost use Prim.Native.Nat.{_≤_};
 use crate::case;
 use crate::lists;
@@ -81,7 +81,8 @@ pub fn agrees(
     let mut slots = [MARK; lists::SLOTS];
     let mut numbers = [MARK; lists::SLOTS];
     let mut out = [FILL; OUT];
-    let answer = settings(head).export(
+    let answer = dddmp::export(
+        settings(head),
         stored::number(head, 0, 0),
         stored::number(head, 0, 1),
         level,

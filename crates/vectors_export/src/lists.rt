@@ -4,7 +4,7 @@
 // numbers each; how many slots and how many heads are given; the refusal; then three lengths of two numbers each.
 ghost use Prim.Native.Nat.{_≤_};
 use crate::exporting;
-use crate::reading;
+use crate::loading;
 use edges::Edge;
 use edges::Index;
 
@@ -28,6 +28,7 @@ pub fn cut(head: &[u8; 64], i: usize, most: usize) -> usize
 // The case on these lists. A file that was written must come back.
 fn on_lists(
     head: &[u8; 64],
+    given: &[u8],
     level: &[u16],
     then: &[Edge],
     els: &[Edge],
@@ -63,16 +64,10 @@ fn on_lists(
     if stored::number(head, 0, 25) != 0 {
         return true;
     }
-    reading::comes_back(
+    loading::comes_back(
+        head,
+        given,
         file,
-        stored::number(head, 0, 0),
-        stored::number(head, 0, 1),
-        level,
-        then,
-        els,
-        next,
-        heads,
-        roots,
         order,
         names,
         starts,
@@ -123,6 +118,7 @@ pub fn agrees(head: &[u8; 64], given: &[u8], names: &[u8], file: &[u8]) -> bool 
     stored::fill_wide(given, rootlens_at, &mut rootlens);
     on_lists(
         head,
+        given,
         &level[..cut(head, 2, SLOTS)],
         &then[..cut(head, 3, SLOTS)],
         &els[..cut(head, 4, SLOTS)],

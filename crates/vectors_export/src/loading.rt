@@ -1,215 +1,164 @@
-// The nodes of a file, read into a copy of the store that it came from.
-ghost use mathlib.Core.Bool.{false};
-ghost use Rattle.store.specs.Store.{store};
-ghost use Rattle.import.specs.Build.{LevelsOf};
-ghost use Rattle.import.specs.Import.{setup, Bounded};
-use crate::copies;
+// A file that an export wrote, loaded by `dddmp::load` into the store that it came from, at its own levels. Module `lists` says what a
+// case's head is.
+use crate::levels;
 use crate::lists;
+use crate::reading;
 use edges::Edge;
 use edges::Index;
-use header::load::DumpHeader;
-use import::Imported;
 
-// More than the nodes of a stored case.
-const NODES: usize = 500;
+// What each entry of the header's lists, of the roots and of the scratch is before the load.
+const FILL: u32 = 0x5a5a5a5a;
 
-// The most support variables, and the most roots, of a file.
-pub const VARS: usize = 4096;
+const EDGE_FILL: Edge = 0x5a5a;
 
-pub const ROOTS: usize = 1024;
+const SEAT_FILL: u16 = 0x5a5a;
 
-// The level of a variable; 0 for one that there isn't.
-fn level_of(order: &[u16], v: u32) -> u16 {
-    let at = v as usize;
-    if at < order.len() {
-        return order[at];
-    }
-    0
-}
-
-// The level of the support variable at an index; 0 after the last.
-fn level_at(support: &[u32], order: &[u16], i: usize) -> u16 {
-    if i < support.len() {
-        return level_of(order, support[i]);
-    }
-    0
-}
-
-// The levels of the support variables, which come in the order of their levels.
-fn fill_levels(support: &[u32], order: &[u16], list: &mut [u16]) {
-    let mut i = 0;
-    while i < list.len() {
-        list[i] = level_at(support, order, i);
-        i += 1;
-    }
-}
-
-// Whether a copy of the store has the same count and lists, zeros after them, and the same roots, signs included.
+// Whether the store is as it was given, zeros after its lists, the roots are those that are given, signs included, and the scratch is zeros,
+// where all before is the same.
 fn same_store(
-    was: Index,
-    level: &[u16],
-    then: &[Edge],
-    els: &[Edge],
-    next: &[Index],
-    heads: &[Index],
-    roots: &[Edge],
+    same: bool,
+    head: &[u8; 64],
+    given: &[u8],
     count: Index,
-    levels_now: &[u16],
-    then_now: &[Edge],
-    else_now: &[Edge],
-    next_now: &[Index],
-    heads_now: &[Index],
-    roots_now: &[Edge],
-) -> bool {
-    count == was
-        && copies::is_copy(level, levels_now)
-        && copies::is_edges_copy(then, then_now)
-        && copies::is_edges_copy(els, else_now)
-        && copies::is_copy(next, next_now)
-        && copies::is_copy(heads, heads_now)
-        && copies::is_edges_copy(roots, roots_now)
-}
-
-fn is_read(answer: Imported) -> bool {
-    match answer {
-        Imported::Nodes(_) => true,
-        Imported::Refused(_, _) => false,
-    }
-}
-
-// Whether the nodes are accepted, and leave the store as it was, and the same roots. `back` is the roots as the header has them.
-fn nodes_back(
-    file: &[u8],
-    from: usize,
-    ascii: bool,
-    nnodes: Index,
-    lines: usize,
-    list: &[u16],
-    levels: u16,
-    was: Index,
     level: &[u16],
     then: &[Edge],
     els: &[Edge],
     next: &[Index],
     heads: &[Index],
     roots: &[Edge],
-    back: &[Edge],
-) -> bool
-    requires { ⌜ LevelsOf (store levels was (now level) (now then) (now els) (now next) (now heads)) (now list) ⌝ }
-    requires { ⌜ Bounded (setup ascii false nnodes lines (now list) levels) 500 500 ⌝ }
-{
-    let mut count = was;
-    let mut levels_now = [0u16; lists::SLOTS];
-    let mut then_now = [0 as Edge; lists::SLOTS];
-    let mut else_now = [0 as Edge; lists::SLOTS];
-    let mut next_now = [0u16; lists::SLOTS];
-    let mut heads_now = [0u16; 256];
-    let mut roots_now = [0 as Edge; ROOTS];
-    let mut edges = [0 as Edge; NODES];
-    let mut seats = [0u16; NODES];
-    copies::copy(level, &mut levels_now);
-    copies::copy_edges(then, &mut then_now);
-    copies::copy_edges(els, &mut else_now);
-    copies::copy(next, &mut next_now);
-    copies::copy(heads, &mut heads_now);
-    copies::copy_edges(back, &mut roots_now);
-    if !store::rules::keeps_rules(
-        levels,
-        was,
-        &levels_now,
-        &then_now,
-        &else_now,
-        &next_now,
-        &heads_now,
-    ) {
-        return false;
-    }
-    let answer = import::import(
+    edges: &[Edge],
+    seats: &[u16],
+) -> bool {
+    let n = stored::size(stored::number(head, 0, 23));
+    let b = stored::size(stored::number(head, 0, 24));
+    let r = stored::size(stored::number(head, 0, 7));
+    same
+        && count == stored::number(head, 0, 1)
+        && stored::is_list(given, 0, n, level)
+        && stored::is_edges(given, 2 * n, n, then)
+        && stored::is_edges(given, 4 * n, n, els)
+        && stored::is_list(given, 6 * n, n, next)
+        && stored::is_list(given, 8 * n, b, heads)
+        && stored::is_edges(given, 8 * n + 2 * b, r, roots)
+        && stored::is_edges(given, 0, 0, edges)
+        && stored::is_list(given, 0, 0, seats)
+}
+
+// Whether the file is accepted, with the same variables, roots and names, and the store as it was given. `list` is the level list.
+fn is_loaded(
+    head: &[u8; 64],
+    given: &[u8],
+    file: &[u8],
+    list: &[u16],
+    order: &[u16],
+    names: &[u8],
+    starts: &[u32],
+    lens: &[u32],
+    rootstarts: &[u32],
+    rootlens: &[u32],
+) -> bool {
+    let mut level = [0u16; lists::SLOTS];
+    let mut then = [0 as Edge; lists::SLOTS];
+    let mut els = [0 as Edge; lists::SLOTS];
+    let mut next = [0u16; lists::SLOTS];
+    let mut heads = [0u16; 256];
+    let mut ids = [FILL; levels::VARS];
+    let mut support = [FILL; levels::VARS];
+    let mut permids = [FILL; levels::VARS];
+    let mut auxids = [FILL; levels::VARS];
+    let mut back = [FILL; levels::VARS];
+    let mut backlens = [FILL; levels::VARS];
+    let mut roots = [EDGE_FILL; levels::ROOTS];
+    let mut rootback = [FILL; levels::ROOTS];
+    let mut rootbacklens = [FILL; levels::ROOTS];
+    let mut edges = [EDGE_FILL; lists::SLOTS];
+    let mut seats = [SEAT_FILL; lists::SLOTS];
+    let mut count = stored::number(head, 0, 1);
+    let n = stored::size(stored::number(head, 0, 23));
+    let b = stored::size(stored::number(head, 0, 24));
+    stored::fill(given, 0, n, &mut level);
+    stored::fill_edges(given, 2 * n, n, &mut then);
+    stored::fill_edges(given, 4 * n, n, &mut els);
+    stored::fill(given, 6 * n, n, &mut next);
+    stored::fill(given, 8 * n, b, &mut heads);
+    let loaded = dddmp::load(
         file,
-        from,
-        ascii,
-        false,
-        nnodes,
-        lines,
         list,
-        levels,
+        stored::number(head, 0, 0),
         &mut count,
-        &mut levels_now,
-        &mut then_now,
-        &mut else_now,
-        &mut next_now,
-        &mut heads_now,
+        &mut level,
+        &mut then,
+        &mut els,
+        &mut next,
+        &mut heads,
+        &mut ids,
+        &mut support,
+        &mut permids,
+        &mut auxids,
+        &mut back,
+        &mut backlens,
+        &mut roots,
+        &mut rootback,
+        &mut rootbacklens,
         &mut edges,
         &mut seats,
-        &mut roots_now,
     );
-    is_read(answer)
-        && same_store(
-            was,
-            level,
-            then,
-            els,
-            next,
-            heads,
-            roots,
-            count,
-            &levels_now,
-            &then_now,
-            &else_now,
-            &next_now,
-            &heads_now,
-            &roots_now,
-        )
+    let same = reading::is_back(
+        loaded,
+        file,
+        &ids,
+        &permids,
+        &back,
+        &backlens,
+        &rootback,
+        &rootbacklens,
+        order,
+        names,
+        starts,
+        lens,
+        rootstarts,
+        rootlens,
+    );
+    same_store(
+        same,
+        head,
+        given,
+        count,
+        &level,
+        &then,
+        &els,
+        &next,
+        &heads,
+        &roots,
+        &edges,
+        &seats,
+    )
 }
 
-// The same for a header, by the levels of its support variables. A header of more variables, nodes or lines than a stored case has differs.
+// The same, with the level list that the file's header tells.
 pub fn comes_back(
+    head: &[u8; 64],
+    given: &[u8],
     file: &[u8],
-    h: DumpHeader,
-    support: &[u32],
     order: &[u16],
-    levels: u16,
-    was: Index,
-    level: &[u16],
-    then: &[Edge],
-    els: &[Edge],
-    next: &[Index],
-    heads: &[Index],
-    roots: &[Edge],
-    back: &[Edge],
+    names: &[u8],
+    starts: &[u32],
+    lens: &[u32],
+    rootstarts: &[u32],
+    rootlens: &[u32],
 ) -> bool {
-    let n = h.nsuppvars as usize;
-    let nnodes = h.nnodes;
-    let lines = h.lines;
-    if VARS < n {
-        return false;
-    }
-    if NODES < nnodes as usize {
-        return false;
-    }
-    if 4294967295 < lines {
-        return false;
-    }
-    let mut list = [0u16; VARS];
-    fill_levels(support, order, &mut list);
-    if !import::list::list_fits(&list[..n], h.nsuppvars, levels) {
-        return false;
-    }
-    nodes_back(
+    let mut list = [0u16; levels::VARS];
+    let n = levels::list_levels(file, order, &mut list);
+    is_loaded(
+        head,
+        given,
         file,
-        h.next,
-        h.ascii,
-        nnodes as Index,
-        lines,
         &list[..n],
-        levels,
-        was,
-        level,
-        then,
-        els,
-        next,
-        heads,
-        roots,
-        back,
+        order,
+        names,
+        starts,
+        lens,
+        rootstarts,
+        rootlens,
     )
 }

@@ -1,10 +1,11 @@
-// Exports each stored case of each file that the arguments name, loads what was written again, and prints for each file how many cases it has
-// and in how many of them the answer, a lent list or what comes back differs from what is stored. tests/export/make_cases.py makes the files
-// and says how. The expected output has four lines: no case of `cases.bin` differs; every case of `falsified.bin`, of whose stored values
-// one is changed, does; `cut.bin` ends inside a case, and `missing.bin` isn't there, which must both be seen.
+// Exports each stored case of each file that the arguments name by the public call `dddmp::export`, loads what was written again by
+// `dddmp::load`, and prints for each file how many cases it has and in how many of them the answer, a lent list or what comes back differs
+// from what is stored. tests/export/make_cases.py makes the files and says how. The expected output has four lines: no case of `cases.bin`
+// differs; every case of `falsified.bin`, of whose stored values one is changed, does; `cut.bin` ends inside a case, and `missing.bin` isn't
+// there, which must both be seen.
 mod case;
-mod copies;
 mod exporting;
+mod levels;
 mod lists;
 mod loading;
 mod reading;

@@ -1,8 +1,4 @@
-// A file that an export wrote, loaded again into the store that it came from, at its own levels.
-use crate::loading;
-use edges::Edge;
-use edges::Index;
-use header::load::DumpHeader;
+// The header of a file that an export wrote, compared with what was exported.
 use header::load::Loaded;
 
 // Whether the bytes at two places are the same.
@@ -142,17 +138,16 @@ fn same_variables(
     true
 }
 
-// Whether the file is accepted, with the same variables, roots and names, and the store as it was.
-pub fn comes_back(
+// Whether a load of the file is accepted, with the same variables and names.
+pub fn is_back(
+    loaded: Loaded,
     file: &[u8],
-    levels: u16,
-    count: Index,
-    level: &[u16],
-    then: &[Edge],
-    els: &[Edge],
-    next: &[Index],
-    heads: &[Index],
-    roots: &[Edge],
+    ids: &[u32],
+    permids: &[u32],
+    back: &[u32],
+    backlens: &[u32],
+    rootback: &[u32],
+    rootbacklens: &[u32],
     order: &[u16],
     names: &[u8],
     starts: &[u32],
@@ -160,58 +155,22 @@ pub fn comes_back(
     rootstarts: &[u32],
     rootlens: &[u32],
 ) -> bool {
-    let mut ids = [0u32; loading::VARS];
-    let mut support = [0u32; loading::VARS];
-    let mut permids = [0u32; loading::VARS];
-    let mut auxids = [0u32; loading::VARS];
-    let mut back = [0u32; loading::VARS];
-    let mut backlens = [0u32; loading::VARS];
-    let mut rootids = [0 as Edge; loading::ROOTS];
-    let mut rootback = [0u32; loading::ROOTS];
-    let mut rootbacklens = [0u32; loading::ROOTS];
-    match DumpHeader::load(
-        file,
-        0,
-        &mut ids,
-        &mut support,
-        &mut permids,
-        &mut auxids,
-        &mut back,
-        &mut backlens,
-        &mut rootids,
-        &mut rootback,
-        &mut rootbacklens,
-    ) {
+    match loaded {
         Loaded::Refused(_, _) => false,
         Loaded::Header(h) => {
             same_variables(
                 file,
-                &ids,
-                &permids,
+                ids,
+                permids,
                 h.nsuppvars,
-                &back,
-                &backlens,
+                back,
+                backlens,
                 order,
                 names,
                 starts,
                 lens,
             )
-                && same_names(file, &rootback, &rootbacklens, names, rootstarts, rootlens)
-                && loading::comes_back(
-                    file,
-                    h,
-                    &support,
-                    order,
-                    levels,
-                    count,
-                    level,
-                    then,
-                    els,
-                    next,
-                    heads,
-                    roots,
-                    &rootids,
-                )
+                && same_names(file, rootback, rootbacklens, names, rootstarts, rootlens)
         }
     }
 }

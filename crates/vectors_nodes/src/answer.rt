@@ -3,10 +3,10 @@
 use crate::tables;
 use edges::Edge;
 use edges::Index;
-use import::Imported;
+use header::load::Loaded;
 
 // Whether an answer is this refusal.
-pub fn is_refusal(s: &[u8], k: u8, line: usize) -> bool {
+fn is_refusal(s: &[u8], k: u8, line: usize) -> bool {
     s.len() == 4
         && stored::number(s, 0, 0) == k as u16
         && stored::size(stored::number(s, 0, 1)) == line
@@ -31,26 +31,6 @@ fn is_given(
         && stored::is_edges(given, 4 * n, n, els)
         && stored::is_list(given, 6 * n, n, next)
         && stored::is_list(given, 8 * n, b, heads)
-}
-
-// Whether an answer is this refusal, and leaves zeros as roots and the store as it was given.
-pub fn is_clean_refusal(
-    s: &[u8],
-    k: u8,
-    line: usize,
-    head: &[u8; 40],
-    given: &[u8],
-    count: Index,
-    level: &[u16],
-    then: &[Edge],
-    els: &[Edge],
-    next: &[Index],
-    heads: &[Index],
-    roots: &[Edge],
-) -> bool {
-    is_refusal(s, k, line)
-        && stored::is_edges(s, 0, 0, roots)
-        && is_given(head, given, count, level, then, els, next, heads)
 }
 
 // Whether the count, the nodes and the `r` roots are the stored ones.
@@ -116,9 +96,43 @@ fn is_store(
         )
 }
 
-// Whether the nodes' answer is the stored one, and the roots and the store are those that are stored or given, and the scratch is zeros.
+// Whether a list is zeros.
+fn is_zeros(list: &[u32]) -> bool {
+    let mut i = 0;
+    while i < list.len() {
+        if list[i] != 0 {
+            return false;
+        }
+        i += 1;
+    }
+    true
+}
+
+// Whether the lists of the header are zeros.
+fn are_zeros(
+    ids: &[u32],
+    order: &[u32],
+    permids: &[u32],
+    auxids: &[u32],
+    names: &[u32],
+    lens: &[u32],
+    rootnames: &[u32],
+    rootlens: &[u32],
+) -> bool {
+    is_zeros(ids)
+        && is_zeros(order)
+        && is_zeros(permids)
+        && is_zeros(auxids)
+        && is_zeros(names)
+        && is_zeros(lens)
+        && is_zeros(rootnames)
+        && is_zeros(rootlens)
+}
+
+// Whether the answer of a load is the stored one, and the scratch is zeros: a header, with the stored store and roots; or a refusal, with
+// the store as it was given, and zeros as roots and in the lists of the header.
 pub fn is_answer(
-    answer: Imported,
+    loaded: Loaded,
     head: &[u8; 40],
     given: &[u8],
     s: &[u8],
@@ -129,9 +143,17 @@ pub fn is_answer(
     els: &[Edge],
     next: &[Index],
     heads: &[Index],
+    ids: &[u32],
+    order: &[u32],
+    permids: &[u32],
+    auxids: &[u32],
+    names: &[u32],
+    lens: &[u32],
+    roots: &[Edge],
+    rootnames: &[u32],
+    rootlens: &[u32],
     edges: &[Edge],
     seats: &[u16],
-    roots: &[Edge],
 ) -> bool {
     if !stored::is_edges(s, 0, 0, edges) {
         return false;
@@ -139,21 +161,22 @@ pub fn is_answer(
     if !stored::is_list(s, 0, 0, seats) {
         return false;
     }
-    match answer {
-        Imported::Nodes(_) => is_store(s, levels, count, level, then, els, next, heads, roots),
-        Imported::Refused(k, line) => is_clean_refusal(
-            s,
-            k,
-            line,
-            head,
-            given,
-            count,
-            level,
-            then,
-            els,
-            next,
-            heads,
-            roots,
-        ),
+    match loaded {
+        Loaded::Header(_) => is_store(s, levels, count, level, then, els, next, heads, roots),
+        Loaded::Refused(k, line) => {
+            is_refusal(s, k, line)
+                && stored::is_edges(s, 0, 0, roots)
+                && is_given(head, given, count, level, then, els, next, heads)
+                && are_zeros(
+                    ids,
+                    order,
+                    permids,
+                    auxids,
+                    names,
+                    lens,
+                    rootnames,
+                    rootlens,
+                )
+        }
     }
 }

@@ -1,12 +1,10 @@
-// Loads each stored case of each file that the arguments name, and prints for each file how many cases it has and in how many of them the
-// answer, the store or a lent list differs from what is stored. tests/nodes/make_cases.py makes the files and says how. The expected
-// output has four lines: no case of `cases.bin` differs; every case of `falsified.bin`, of whose stored values one is changed, does;
-// `cut.bin` ends inside a case, and `missing.bin` isn't there, which must both be seen.
+// Loads each stored case of each file that the arguments name by the public call `dddmp::load`, and prints for each file how many cases it
+// has and in how many of them the answer, the store or a lent list differs from what is stored. tests/nodes/make_cases.py makes the files
+// and says how. The expected output has four lines: no case of `cases.bin` differs; every case of `falsified.bin`, of whose stored values
+// one is changed, does; `cut.bin` ends inside a case, and `missing.bin` isn't there, which must both be seen.
 mod answer;
 mod case;
-mod lent;
 mod lists;
-mod loading;
 mod tables;
 
 use case::Outcome;

@@ -49,7 +49,7 @@ fn answers(
         return false;
     }
     is_yes(
-        store::answers::evaluate(
+        dddmp::evaluate(
             levels,
             count,
             level,

@@ -6,22 +6,22 @@ use Rattle.vectors_export.proofs.exporting.agrees.Statement.{statement}
 use Rattle.vectors_export.proofs.exporting.agrees.Tie as tie
 
 cut-requires : tie.Need-cut-requires
-cut-requires c κs = search needs
+cut-requires c κs = tt
 
 cut-requires-2 : tie.Need-cut-requires-2
-cut-requires-2 c κs = search needs
+cut-requires-2 c κs = tt
 
 room-requires : tie.Need-room-requires
-room-requires c κs = search needs
+room-requires c κs = tt
 
 settings-requires : tie.Need-settings-requires
-settings-requires c κs = search needs
+settings-requires c κs = tt
 
 number-requires : tie.Need-number-requires
-number-requires c κs = search needs
+number-requires c κs = tt
 
 number-requires-2 : tie.Need-number-requires-2
-number-requires-2 c κs = search needs
+number-requires-2 c κs = tt
 
 array-borrow-prefix-slots : tie.Need-array-borrow-prefix-slots
 array-borrow-prefix-slots c = search needs
@@ -42,10 +42,10 @@ slice-aggregate-export-3 : tie.Need-slice-aggregate-export-3
 slice-aggregate-export-3 c = front-length 40000 _ _ (c .before .before .before .before .before .before .before .before .room .ensures)
 
 export-requires : tie.Need-export-requires
-export-requires c κs = search needs
+export-requires c κs = tt
 
 number-requires-3 : tie.Need-number-requires-3
-number-requires-3 c κs = search needs
+number-requires-3 c κs = tt
 
 array-share-prefix-slots : tie.Need-array-share-prefix-slots
 array-share-prefix-slots c =
@@ -90,7 +90,7 @@ slice-aggregate-is-answer-3 c =
     (k .ensures) (e .export .kept .1 .1 .1 .1 .1 .1 .1 .1 .1 .1 .1 .1 .1 .1 .1 .1 .1 .0)
 
 is-answer-requires : tie.Need-is-answer-requires
-is-answer-requires c κs = search needs
+is-answer-requires c κs = tt
 
 returns : tie.Need-returns
 returns c = search needs

@@ -5,34 +5,34 @@ use Rattle.vectors_export.proofs.lists.agrees.Statement.{statement}
 use Rattle.vectors_export.proofs.lists.agrees.Tie as tie
 
 number-requires : tie.Need-number-requires
-number-requires c κs = search needs
+number-requires c κs = tt
 
 size-requires : tie.Need-size-requires
-size-requires c κs = search needs
+size-requires c κs = tt
 
 number-requires-2 : tie.Need-number-requires-2
-number-requires-2 c κs = search needs
+number-requires-2 c κs = tt
 
 size-requires-2 : tie.Need-size-requires-2
-size-requires-2 c κs = search needs
+size-requires-2 c κs = tt
 
 cut-requires : tie.Need-cut-requires
-cut-requires c κs = search needs
+cut-requires c κs = tt
 
 cut-requires-2 : tie.Need-cut-requires-2
-cut-requires-2 c κs = search needs
+cut-requires-2 c κs = tt
 
 cut-requires-3 : tie.Need-cut-requires-3
-cut-requires-3 c κs = search needs
+cut-requires-3 c κs = tt
 
 cut-requires-4 : tie.Need-cut-requires-4
-cut-requires-4 c κs = search needs
+cut-requires-4 c κs = tt
 
 cut-requires-5 : tie.Need-cut-requires-5
-cut-requires-5 c κs = search needs
+cut-requires-5 c κs = tt
 
 cut-requires-6 : tie.Need-cut-requires-6
-cut-requires-6 c κs = search needs
+cut-requires-6 c κs = tt
 
 mul-heads-at : tie.Need-mul-heads-at
 mul-heads-at c = search needs
@@ -77,7 +77,7 @@ slice-aggregate-fill : tie.Need-slice-aggregate-fill
 slice-aggregate-fill c = search needs
 
 fill-requires : tie.Need-fill-requires
-fill-requires c κs = search needs
+fill-requires c κs = tt
 
 mul-fill-edges : tie.Need-mul-fill-edges
 mul-fill-edges c = search needs
@@ -86,7 +86,7 @@ slice-aggregate-fill-edges : tie.Need-slice-aggregate-fill-edges
 slice-aggregate-fill-edges c = search needs
 
 fill-edges-requires : tie.Need-fill-edges-requires
-fill-edges-requires c κs = search needs
+fill-edges-requires c κs = tt
 
 mul-fill-edges-2 : tie.Need-mul-fill-edges-2
 mul-fill-edges-2 c = search needs
@@ -95,7 +95,7 @@ slice-aggregate-fill-edges-2 : tie.Need-slice-aggregate-fill-edges-2
 slice-aggregate-fill-edges-2 c = search needs
 
 fill-edges-requires-2 : tie.Need-fill-edges-requires-2
-fill-edges-requires-2 c κs = search needs
+fill-edges-requires-2 c κs = tt
 
 mul-fill : tie.Need-mul-fill
 mul-fill c = search needs
@@ -104,52 +104,52 @@ slice-aggregate-fill-2 : tie.Need-slice-aggregate-fill-2
 slice-aggregate-fill-2 c = search needs
 
 fill-requires-2 : tie.Need-fill-requires-2
-fill-requires-2 c κs = search needs
+fill-requires-2 c κs = tt
 
 slice-aggregate-fill-3 : tie.Need-slice-aggregate-fill-3
 slice-aggregate-fill-3 c = search needs
 
 fill-requires-3 : tie.Need-fill-requires-3
-fill-requires-3 c κs = search needs
+fill-requires-3 c κs = tt
 
 slice-aggregate-fill-edges-3 : tie.Need-slice-aggregate-fill-edges-3
 slice-aggregate-fill-edges-3 c = search needs
 
 fill-edges-requires-3 : tie.Need-fill-edges-requires-3
-fill-edges-requires-3 c κs = search needs
+fill-edges-requires-3 c κs = tt
 
 slice-aggregate-fill-4 : tie.Need-slice-aggregate-fill-4
 slice-aggregate-fill-4 c = search needs
 
 fill-requires-4 : tie.Need-fill-requires-4
-fill-requires-4 c κs = search needs
+fill-requires-4 c κs = tt
 
 slice-aggregate-fill-wide : tie.Need-slice-aggregate-fill-wide
 slice-aggregate-fill-wide c = search needs
 
 fill-wide-requires : tie.Need-fill-wide-requires
-fill-wide-requires c κs = search needs
+fill-wide-requires c κs = tt
 
 slice-aggregate-fill-wide-2 : tie.Need-slice-aggregate-fill-wide-2
 slice-aggregate-fill-wide-2 c = search needs
 
 fill-wide-requires-2 : tie.Need-fill-wide-requires-2
-fill-wide-requires-2 c κs = search needs
+fill-wide-requires-2 c κs = tt
 
 slice-aggregate-fill-wide-3 : tie.Need-slice-aggregate-fill-wide-3
 slice-aggregate-fill-wide-3 c = search needs
 
 fill-wide-requires-3 : tie.Need-fill-wide-requires-3
-fill-wide-requires-3 c κs = search needs
+fill-wide-requires-3 c κs = tt
 
 slice-aggregate-fill-wide-4 : tie.Need-slice-aggregate-fill-wide-4
 slice-aggregate-fill-wide-4 c = search needs
 
 fill-wide-requires-4 : tie.Need-fill-wide-requires-4
-fill-wide-requires-4 c κs = search needs
+fill-wide-requires-4 c κs = tt
 
 cut-requires-7 : tie.Need-cut-requires-7
-cut-requires-7 c κs = search needs
+cut-requires-7 c κs = tt
 
 array-share-prefix-level : tie.Need-array-share-prefix-level
 array-share-prefix-level c =
@@ -166,7 +166,7 @@ slice-aggregate-on-lists c =
     .before .fill .kept .1 .1 .1 .0)
 
 cut-requires-8 : tie.Need-cut-requires-8
-cut-requires-8 c κs = search needs
+cut-requires-8 c κs = tt
 
 array-share-prefix-then : tie.Need-array-share-prefix-then
 array-share-prefix-then c =
@@ -183,7 +183,7 @@ slice-aggregate-on-lists-2 c =
     .fill-edges .kept .1 .1 .1 .0)
 
 cut-requires-9 : tie.Need-cut-requires-9
-cut-requires-9 c κs = search needs
+cut-requires-9 c κs = tt
 
 array-share-prefix-els : tie.Need-array-share-prefix-els
 array-share-prefix-els c =
@@ -200,7 +200,7 @@ slice-aggregate-on-lists-3 c =
     .kept .1 .1 .1 .0)
 
 cut-requires-10 : tie.Need-cut-requires-10
-cut-requires-10 c κs = search needs
+cut-requires-10 c κs = tt
 
 array-share-prefix-next : tie.Need-array-share-prefix-next
 array-share-prefix-next c =
@@ -216,7 +216,7 @@ slice-aggregate-on-lists-4 c =
     .1 .0)
 
 cut-requires-11 : tie.Need-cut-requires-11
-cut-requires-11 c κs = search needs
+cut-requires-11 c κs = tt
 
 array-share-prefix-heads : tie.Need-array-share-prefix-heads
 array-share-prefix-heads c =
@@ -339,7 +339,7 @@ slice-aggregate-on-lists-11 c =
     .before .fill-wide4 .kept .1 .1 .0)
 
 on-lists-requires : tie.Need-on-lists-requires
-on-lists-requires c κs = search needs
+on-lists-requires c κs = tt
 
 returns : tie.Need-returns
 returns c = search needs

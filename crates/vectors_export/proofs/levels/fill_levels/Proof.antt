@@ -1,28 +1,28 @@
--- `copy_edges` is safe and ends: the list keeps its length.
+-- `fill_levels` is safe and ends: the list keeps its length.
 use mathlib.Core.Path.{_≡_}
 use Prim.Native.Nat.{_-_}
 use lib.ListN.{length}
 use borrow.Author.Needs.{needs}
-use Rattle.vectors_export.proofs.copies.copy_edges.Statement.{statement}
-use Rattle.vectors_export.proofs.copies.copy_edges.Tie as tie
+use Rattle.vectors_export.proofs.levels.fill_levels.Statement.{statement}
+use Rattle.vectors_export.proofs.levels.fill_levels.Tie as tie
 
 abbrev Inv-loop : tie.InvT-loop
-Inv-loop from to₀ i₀ to i = length to ≡ length to₀
+Inv-loop support order list₀ i₀ list i = length list ≡ length list₀
 
 abbrev μ-loop : tie.MeasureT-loop
-μ-loop from to₀ i₀ to i = length to₀ - i
+μ-loop support order list₀ i₀ list i = length list₀ - i
 
 loop-holds : tie.Need-loop-holds Inv-loop μ-loop
 loop-holds c = search needs
 
-edge-requires : tie.Need-edge-requires Inv-loop μ-loop
-edge-requires c κs = search needs
+level-at-requires : tie.Need-level-at-requires Inv-loop μ-loop
+level-at-requires c κs = search needs
 
-mul-t4 : tie.Need-mul-t4 Inv-loop μ-loop
-mul-t4 c = search needs
+mul-list : tie.Need-mul-list Inv-loop μ-loop
+mul-list c = search needs
 
-slice-set-from-to : tie.Need-slice-set-from-to Inv-loop μ-loop
-slice-set-from-to c = search needs
+slice-write-list : tie.Need-slice-write-list Inv-loop μ-loop
+slice-write-list c = search needs
 
 add-i : tie.Need-add-i Inv-loop μ-loop
 add-i c = search needs
@@ -39,16 +39,16 @@ same-length c = search needs
 returns : tie.Need-returns Inv-loop μ-loop
 returns c = search needs
 
-pub copy-edges-spec : {M : Type 1} → statement M
-copy-edges-spec =
+pub fill-levels-spec : {M : Type 1} → statement M
+fill-levels-spec =
     tie.close
     (tie.spec
     Inv-loop
     μ-loop
     loop-holds
-    edge-requires
-    mul-t4
-    slice-set-from-to
+    level-at-requires
+    mul-list
+    slice-write-list
     add-i
     loop-less
     loop-again

@@ -1,13 +1,32 @@
+# make recode FILE=PATH
+#               builds the program `recode` and runs it on a file: the file again, as text of version 2.0, or one line `refused N line M`
 # make test     the gate: proves, tries the must-fail edits, runs every test; its last line is 'N passed, 0 failed'
-# make example  builds a program of the repository and runs it on stored cases
-.PHONY: test example clean
+# make lib      proves the crate firmware, and puts the library for C and its header file into build/
+# make round    builds the example in C, build/round, over that library
+# make bench    measures the library for C on generated files; ORACLE=DIR compares it with the Rust: see bench/run
+.PHONY: recode test lib round bench clean
+
+CFLAGS = -std=c99 -O2 -Wall -Wextra -pedantic
+
+recode:
+	@test -n "$(FILE)" || { echo 'usage: make recode FILE=PATH' >&2; exit 2; }
+	@rt check recode >&2
+	@target/bin/recode < "$(FILE)"
 
 test:
 	@tests/gate
 
-example:
-	@rt check vectors_readers
-	@cd crates/vectors_readers/data && ../../../target/bin/vectors_readers $$(cat ../args)
+lib:
+	@rt staticlib firmware
+	@mkdir -p build
+	@cp target/staticlib/libfirmware.a build/libzonetweed.a
+	@cp include/zonetweed.h build/zonetweed.h
+
+round: lib
+	$(CC) $(CFLAGS) -Ibuild -o build/round examples/round.c build/libzonetweed.a
+
+bench:
+	@ORACLE='$(ORACLE)' bench/run
 
 clean:
-	rm -rf target
+	rm -rf target build

@@ -20,7 +20,7 @@ use header::load::Loaded;
 use import::Imported;
 
 // The store: 3 where it breaks its rules, else 0.
-pub fn store_fault(
+pub(crate) fn store_fault(
     levels: u16,
     count: Index,
     level: &[u16],
@@ -38,7 +38,13 @@ pub fn store_fault(
 }
 
 // Scratch, by the lengths of its two lists, and the level list.
-pub fn check_levels(read: Loaded, edges: usize, seats: usize, levels: u16, list: &[u16]) -> Loaded
+pub(crate) fn check_levels(
+    read: Loaded,
+    edges: usize,
+    seats: usize,
+    levels: u16,
+    list: &[u16],
+) -> Loaded
     ensures { λ r. ⌜ ofLoaded r ≡ checked edges seats levels (now (list .entry)) (ofLoaded read) ⌝ }
 {
     match read {
@@ -84,7 +90,7 @@ fn with_nodes(h: DumpHeader, nodes: Imported) -> Loaded
 }
 
 // The nodes and `.end`. The edges of the roots take the place of their numbers, or zeros; the scratch ends as zeros.
-pub fn load_nodes(
+pub(crate) fn load_nodes(
     ready: Loaded,
     f: &[u8],
     levels: u16,
@@ -157,7 +163,7 @@ fn clear_if(refused: bool, dst: &mut [u32])
 }
 
 // The end: zeros in the lists of a load that is refused.
-pub fn finish(
+pub(crate) fn finish(
     answer: Loaded,
     ids: &mut [u32],
     order: &mut [u32],

@@ -17,7 +17,7 @@ use Rattle.store.specs.Rules.{limits, Rules}
 use Rattle.store.specs.Keeps.{rules-keeps}
 use Rattle.store.specs.Meaning.{settingOf}
 use Rattle.store.specs.Settings.{chosen}
-use Rattle.store.specs.Evaluation.{bits, isSetting, evaluation}
+use Rattle.evaluation.specs.Evaluation.{bits, isSetting, evaluation}
 use Rattle.store.specs.Empty.{empty}
 use Rattle.calls.specs.Calls.{Call, evaluateOf, run}
 use Rattle.calls.specs.Roots.{Meaning, Means, Root}

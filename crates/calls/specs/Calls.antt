@@ -8,7 +8,7 @@ use lib.IntN.{ℤ}
 use Rattle.codes.specs.Answer.{Read}
 use Rattle.store.specs.Store.{Store}
 use Rattle.store.specs.Rules.{limits}
-use Rattle.store.specs.Evaluation.{evaluation}
+use Rattle.evaluation.specs.Evaluation.{evaluation}
 use Rattle.export_header.specs.Tables.{Lent}
 use Rattle.exporter.specs.Settings.{Settings}
 use Rattle.exporter.specs.Export.{exportFault}

@@ -4,7 +4,7 @@ mod stages;
 ghost use mathlib.Core.Path.{_≡_};
 ghost use lib.ListN.{length, replicate};
 ghost use Rattle.store.specs.Store.{store};
-ghost use Rattle.store.specs.Evaluated.{ofEvaluation};
+ghost use Rattle.evaluation.specs.Evaluated.{ofEvaluation};
 ghost use Rattle.header.specs.Kinds.{ofLoaded};
 ghost use Rattle.export_header.specs.Tables.{lent};
 ghost use Rattle.exporter.specs.Settings.{ofSettings};
@@ -12,11 +12,11 @@ ghost use Rattle.calls.specs.Load.{parts, lengthsOf, loadInto, partsOf, loadOf}
 ghost use Rattle.calls.specs.Calls.{evaluateOf, exportInto, Exports};
 use edges::Edge;
 use edges::Index;
+use evaluation::Evaluation;
 use exporter::ExportSettings;
 use exporter::Exported;
 use header::load::DumpHeader;
 use header::load::Loaded;
-use store::answers::Evaluation;
 
 // Loads a file into the store. `list` is the level list, one level of the store for each support variable. Beside the store are lent: the
 // lists of the header, that is `.ids`, the support order, `.permids`, `.auxids`, the variables' names as starts and lengths, the roots, the
@@ -105,7 +105,7 @@ pub fn evaluate(
 ) -> Evaluation
     ensures { λ r. ⌜ ofEvaluation r ≡ evaluateOf root (now (setting .entry)) (store levels count (now (level .entry)) (now (then .entry)) (now (els .entry)) (now (next .entry)) (now (heads .entry))) ⌝ }
 {
-    store::answers::evaluate(levels, count, level, then, els, next, heads, root, setting)
+    evaluation::evaluate(levels, count, level, then, els, next, heads, root, setting)
 }
 
 // Exports the diagrams of roots of the store into `out`. `order` has each variable's level; `bytes` holds the names, `starts` and `lens`

@@ -31,7 +31,7 @@ pub(crate) fn store_fault(
 ) -> u8
     ensures { λ r. ⌜ r ≡ storeFault (store levels count (now (level .entry)) (now (then .entry)) (now (els .entry)) (now (next .entry)) (now (heads .entry))) ⌝ }
 {
-    if store::rules::keeps_rules(levels, count, level, then, els, next, heads) {
+    if rules::keeps_rules(levels, count, level, then, els, next, heads) {
         return 0;
     }
     refusal::BROKEN_STORE

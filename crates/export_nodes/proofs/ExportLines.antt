@@ -8,8 +8,7 @@ use lib.ListN.{length, getD, length-map}
 use lib.IntN.{ℤ, natAbs}
 use borrow.Author.Tests.{ne-eqb}
 use Rattle.codes.specs.Limits.{varLimit, nodeLimit}
-use Rattle.store.specs.Store.{Store, levelAt, thenAt, elseAt}
-use Rattle.store.specs.Evaluated.{slots}
+use Rattle.store.specs.Store.{Store, levelAt, thenAt, elseAt, slots}
 use Rattle.checks.specs.Seats.{Seats}
 use Rattle.checks.proofs.Seating.{seat-most}
 use Rattle.lines.specs.Line.{terminal}

@@ -6,7 +6,7 @@ ghost use lib.ListN.{length};
 ghost use lib.Seq.{sets};
 ghost use lib.IntN.{natAbs};
 ghost use Rattle.codes.specs.Limits.{nodeLimit};
-ghost use Rattle.store.specs.Evaluated.{slots};
+ghost use Rattle.store.specs.Store.{slots};
 ghost use Rattle.export_nodes.specs.Encoded.{nodeBytes};
 ghost use Rattle.export_nodes.specs.Tables.{numberOf, Numbered, linesBy, seatBy, innerBy, nodeBy, Seated, Inner, Lined};
 use edges::Edge;

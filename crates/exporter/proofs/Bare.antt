@@ -7,7 +7,7 @@ use native.Mathlib.Nat.{le-refl}
 use lib.IntN.{ℤ}
 use Rattle.store.specs.Store.{Store}
 use Rattle.store.specs.Rules.{depth}
-use Rattle.store.proofs.Walk.{nodes-lower}
+use Rattle.store.proofs.Lower.{nodes-lower}
 use Rattle.numbering.specs.Reached.{bare, Reached, root, then, els, Allowed}
 use Rattle.numbering.specs.Numbering.{Walkable}
 use Rattle.export_header.specs.Tables.{Lent}

@@ -10,8 +10,7 @@ use Rattle.codes.specs.Limits.{varLimit}
 use Rattle.codes.specs.Lent.{laid}
 use Rattle.codes.specs.declared.DDDMPVersion.{DDDMPVersion}
 use Rattle.codes.proofs.Lent.{length-laid}
-use Rattle.store.specs.Store.{Store}
-use Rattle.store.specs.Evaluated.{slots}
+use Rattle.store.specs.Store.{Store, slots}
 use Rattle.store.specs.Growth.{EdgeOf}
 use Rattle.checks.specs.Seats.{Seats}
 use Rattle.checks.proofs.Seating.{seat-most}

@@ -26,7 +26,7 @@ fn roots_fit(count: Index, roots: &[Edge]) -> bool
     }
     let mut i: usize = 0;
     while i < roots.len() {
-        if !store::answers::is_root(count, roots[i]) {
+        if !evaluation::is_root(count, roots[i]) {
             return false;
         }
         i += 1;
@@ -118,7 +118,7 @@ pub fn export_fault(
     ) {
         return refusal::TOO_SHORT;
     }
-    if !store::rules::keeps_rules(levels, count, level, then, els, next, heads) {
+    if !rules::keeps_rules(levels, count, level, then, els, next, heads) {
         return refusal::BROKEN_STORE;
     }
     if !roots_fit(count, roots) {

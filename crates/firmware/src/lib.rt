@@ -4,7 +4,7 @@ ghost use mathlib.Core.Bool.{not};
 ghost use lib.Dec.{eqb};
 ghost use lib.ListN.{length, replicate};
 ghost use Rattle.store.specs.Store.{store};
-ghost use Rattle.store.specs.Evaluated.{ofEvaluation};
+ghost use Rattle.evaluation.specs.Evaluated.{ofEvaluation};
 ghost use Rattle.values.specs.Kinds.{ofVarInfo};
 ghost use Rattle.header.specs.Kinds.{ofLoaded};
 ghost use Rattle.readers.specs.Text.{place};
@@ -20,10 +20,10 @@ use codes::DDDMPVersion;
 use codes::VarInfo;
 use edges::Edge;
 use edges::Index;
+use evaluation::Evaluation;
 use exporter::ExportSettings;
 use exporter::Exported;
 use header::load::Loaded;
-use store::answers::Evaluation;
 
 // The answer of a load: the number of a refusal, 0 of none, and its line; then the numbers of the header, zeros on a refusal.
 #[repr(C)]

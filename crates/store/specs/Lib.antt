@@ -3,9 +3,6 @@ pub mod Meaning
 pub mod Settings
 pub mod Rules
 pub mod Keeps
-pub mod Check
 pub mod Empty
 pub mod Growth
 pub mod Make
-pub mod Evaluation
-pub mod Evaluated

@@ -1,6 +1,6 @@
 -- A store of nodes, as it is lent. Document 01, 'Store and meaning': 'Slots, counted from 1, hold level, then, else, next.'
 use Prim.Native.Nat.{ℕ, _-_}
-use mathlib.Core.List.{List}
+use mathlib.Core.List.{List, []}
 use lib.ListN.{getD}
 use lib.IntN.{ℤ, pos}
 
@@ -33,3 +33,7 @@ nextAt σ n = getD (σ .next) (n - 1) 0
 
 abbrev pub headAt : Store → ℕ → ℕ
 headAt σ b = getD (σ .heads) b 0
+
+-- A store by the lists that an answer comes from: it has neither counts nor chains, which no answer looks at.
+abbrev pub slots : List ℕ → List ℤ → List ℤ → Store
+slots level then els = store 0 0 level then els [] []

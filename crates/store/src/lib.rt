@@ -1,4 +1,2 @@
-// The store of diagrams: its rules and their check, finding and making nodes, taking them back, and evaluation.
-pub mod answers;
-pub mod rules;
+// The store of diagrams: its definitions and laws, and the search for a node.
 pub mod search;

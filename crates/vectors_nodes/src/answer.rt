@@ -71,7 +71,7 @@ fn is_store(
     let r = stored::number(s, 0, 2);
     let k = stored::size(r);
     let end = 8 + 2 * k + 6 * stored::size(count);
-    if !store::rules::keeps_rules(levels, count, level, then, els, next, heads) {
+    if !rules::keeps_rules(levels, count, level, then, els, next, heads) {
         return false;
     }
     if !are_nodes(s, r, count, level, then, els, roots) {

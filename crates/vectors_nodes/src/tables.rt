@@ -2,7 +2,7 @@
 ghost use Prim.Native.Nat.{_≤_};
 use edges::Edge;
 use edges::Index;
-use store::answers::Evaluation;
+use evaluation::Evaluation;
 
 fn bit(x: u16) -> u8 {
     if x % 2 == 1 { 1 } else { 0 }

@@ -1,7 +1,7 @@
 // One case: a store, which differs from that of the case before in some stretches, and what is asked of it.
 ghost use Prim.Native.Nat.{_+_, _≤_};
 use crate::change;
-use store::answers::Evaluation;
+use evaluation::Evaluation;
 
 // What came of one case, or why there is none.
 pub enum Outcome {
@@ -66,14 +66,14 @@ fn agrees(
     if head[0] == 1 {
         return is_kept(
             head,
-            store::rules::keeps_rules(levels, count, level, then, els, next, heads),
+            rules::keeps_rules(levels, count, level, then, els, next, heads),
         );
     }
     if head[0] == 2 {
         let root = change::signed(field(head, 15));
         return is_evaluation(
             head,
-            store::answers::evaluate(levels, count, level, then, els, next, heads, root, setting),
+            evaluation::evaluate(levels, count, level, then, els, next, heads, root, setting),
         );
     }
     false

@@ -7,8 +7,7 @@ use mir.Syntax.{w16}
 use mir.Val.{toZ, ofZ}
 use mir.Facts.{toZ-ofZ}
 use denote.Ref.{now}
-use Rattle.store.specs.Store.{Store, levelAt, thenAt, elseAt}
-use Rattle.store.specs.Evaluated.{slots}
+use Rattle.store.specs.Store.{Store, levelAt, thenAt, elseAt, slots}
 use Rattle.lines.specs.Line.{inner}
 use Rattle.export_nodes.specs.Encoded.{textBytes, innerBytes}
 use Rattle.export_nodes.specs.Tables.{numberOf, innerBy}

@@ -3,8 +3,7 @@ use Prim.Native.Nat.{_≤_}
 use borrow.Author.Needs.{needs}
 use native.Mathlib.Omega.{arith}
 use denote.Ref.{now}
-use Rattle.store.specs.Store.{Store}
-use Rattle.store.specs.Evaluated.{slots}
+use Rattle.store.specs.Store.{Store, slots}
 use Rattle.export_nodes.proofs.NodeLine.{node-inner, node-text, node-binary}
 use Rattle.export_nodes.proofs.nodes.put_node.Statement.{statement}
 use Rattle.export_nodes.proofs.nodes.put_node.Tie as tie

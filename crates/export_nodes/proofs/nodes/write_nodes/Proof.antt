@@ -3,7 +3,7 @@ use Prim.Native.Nat.{_-_}
 use borrow.Author.Needs.{needs}
 use native.Mathlib.Omega.{arith}
 use lib.ListN.{length}
-use Rattle.store.specs.Evaluated.{slots}
+use Rattle.store.specs.Store.{slots}
 use Rattle.export_nodes.proofs.Writing.{Writing, writing-start, writing-room, writing-more, writing-end}
 use Rattle.export_nodes.proofs.nodes.write_nodes.Statement.{statement}
 use Rattle.export_nodes.proofs.nodes.write_nodes.Tie as tie

@@ -7,8 +7,7 @@ use lib.ListN.{length, take, replicate}
 use lib.Seq.{length-take-le}
 use Rattle.codes.specs.Lent.{laid}
 use Rattle.values.specs.Kinds.{ofPlace}
-use Rattle.store.specs.Store.{Store, store}
-use Rattle.store.specs.Evaluated.{slots}
+use Rattle.store.specs.Store.{Store, store, slots}
 use Rattle.numbering.specs.Reached.{bare}
 use Rattle.numbering.specs.Numbering.{numbering}
 use Rattle.export_nodes.specs.Lines.{linesFor}

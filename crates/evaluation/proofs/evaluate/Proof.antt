@@ -1,0 +1,78 @@
+-- `evaluate` meets its contract: the checks come in the order of the refusals, and where all three pass the store's rules let the walk
+-- down from the root.
+use borrow.Author.Needs.{needs}
+use Rattle.evaluation.proofs.Evaluating.{not-kept, not-root, not-setting, walks, answered}
+use Rattle.evaluation.proofs.evaluate.Statement.{statement}
+use Rattle.evaluation.proofs.evaluate.Tie as tie
+
+keeps-rules-requires : tie.Need-keeps-rules-requires
+keeps-rules-requires c κs = search needs
+
+returns : tie.Need-returns
+returns c = not-kept _ _ _ (c .before .before .before .before .before .before .fits .root) (c .before .keeps-rules .ensures) (c .if1 .taken)
+
+is-root-requires : tie.Need-is-root-requires
+is-root-requires c κs = search needs
+
+returns-2 : tie.Need-returns-2
+returns-2 c = not-root _ _ _ (c .before .before .before .before .before .before .before .before .fits .root) (c .before .before .before .keeps-rules .ensures) (c .before .before .if1 .left) (c .before .is-root .ensures) (c .if2 .taken)
+
+is-setting-requires : tie.Need-is-setting-requires
+is-setting-requires c κs = search needs
+
+returns-3 : tie.Need-returns-3
+returns-3 c =
+    not-setting
+    _
+    _
+    _
+    (c .before .before .before .before .before .before .before .before .before .before .fits .root)
+    (c .before .before .before .before .before .keeps-rules .ensures)
+    (c .before .before .before .before .if1 .left)
+    (c .before .before .before .is-root .ensures)
+    (c .before .before .if2 .left)
+    (c .before .is-setting .ensures)
+    (c .if3 .taken)
+
+eval-edge-requires : tie.Need-eval-edge-requires
+eval-edge-requires c κs =
+    walks
+    _
+    _
+    _
+    (c .before .before .before .before .before .before .before .before .before .before .fits .root)
+    (c .before .before .before .before .before .keeps-rules .ensures)
+    (c .before .before .before .before .if1 .left)
+    (c .before .before .before .is-root .ensures)
+    (c .before .before .if2 .left)
+    (c .before .is-setting .ensures)
+    (c .if3 .left)
+
+returns-4 : tie.Need-returns-4
+returns-4 c =
+    answered
+    _
+    _
+    _
+    (c .before .before .before .before .before .before .before .before .before .before .before .fits .root)
+    (c .before .before .before .before .before .before .keeps-rules .ensures)
+    (c .before .before .before .before .before .if1 .left)
+    (c .before .before .before .before .is-root .ensures)
+    (c .before .before .before .if2 .left)
+    (c .before .before .is-setting .ensures)
+    (c .before .if3 .left)
+    (c .eval-edge .result)
+    (c .eval-edge .ensures)
+
+pub evaluate-spec : {M : Type 1} → statement M
+evaluate-spec =
+    tie.close
+    (tie.spec
+    keeps-rules-requires
+    returns
+    is-root-requires
+    returns-2
+    is-setting-requires
+    returns-3
+    eval-edge-requires
+    returns-4)

@@ -1,0 +1,28 @@
+-- The public evaluation. Document 01: 'Evaluation gives 3, 4.'
+use Prim.Native.Nat.{ℕ}
+use mathlib.Core.Bool.{Bool, true, cond, _&&_}
+use mathlib.Core.List.{List, [], _∷_}
+use lib.Dec.{eqb, leb}
+use lib.ListN.{length}
+use lib.IntN.{ℤ, natAbs}
+use Rattle.codes.specs.Answer.{Read, value, refused}
+use Rattle.store.specs.Store.{Store}
+use Rattle.store.specs.Rules.{Limits}
+use Rattle.store.specs.Keeps.{keeps}
+use Rattle.store.specs.Meaning.{settingOf, answer}
+
+-- '4 a root is 0 or beyond the store's count'
+abbrev pub isRoot : Store → ℤ → Bool
+isRoot σ e = leb 1 (natAbs e) && leb (natAbs e) (σ .count)
+
+-- each byte is 00 or 01
+unfoldable pub bits : List ℕ → Bool
+bits [] = true
+bits (b ∷ bs) = leb b 1 && bits bs
+
+-- '4 .. a setting isn't one byte 00 or 01 per level'
+abbrev pub isSetting : Store → List ℕ → Bool
+isSetting σ s = eqb (length s) (σ .levels) && bits s
+
+unfoldable pub evaluation : Limits → Store → ℤ → List ℕ → Read Bool
+evaluation m σ e s = cond (keeps m σ) (cond (isRoot σ e && isSetting σ s) (value (answer σ (settingOf s) e)) (refused 4)) (refused 3)

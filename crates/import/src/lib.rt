@@ -11,6 +11,7 @@ ghost use Rattle.store.specs.Rules.{Rules, limits};
 ghost use Rattle.lines.specs.Kinds.{ofDecoded};
 ghost use Rattle.import.specs.Build.{edgeFor, LevelsOf, Edges};
 ghost use Rattle.import.specs.Import.{setup, lineBy, lineFor, builtFrom, linesAnswer, blankAll, endsWell, withEnd, isRead, rootsBy, EdgesIf, importOf, Laid, Bounded};
+ghost use Rattle.making.specs.Known.{Known};
 ghost use Rattle.import.specs.Kinds.{ofImported};
 use codes::refusal;
 use edges::Edge;
@@ -74,7 +75,72 @@ fn line_for(ascii: bool, line: usize, k: u8) -> usize
 }
 
 // Reads the node lines from a position on and makes each into the store. `list` is the level list, `levels` the store's level count;
-// `edges` and `seats` are scratch, and hold the edge and the seat of each line so far.
+// `edges` and `seats` are scratch, and hold the edge and the seat of each line so far; `index` finds the store's nodes.
+fn read_lines(
+    f: &[u8],
+    from: usize,
+    ascii: bool,
+    extra: bool,
+    nnodes: Index,
+    lines: usize,
+    list: &[u16],
+    levels: u16,
+    count: &mut Index,
+    level: &mut [u16],
+    then: &mut [Edge],
+    els: &mut [Edge],
+    next: &mut [Index],
+    heads: &mut [Index],
+    edges: &mut [Edge],
+    seats: &mut [u16],
+    index: &mut [Index],
+    width: usize,
+) -> Imported
+    requires { ⌜ Rules limits (store levels (now count) (now level) (now then) (now els) (now next) (now heads)) ⌝ }
+    requires { ⌜ LevelsOf (store levels (now count) (now level) (now then) (now els) (now next) (now heads)) (now list) ⌝ }
+    requires { ⌜ Bounded (setup ascii extra nnodes lines (now list) levels) (length (now edges)) (length (now seats)) ⌝ }
+    requires { ⌜ Known width (store levels (now count) (now level) (now then) (now els) (now next) (now heads)) (now index) ⌝ }
+    ensures { λ r. ⌜ ofImported r ≡ linesAnswer (setup ascii extra nnodes lines (now (list .entry)) levels) (store levels (now (count .entry)) (now (level .entry)) (now (then .entry)) (now (els .entry)) (now (next .entry)) (now (heads .entry))) (now (f .entry)) from ⌝ }
+    ensures { λ _. ⌜ (store levels (now (count .exit)) (now (level .exit)) (now (then .exit)) (now (els .exit)) (now (next .exit)) (now (heads .exit))) ≡ builtFrom (setup ascii extra nnodes lines (now (list .entry)) levels) (store levels (now (count .entry)) (now (level .entry)) (now (then .entry)) (now (els .entry)) (now (next .entry)) (now (heads .entry))) (now (f .entry)) from .after ⌝ }
+    ensures { λ _. ⌜ Laid (builtFrom (setup ascii extra nnodes lines (now (list .entry)) levels) (store levels (now (count .entry)) (now (level .entry)) (now (then .entry)) (now (els .entry)) (now (next .entry)) (now (heads .entry))) (now (f .entry)) from .answer) (now (edges .exit)) ⌝ }
+{
+    let mut n: Index = 0;
+    let mut at = from;
+    while n < nnodes {
+        let i = n as usize;
+        let line = n + 1;
+        match line_at(ascii, extra, list, levels, f, &seats[..i], line, at) {
+            Decoded::Terminal(after) => {
+                edges[i] = 1;
+                seats[i] = 0;
+                at = after;
+                n = line;
+            }
+            Decoded::Inner(p, t, e, after) => {
+                let a = edge_for(&edges[..i], t);
+                let b = edge_for(&edges[..i], e);
+                let l = list[p as usize];
+                match making::make(levels, count, level, then, els, next, heads, index, width, l, a, b) {
+                    Making::Node(made) => {
+                        edges[i] = made;
+                        seats[i] = p + 1;
+                        at = after;
+                        n = line;
+                    }
+                    Making::Full => {
+                        return Imported::Refused(refusal::NO_ROOM, 0);
+                    }
+                }
+            }
+            Decoded::Refused(k) => {
+                return Imported::Refused(k, line_for(ascii, lines + line as usize, k));
+            }
+        }
+    }
+    Imported::Nodes(at)
+}
+
+// The same with an index of the store's nodes, which is made here: a small one where the store has few slots, since it is cleared each time.
 fn import_lines(
     f: &[u8],
     from: usize,
@@ -100,40 +166,52 @@ fn import_lines(
     ensures { λ _. ⌜ (store levels (now (count .exit)) (now (level .exit)) (now (then .exit)) (now (els .exit)) (now (next .exit)) (now (heads .exit))) ≡ builtFrom (setup ascii extra nnodes lines (now (list .entry)) levels) (store levels (now (count .entry)) (now (level .entry)) (now (then .entry)) (now (els .entry)) (now (next .entry)) (now (heads .entry))) (now (f .entry)) from .after ⌝ }
     ensures { λ _. ⌜ Laid (builtFrom (setup ascii extra nnodes lines (now (list .entry)) levels) (store levels (now (count .entry)) (now (level .entry)) (now (then .entry)) (now (els .entry)) (now (next .entry)) (now (heads .entry))) (now (f .entry)) from .answer) (now (edges .exit)) ⌝ }
 {
-    let mut n: Index = 0;
-    let mut at = from;
-    while n < nnodes {
-        let i = n as usize;
-        let line = n + 1;
-        match line_at(ascii, extra, list, levels, f, &seats[..i], line, at) {
-            Decoded::Terminal(after) => {
-                edges[i] = 1;
-                seats[i] = 0;
-                at = after;
-                n = line;
-            }
-            Decoded::Inner(p, t, e, after) => {
-                let a = edge_for(&edges[..i], t);
-                let b = edge_for(&edges[..i], e);
-                let l = list[p as usize];
-                match making::make(levels, count, level, then, els, next, heads, l, a, b) {
-                    Making::Node(made) => {
-                        edges[i] = made;
-                        seats[i] = p + 1;
-                        at = after;
-                        n = line;
-                    }
-                    Making::Full => {
-                        return Imported::Refused(refusal::NO_ROOM, 0);
-                    }
-                }
-            }
-            Decoded::Refused(k) => {
-                return Imported::Refused(k, line_for(ascii, lines + line as usize, k));
-            }
-        }
+    if level.len() <= index::FEW {
+        let mut few = [0u16; index::FEW_LEN];
+        index::distinct(&mut few, index::FEW_WIDTH, *count, level, then, els);
+        return read_lines(
+            f,
+            from,
+            ascii,
+            extra,
+            nnodes,
+            lines,
+            list,
+            levels,
+            count,
+            level,
+            then,
+            els,
+            next,
+            heads,
+            edges,
+            seats,
+            &mut few,
+            index::FEW_WIDTH,
+        );
     }
-    Imported::Nodes(at)
+    let mut many = [0u16; index::LEN];
+    index::distinct(&mut many, index::WIDTH, *count, level, then, els);
+    read_lines(
+        f,
+        from,
+        ascii,
+        extra,
+        nnodes,
+        lines,
+        list,
+        levels,
+        count,
+        level,
+        then,
+        els,
+        next,
+        heads,
+        edges,
+        seats,
+        &mut many,
+        index::WIDTH,
+    )
 }
 
 // Whether only white space stands from a position on.

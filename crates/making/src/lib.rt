@@ -9,11 +9,11 @@ ghost use Rattle.edges.specs.Edge.{IsEdge};
 ghost use Rattle.store.specs.Store.{store};
 ghost use Rattle.store.specs.Rules.{Sizes, Rules, limits};
 ghost use Rattle.making.specs.Kinds.{ofMaking, Turns};
+ghost use Rattle.making.specs.Known.{Known};
 ghost use Rattle.store.specs.Make as nodes;
 use codes::limits::NODE_LIMIT;
 use edges::Edge;
 use edges::Index;
-use store::search;
 
 // The edge to a node, or no slot for one.
 pub enum Making {
@@ -72,7 +72,7 @@ fn put_node(
     *count = c + 1;
 }
 
-// A node with a positive then: found, or the next number.
+// A node with a positive then: found, or the next number. The index knows every node, and goes on doing so.
 fn insert(
     levels: u16,
     count: &mut Index,
@@ -81,16 +81,21 @@ fn insert(
     els: &mut [Edge],
     next: &mut [Index],
     heads: &mut [Index],
+    index: &mut [Index],
+    width: usize,
     l: u16,
     t: Edge,
     e: Edge,
 ) -> Making
     requires { ⌜ Rules limits (store levels (now count) (now level) (now then) (now els) (now next) (now heads)) ⌝ }
+    requires { ⌜ Known width (store levels (now count) (now level) (now then) (now els) (now next) (now heads)) (now index) ⌝ }
     ensures { λ r. ⌜ ofMaking r ≡ nodes.insert limits (store levels (now (count .entry)) (now (level .entry)) (now (then .entry)) (now (els .entry)) (now (next .entry)) (now (heads .entry))) l t e .answer ⌝ }
     ensures { λ r. ⌜ store levels (now (count .exit)) (now (level .exit)) (now (then .exit)) (now (els .exit)) (now (next .exit)) (now (heads .exit)) ≡ nodes.insert limits (store levels (now (count .entry)) (now (level .entry)) (now (then .entry)) (now (els .entry)) (now (next .entry)) (now (heads .entry))) l t e .after ⌝ }
+    ensures { λ r. ⌜ Known width (store levels (now (count .exit)) (now (level .exit)) (now (then .exit)) (now (els .exit)) (now (next .exit)) (now (heads .exit))) (now (index .exit)) ⌝ }
 {
     let c = *count;
-    let n = search::find(levels, c, level, then, els, next, heads, l, t, e);
+    let at = index::seek(index, width, c, level, then, els, l, t, e);
+    let n = index[at];
     if n != 0 {
         return Making::Node(edge_to(n));
     }
@@ -98,6 +103,7 @@ fn insert(
         return Making::Full;
     }
     let a = edge_to(c + 1);
+    index[at] = c + 1;
     put_node(levels, count, level, then, els, next, heads, l, t, e);
     Making::Node(a)
 }
@@ -130,14 +136,18 @@ pub fn make(
     els: &mut [Edge],
     next: &mut [Index],
     heads: &mut [Index],
+    index: &mut [Index],
+    width: usize,
     l: u16,
     t: Edge,
     e: Edge,
 ) -> Making
     requires { ⌜ Rules limits (store levels (now count) (now level) (now then) (now els) (now next) (now heads)) ⌝ }
     requires { ⌜ nodes.Makes (store levels (now count) (now level) (now then) (now els) (now next) (now heads)) l t e ⌝ }
+    requires { ⌜ Known width (store levels (now count) (now level) (now then) (now els) (now next) (now heads)) (now index) ⌝ }
     ensures { λ r. ⌜ ofMaking r ≡ nodes.make limits (store levels (now (count .entry)) (now (level .entry)) (now (then .entry)) (now (els .entry)) (now (next .entry)) (now (heads .entry))) l t e .answer ⌝ }
     ensures { λ r. ⌜ store levels (now (count .exit)) (now (level .exit)) (now (then .exit)) (now (els .exit)) (now (next .exit)) (now (heads .exit)) ≡ nodes.make limits (store levels (now (count .entry)) (now (level .entry)) (now (then .entry)) (now (els .entry)) (now (next .entry)) (now (heads .entry))) l t e .after ⌝ }
+    ensures { λ r. ⌜ Known width (store levels (now (count .exit)) (now (level .exit)) (now (then .exit)) (now (els .exit)) (now (next .exit)) (now (heads .exit))) (now (index .exit)) ⌝ }
 {
     if edges::same(t, e) {
         return Making::Node(t);
@@ -145,7 +155,7 @@ pub fn make(
     let minus = edges::is_minus(t);
     let a = complement(minus, t);
     let b = complement(minus, e);
-    let made = insert(levels, count, level, then, els, next, heads, l, a, b);
+    let made = insert(levels, count, level, then, els, next, heads, index, width, l, a, b);
     complement_made(minus, made)
 }
 

@@ -1,6 +1,5 @@
 pub mod Decided
 pub mod Fit
 pub mod Pass
-pub mod Alike
 pub mod Zeros
 pub mod Parts

@@ -7,12 +7,13 @@ use native.Mathlib.Omega.{arith}
 use native.Mathlib.Decide.{decLt}
 use lib.ListN.{length}
 use lib.IntN.{ℤ}
-use Rattle.store.specs.Store.{store}
+use Rattle.store.specs.Store.{store, slots}
 use Rattle.store.specs.Rules.{limits, Sizes, Alike, Nodes, bucket, Chains, Zero, Zeros}
 use Rattle.store.specs.Keeps.{Decides, says-no, keeps, is-keeps}
-use Rattle.rules.specs.Check.{AllFit, AllAlone, AllDescend}
+use Rattle.index.specs.Index.{AllAlone}
+use Rattle.rules.specs.Check.{AllFit}
 use Rattle.rules.proofs.Decided.{decides-as}
-use Rattle.store.proofs.Chain.{newest, newest-le, newest-own, newest-gap, newest-same, linked-chains, chains-linked}
+use Rattle.store.proofs.Chain.{newest, newest-same, linked-chains, chains-linked}
 use Rattle.rules.proofs.Fit.{fits-same}
 
 module _ (levels count : ℕ) (L : List ℕ) (T E : List ℤ) (X H : List ℕ) where
@@ -20,12 +21,12 @@ module _ (levels count : ℕ) (L : List ℕ) (T E : List ℤ) (X H : List ℕ) w
   pub nodes-fit : Nodes (store levels count L T E X H) → AllFit (store levels count L T E [] [])
   nodes-fit N n p h = fits-same (store levels count L T E X H) _ refl refl n _ _ _ (N .fits n p h)
 
-  pub nodes-alone : Nodes (store levels count L T E X H) → AllAlone (store 0 count L T E X [])
+  pub nodes-alone : Nodes (store levels count L T E X H) → AllAlone (slots L T E) count
   nodes-alone N n p h m g l a =
       let z : m ≡ n = N .alone m n g (omega arith) p h (record { level = a .level; then = a .then; els = a .els }) in
       omega arith
 
-  pub parts-nodes : AllFit (store levels count L T E [] []) → AllAlone (store 0 count L T E X []) → Nodes (store levels count L T E X H)
+  pub parts-nodes : AllFit (store levels count L T E [] []) → AllAlone (slots L T E) count → Nodes (store levels count L T E X H)
   parts-nodes F A = record {
     fits = λ n p h. fits-same (store levels count L T E [] []) _ refl refl n _ _ _ (F n p h);
     alone = λ m n a b c d x. alone m n a b c d x (decLt m n) (decLt n m);
@@ -49,23 +50,6 @@ module _ (levels count : ℕ) (L : List ℕ) (T E : List ℤ) (X H : List ℕ) w
 
   pub part-chains : Chains (store 0 count L T E X H) → Chains (store levels count L T E X H)
   part-chains = chains-levels 0 levels
-
-  -- what the search for nodes alike rests on
-  pub parts-descend : AllFit (store levels count L T E [] []) → Chains (store 0 count L T E X H) → AllDescend (store 0 count L T E X [])
-  unfolding bucket
-  parts-descend F C n p h =
-      let f = F n p h in
-      let σ = store 0 count L T E X H in
-      let q = chains-linked σ C .next n p h in
-      let own : 1 ≤ newest σ (bucket σ n) (n - 1) → (2 ≤ newest σ (bucket σ n) (n - 1)) × (bucket σ (newest σ (bucket σ n) (n - 1)) ≡ bucket σ n) = newest-own σ (bucket σ n) (n - 1) in
-      record {
-        then-low = f .then-low;
-        else-low = f .else-low;
-        next-low = omega (arith, q, newest-le σ (bucket σ n) (n - 1));
-        next-node = λ x. rw q (own (rw q at x) .0);
-        next-own = λ x. ap (bucket σ) q ∙ own (rw q at x) .1;
-        next-newest = λ m g l k e. newest-gap σ (bucket σ n) (n - 1) m (rw q at l) g (omega arith) e;
-      }
 
   -- the zeros
   pub zeros-part : Zeros (store levels count L T E X H) → Zeros (store 0 count L T E X [])
@@ -105,11 +89,11 @@ module _ (levels count : ℕ) (L : List ℕ) (T E : List ℤ) (X H : List ℕ) w
   pub no-chains : (Chains (store 0 count L T E X H) → ⊥) → false ≡ keeps limits (store levels count L T E X H)
   no-chains f = is-keeps _ _ false (says-no (λ R. f (chains-part levels count L T E X H (R .chains))))
 
-  pub no-alone : (AllAlone (store 0 count L T E X []) → ⊥) → false ≡ keeps limits (store levels count L T E X H)
+  pub no-alone : (AllAlone (slots L T E) count → ⊥) → false ≡ keeps limits (store levels count L T E X H)
   no-alone f = is-keeps _ _ false (says-no (λ R. f (nodes-alone levels count L T E X H (R .nodes))))
 
   pub by-zeros : Sizes limits (store levels count L T E X H) → AllFit (store levels count L T E [] []) → Chains (store 0 count L T E X H)
-      → AllAlone (store 0 count L T E X []) → {r : Bool} → Decides r (Zeros (store 0 count L T E X [])) → r ≡ keeps limits (store levels count L T E X H)
+      → AllAlone (slots L T E) count → {r : Bool} → Decides r (Zeros (store 0 count L T E X [])) → r ≡ keeps limits (store levels count L T E X H)
   by-zeros z f c a d = is-keeps _ _ _ (decides-as
       (λ y. record { sizes = z; nodes = parts-nodes levels count L T E X H f a; chains = part-chains levels count L T E X H c; zeros = part-zeros levels count L T E X H y })
       (λ R. zeros-part levels count L T E X H (R .zeros)) d)

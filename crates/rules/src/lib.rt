@@ -3,14 +3,14 @@ ghost use mathlib.Core.Path.{_≡_};
 ghost use mathlib.Core.List.{[]};
 ghost use Prim.Native.Nat.{ℕ, _≤_, _<_};
 ghost use lib.ListN.{length, getD};
-ghost use Rattle.store.specs.Store.{store};
+ghost use Rattle.store.specs.Store.{store, slots};
 ghost use Rattle.store.specs.Rules.{limits, Sizes, Fits, Chains, Zero, Zeros};
 ghost use Rattle.store.specs.Keeps.{Decides, keeps};
-ghost use Rattle.rules.specs.Check.{Child, AllFit, Alone, AllAlone, AllDescend};
+ghost use Rattle.rules.specs.Check.{Child, AllFit};
+ghost use Rattle.index.specs.Index.{AllAlone};
 use codes::limits;
 use edges::Edge;
 use edges::Index;
-use store::search;
 
 // A chain for each of so many remainders.
 const BUCKETS: usize = 256;
@@ -166,53 +166,18 @@ pub fn chains_hold(
     heads_newest(heads, &newest)
 }
 
-// Is no older node like node n? One that is lies further down its chain, and above both children.
-pub fn alone(
-    count: Index,
-    level: &[u16],
-    then: &[Edge],
-    els: &[Edge],
-    next: &[Index],
-    n: Index,
-) -> bool
-    requires { ⌜ (2 ≤ n) × (n ≤ count) ⌝ }
-    requires { ⌜ (count ≤ length (now level)) × ((count ≤ length (now then)) × ((count ≤ length (now els)) × (count ≤ length (now next)))) ⌝ }
-    requires { ⌜ AllDescend (store 0 count (now level) (now then) (now els) (now next) []) ⌝ }
-    ensures { λ r. ⌜ Decides r (Alone (store 0 count (now (level .entry)) (now (then .entry)) (now (els .entry)) (now (next .entry)) []) n) ⌝ }
-{
-    let i = (n - 1) as usize;
-    let l = level[i];
-    let t = then[i];
-    let e = els[i];
-    let a = edges::magnitude(t);
-    let b = edges::magnitude(e);
-    let low = search::larger(a, b);
-    let mut m = next[i];
-    while low < m {
-        if search::holds_at(level, then, els, l, t, e, m) {
-            return false;
-        }
-        let j = (m - 1) as usize;
-        m = next[j];
-    }
-    true
-}
-
-// Are no two nodes alike?
-pub fn all_alone(count: Index, level: &[u16], then: &[Edge], els: &[Edge], next: &[Index]) -> bool
+// Are no two nodes alike? A small index does where there are few nodes, since it is cleared each time.
+pub fn all_alone(count: Index, level: &[u16], then: &[Edge], els: &[Edge]) -> bool
     requires { ⌜ (1 ≤ count) × (count < 32768) ⌝ }
-    requires { ⌜ (count ≤ length (now level)) × ((count ≤ length (now then)) × ((count ≤ length (now els)) × (count ≤ length (now next)))) ⌝ }
-    requires { ⌜ AllDescend (store 0 count (now level) (now then) (now els) (now next) []) ⌝ }
-    ensures { λ r. ⌜ Decides r (AllAlone (store 0 count (now (level .entry)) (now (then .entry)) (now (els .entry)) (now (next .entry)) [])) ⌝ }
+    requires { ⌜ (count ≤ length (now level)) × ((count ≤ length (now then)) × (count ≤ length (now els))) ⌝ }
+    ensures { λ r. ⌜ Decides r (AllAlone (slots (now (level .entry)) (now (then .entry)) (now (els .entry))) count) ⌝ }
 {
-    let mut newer: Index = 2;
-    while newer <= count {
-        if !alone(count, level, then, els, next, newer) {
-            return false;
-        }
-        newer += 1;
+    if count as usize <= index::FEW {
+        let mut few = [0u16; index::FEW_LEN];
+        return index::distinct(&mut few, index::FEW_WIDTH, count, level, then, els);
     }
-    true
+    let mut many = [0u16; index::LEN];
+    index::distinct(&mut many, index::WIDTH, count, level, then, els)
 }
 
 // Is slot n zero?
@@ -279,7 +244,7 @@ pub fn keeps_rules(
     if !chains_hold(count, level, then, els, next, heads) {
         return false;
     }
-    if !all_alone(count, level, then, els, next) {
+    if !all_alone(count, level, then, els) {
         return false;
     }
     zeros_kept(count, level, then, els, next)

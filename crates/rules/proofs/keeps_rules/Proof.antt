@@ -2,10 +2,11 @@
 use borrow.Author.Needs.{needs}
 use borrow.Author.Tests.{not-true, not-false}
 use mathlib.Core.List.{[]}
-use Rattle.store.specs.Store.{store}
+use Rattle.store.specs.Store.{store, slots}
 use Rattle.store.specs.Rules.{limits, Sizes, Chains}
-use Rattle.rules.specs.Check.{AllFit, AllAlone}
-use Rattle.rules.proofs.Parts.{sizes-count, sizes-nodes, sizes-slots, sizes-lists, parts-descend, no-sizes, no-fit, no-chains, no-alone, by-zeros}
+use Rattle.index.specs.Index.{AllAlone}
+use Rattle.rules.specs.Check.{AllFit}
+use Rattle.rules.proofs.Parts.{sizes-count, sizes-nodes, sizes-slots, sizes-lists, no-sizes, no-fit, no-chains, no-alone, by-zeros}
 use Rattle.rules.proofs.keeps_rules.Statement.{statement}
 use Rattle.rules.proofs.keeps_rules.Tie as tie
 
@@ -19,7 +20,7 @@ fit c = c .before .nodes-fit .ensures .yes (not-false _ (c .if2 .left))
 chains : (c : tie.Else3) → Chains (store 0 (c .before .before .before .before .before .before .before .before .before .args .count) (c .before .before .before .before .before .before .before .before .before .args .level .now) (c .before .before .before .before .before .before .before .before .before .args .then .now) (c .before .before .before .before .before .before .before .before .before .args .els .now) (c .before .before .before .before .before .before .before .before .before .args .next .now) (c .before .before .before .before .before .before .before .before .before .args .heads .now))
 chains c = c .before .chains-hold .ensures .yes (not-false _ (c .if3 .left))
 
-unlike : (c : tie.Else4) → AllAlone (store 0 (c .before .before .before .before .before .before .before .before .before .before .before .args .count) (c .before .before .before .before .before .before .before .before .before .before .before .args .level .now) (c .before .before .before .before .before .before .before .before .before .before .before .args .then .now) (c .before .before .before .before .before .before .before .before .before .before .before .args .els .now) (c .before .before .before .before .before .before .before .before .before .before .before .args .next .now) [])
+unlike : (c : tie.Else4) → AllAlone (slots (c .before .before .before .before .before .before .before .before .before .before .before .args .level .now) (c .before .before .before .before .before .before .before .before .before .before .before .args .then .now) (c .before .before .before .before .before .before .before .before .before .before .before .args .els .now)) (c .before .before .before .before .before .before .before .before .before .before .before .args .count)
 unlike c = c .before .all-alone .ensures .yes (not-false _ (c .if4 .left))
 
 sizes-kept-requires : tie.Need-sizes-kept-requires
@@ -41,8 +42,7 @@ returns-3 : tie.Need-returns-3
 returns-3 c = no-chains _ _ _ _ _ _ _ (c .before .chains-hold .ensures .no (not-true _ (c .if3 .taken)))
 
 all-alone-requires : tie.Need-all-alone-requires
-all-alone-requires c κs =
-    (sizes-count _ _ _ _ _ _ _ (sizes (c .before .before .before .before)), (sizes-slots _ _ _ _ _ _ _ (sizes (c .before .before .before .before)), parts-descend _ _ _ _ _ _ _ (fit (c .before .before)) (chains c)))
+all-alone-requires c κs = (sizes-count _ _ _ _ _ _ _ (sizes (c .before .before .before .before)), sizes-nodes _ _ _ _ _ _ _ (sizes (c .before .before .before .before)))
 
 returns-4 : tie.Need-returns-4
 returns-4 c = no-alone _ _ _ _ _ _ _ (c .before .all-alone .ensures .no (not-true _ (c .if4 .taken)))

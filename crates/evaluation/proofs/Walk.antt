@@ -11,13 +11,13 @@ use lib.ListN.{length, getD}
 use lib.IntN.{ℤ, pos, natAbs}
 use mir.Syntax.{w16}
 use mir.Val.{toZ, ofZ}
-use Rattle.edges.specs.Edge.{minus, turn}
+use Rattle.edges.specs.Edge.{IsEdge, minus, turn}
 use Rattle.edges.proofs.Edge.{turn-minus, turn-plain}
 use Rattle.edges.proofs.Signed.{edge-back}
 use Rattle.store.specs.Store.{Store, store, thenAt, elseAt, slots}
 use Rattle.store.specs.Meaning.{Setting, settingOf, nodeBy, node, answer}
-use Rattle.store.specs.Rules.{depth, Nodes, Fits}
-use Rattle.evaluation.specs.Evaluated.{child, Walks}
+use Rattle.store.specs.Rules.{Fits}
+use Rattle.evaluation.specs.Evaluated.{child, Walks, Leads}
 use Rattle.store.proofs.Lower.{nodes-lower}
 use Rattle.store.proofs.Meaning.{node-step}
 
@@ -52,6 +52,13 @@ module _ (σ : Store) (s : Setting) (e : ℤ) (k : ℕ) (a : Bool) (at : k ≡ n
   pub edge-plain : minus e ≡ false → a ≡ answer σ s e
   edge-plain h = says ∙ ap (node σ s) at ∙ sym (turn-plain e (node σ s (natAbs e)) h)
 
+-- the edges that the walk starts from and goes on from, which the code reads as `toZ w16 (ofZ w16 e)`
+pub walk-back : {level : List ℕ} {then els : List ℤ} {b : List ℕ} (e : ℤ) → Walks level then els b (natAbs e) → toZ w16 (ofZ w16 e) ≡ e
+walk-back e w = edge-back w16 e (w .small)
+
+pub leads-back : {σ : Store} {s : Setting} {n : ℕ} (e : ℤ) → IsEdge (pos n) → Leads σ s n e → Leads σ s n (toZ w16 (ofZ w16 e))
+leads-back e h l = rw (edge-back w16 e (omega (arith, l .lower))) l
+
 module _ {level : List ℕ} {then els : List ℤ} {b : List ℕ} {n : ℕ} (w : Walks level then els b n) where
   pub walks-lower : (k : ℕ) → k ≤ n → Walks level then els b k
   walks-lower k h =
@@ -84,6 +91,13 @@ module _ {level : List ℕ} {then els : List ℤ} {b : List ℕ} {n : ℕ} (w : 
         go true = fits .then-low
         go false = fits .else-low
 
+      child-some : 1 ≤ natAbs (child (slots level then els) s n)
+      unfolding child
+      child-some = go (s (getD level (n - 1) 0)) where
+        go : (c : Bool) → 1 ≤ natAbs (cond c (getD then (n - 1) (pos 0)) (getD els (n - 1) (pos 0)))
+        go true = fits .then-some
+        go false = fits .else-some
+
       node-child : node (slots level then els) s n ≡ answer (slots level then els) s (child (slots level then els) s n)
       unfolding child
       node-child = sym (slots-node (store (length b) n level then els [] []) s n) ∙ node-step (store (length b) n level then els [] []) (w .nodes) s n h (le-refl n) ∙ go (s (getD level (n - 1) 0)) where
@@ -91,20 +105,7 @@ module _ {level : List ℕ} {then els : List ℤ} {b : List ℕ} {n : ℕ} (w : 
         go true = slots-answer (store (length b) n level then els [] []) s (getD then (n - 1) (pos 0))
         go false = slots-answer (store (length b) n level then els [] []) s (getD els (n - 1) (pos 0))
 
-      -- the walk goes on from the child r, which the code reads as `toZ w16 (ofZ w16 r)`
-      module _ (r : ℤ) (is : r ≡ child (slots level then els) s n) where
-        child-back : toZ w16 (ofZ w16 r) ≡ child (slots level then els) s n
-        child-back = ap (λ e. toZ w16 (ofZ w16 e)) is ∙ edge-back w16 (child (slots level then els) s n) (omega (arith, child-low, w .small))
-
-        pub child-falls : natAbs (toZ w16 (ofZ w16 r)) < n
-        child-falls = rw child-back child-low
-
-        pub child-walks : Walks level then els b (natAbs (toZ w16 (ofZ w16 r)))
-        child-walks = walks-lower (natAbs (toZ w16 (ofZ w16 r))) (omega (arith, child-falls))
-
-        pub child-says : (a : Bool) → a ≡ answer (slots level then els) s (toZ w16 (ofZ w16 r)) → a ≡ node (slots level then els) s n
-        child-says a k = k ∙ ap (answer (slots level then els) s) child-back ∙ sym node-child
-
--- the edge that the walk starts from
-pub walk-back : {level : List ℕ} {then els : List ℤ} {b : List ℕ} (e : ℤ) → Walks level then els b (natAbs e) → toZ w16 (ofZ w16 e) ≡ e
-walk-back e w = edge-back w16 e (w .small)
+      -- the walk goes on from the child r
+      pub child-leads : (r : ℤ) → r ≡ child (slots level then els) s n → Leads (slots level then els) s n (toZ w16 (ofZ w16 r))
+      child-leads r is =
+          leads-back r (w .small) (rw is (record { says = sym node-child; some = child-some; lower = child-low }))

@@ -1,16 +1,17 @@
 -- What the functions of evaluation speak of. Document 01, 'Store and meaning'.
-use Prim.Native.Nat.{ℕ, _≤_}
+use Prim.Native.Nat.{ℕ, _≤_, _<_}
+use mathlib.Core.Path.{_≡_}
 use mathlib.Core.Bool.{Bool, cond}
 use mathlib.Core.List.{List, []}
 use lib.ListN.{length}
-use lib.IntN.{ℤ, pos}
+use lib.IntN.{ℤ, pos, natAbs}
 use Rattle.codes.specs.Answer.{Read, value, refused}
 use Rattle.edges.specs.Edge.{IsEdge}
 use Rattle.evaluation.specs.declared.Evaluation.{Evaluation}
 use Rattle.evaluation.specs.declared.Evaluation.the-variants as evaluation
 use Rattle.store.specs.Store.{Store, store, levelAt, thenAt, elseAt}
 use Rattle.store.specs.Rules.{Nodes}
-use Rattle.store.specs.Meaning.{Setting}
+use Rattle.store.specs.Meaning.{Setting, node, answer}
 
 -- an answer, or the number of a refusal
 abbrev pub ofEvaluation : Evaluation → Read Bool
@@ -29,3 +30,9 @@ pub record Walks (level : List ℕ) (then els : List ℤ) (s : List ℕ) (n : �
   pub then-long : n ≤ length then
   pub els-long : n ≤ length els
   pub nodes : Nodes (store (length s) n level then els [] [])
+
+-- Where a walk from node n may go on: edge e answers as the node does, and its node is a lower one.
+pub record Leads (σ : Store) (s : Setting) (n : ℕ) (e : ℤ) : Type 0 where
+  pub says : answer σ s e ≡ node σ s n
+  pub some : 1 ≤ natAbs e
+  pub lower : natAbs e < n

@@ -1,13 +1,17 @@
 -- `eval_edge` and `eval_node` meet their contracts. The measure is twice the node's number, one more for the edge: an edge's node has
--- a lower measure, and a node's child is an edge to a lower node.
+-- a lower measure, and a stretch of the walk leads to an edge to a lower node.
 use Prim.Native.Nat.{ℕ, _+_, _*_, _<_}
 use mathlib.Core.Path.{_≡_, sym, ap, _∙_}
 use native.Mathlib.Omega.{arith}
 use borrow.Author.Needs.{needs}
 use lib.IntN.{natAbs}
+use mir.Syntax.{w16}
+use mir.Val.{toZ, ofZ}
 use Rattle.edges.specs.Edge.{minus}
+use Rattle.store.specs.Store.{slots}
 use Rattle.store.specs.Meaning.{settingOf}
-use Rattle.evaluation.proofs.Walk.{node-leaf, walks-lower, walk-back, edge-minus, edge-plain, child-falls, child-walks, child-says}
+use Rattle.evaluation.specs.Evaluated.{Leads}
+use Rattle.evaluation.proofs.Walk.{node-leaf, walks-lower, walk-back, edge-minus, edge-plain, leads-back}
 use borrow.Fn.Kinds.{In}
 use borrow.Fn.PlainCycle.{Measures, is, falls, and}
 use Rattle.evaluation.proofs.eval_edge.Reads as eval-edge
@@ -18,7 +22,7 @@ use Rattle.evaluation.proofs.eval_node.Kinds as eval-node-kinds
 use Rattle.evaluation.proofs.+eval_edge+eval_node.Lts-eval_node as eval-node-lts
 use Rattle.edges.proofs.is_minus.Reads as is-minus-reads
 use Rattle.edges.proofs.magnitude.Reads as magnitude-reads
-use Rattle.evaluation.proofs.child_at.Reads as child-at-reads
+use Rattle.evaluation.proofs.descend.Reads as descend-reads
 use Rattle.evaluation.proofs.+eval_edge+eval_node.{statement}
 use Rattle.evaluation.proofs.+eval_edge+eval_node.Tie.{close}
 
@@ -46,7 +50,7 @@ abbrev edge-claims : ℕ → eval-edge-lts.Claims
 edge-claims t = (magnitude-reads.Asked, magnitude-reads.Learnt, eval-node-below t, eval-node.Post, is-minus-reads.Asked, is-minus-reads.Learnt)
 
 abbrev node-claims : ℕ → eval-node-lts.Claims
-node-claims t = (child-at-reads.Asked, child-at-reads.Learnt, eval-edge-below t, eval-edge.Post)
+node-claims t = (descend-reads.Asked, descend-reads.Learnt, eval-edge-below t, eval-edge.Post)
 
 eval-edge-magnitude-requires : (t : ℕ) → eval-edge-lts.Need-magnitude-requires (edge-claims t) (eval-edge-at t) eval-edge.Post
 eval-edge-magnitude-requires t c κs = search needs
@@ -79,17 +83,22 @@ eval-edge-returns-2 t c =
 eval-node-returns : (t : ℕ) → eval-node-lts.Need-returns (node-claims t) (eval-node-at t) eval-node.Post
 eval-node-returns t c = sym (node-leaf _ _ (c .before .before .before .args .n) (c .if1 .taken))
 
-eval-node-child-at-requires : (t : ℕ) → eval-node-lts.Need-child-at-requires (node-claims t) (eval-node-at t) eval-node.Post
-eval-node-child-at-requires t c κs = (c .if1 .left, c .before .before .before .pre .1)
+eval-node-descend-requires : (t : ℕ) → eval-node-lts.Need-descend-requires (node-claims t) (eval-node-at t) eval-node.Post
+eval-node-descend-requires t c κs = (c .if1 .left, c .before .before .before .pre .1)
+
+-- the edge that the stretch led to, as the call reads it
+leads : (t : ℕ) (c : eval-node-lts.After-descend (node-claims t) (eval-node-at t) eval-node.Post)
+    → let s = c .before .before .before .before .args in
+    Leads (slots (s .level .now) (s .then .now) (s .els .now)) (settingOf (s .setting .now)) (s .n) (toZ w16 (ofZ w16 (c .descend .result)))
+leads t c = leads-back _ (c .before .before .before .before .pre .1 .small) (c .descend .ensures)
 
 eval-node-eval-edge-requires : (t : ℕ) → eval-node-lts.Need-eval-edge-requires (node-claims t) (eval-node-at t) eval-node.Post
 eval-node-eval-edge-requires t c κs =
     let s = c .before .before .before .before in
-    (omega (arith, s .pre .0, child-falls (s .pre .1) (c .before .if1 .left) (settingOf (s .args .setting .now)) _ (c .child-at .ensures)), child-walks (s .pre .1) (c .before .if1 .left) (settingOf (s .args .setting .now)) _ (c .child-at .ensures))
+    (omega (arith, s .pre .0, leads t c .lower), walks-lower (s .pre .1) _ (omega (arith, leads t c .lower)))
 
 eval-node-returns-2 : (t : ℕ) → eval-node-lts.Need-returns-2 (node-claims t) (eval-node-at t) eval-node.Post
-eval-node-returns-2 t c =
-    child-says (c .before .before .before .before .before .pre .1) (c .before .before .if1 .left) _ _ (c .before .child-at .ensures) _ (c .eval-edge .ensures)
+eval-node-returns-2 t c = c .eval-edge .ensures ∙ leads t (c .before) .says
 
 pub +eval-edge+eval-node-spec : {M : Type 1} → statement M
 +eval-edge+eval-node-spec =
@@ -110,6 +119,6 @@ pub +eval-edge+eval-node-spec : {M : Type 1} → statement M
     (eval-node-at t)
     eval-node.Post
     (eval-node-returns t)
-    (eval-node-child-at-requires t)
+    (eval-node-descend-requires t)
     (eval-node-eval-edge-requires t)
     (eval-node-returns-2 t))

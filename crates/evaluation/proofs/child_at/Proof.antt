@@ -9,9 +9,6 @@ use Rattle.evaluation.proofs.child_at.Tie as tie
 sub-i : tie.Need-sub-i
 sub-i c = search needs
 
-cast-i : tie.Need-cast-i
-cast-i c = search needs
-
 mul-l : tie.Need-mul-l
 mul-l c = search needs
 
@@ -47,7 +44,6 @@ child-at-spec =
     tie.close
     (tie.spec
     sub-i
-    cast-i
     mul-l
     shared-slice-read-l
     cast-l

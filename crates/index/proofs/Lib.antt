@@ -1,0 +1,4 @@
+pub mod Mixed
+pub mod Seeking
+pub mod More
+pub mod Built

@@ -120,7 +120,20 @@ fn read_lines(
                 let a = edge_for(&edges[..i], t);
                 let b = edge_for(&edges[..i], e);
                 let l = list[p as usize];
-                match making::make(levels, count, level, then, els, next, heads, index, width, l, a, b) {
+                match making::make(
+                    levels,
+                    count,
+                    level,
+                    then,
+                    els,
+                    next,
+                    heads,
+                    index,
+                    width,
+                    l,
+                    a,
+                    b,
+                ) {
                     Making::Node(made) => {
                         edges[i] = made;
                         seats[i] = p + 1;

@@ -1,3 +1,4 @@
+pub mod Holding
 pub mod Mixed
 pub mod Seeking
 pub mod More

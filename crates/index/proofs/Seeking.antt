@@ -111,12 +111,6 @@ module _ (width : ℕ) (σ : Store) (c : ℕ) (ix : List ℕ) (I : Indexed width
 
   -- the node that a search gives
   module _ (at : ℕ) (s : Sought width σ c ix l t e at) where
-    pub sought-low : 0 < getD ix at 0 → 2 ≤ getD ix at 0
-    sought-low = I .low at
-
-    pub sought-high : getD ix at 0 ≤ c
-    sought-high = I .high at
-
     pub sought-holds : 0 < getD ix at 0 → Holds σ (getD ix at 0) l t e
     sought-holds h = holds-true σ l t e (getD ix at 0) (s .hit h)
 

@@ -6,10 +6,10 @@ ghost use Prim.Native.Nat.{_+_, _*_, _^_, _≤_, _<_};
 ghost use lib.ListN.{length, replicate};
 ghost use Rattle.store.specs.Store.{slots};
 ghost use Rattle.store.specs.Keeps.{Decides};
+ghost use Rattle.store.specs.Make.{holds};
 ghost use Rattle.index.specs.Index.{keyOf, headOf, Indexed, Sought, AllAlone};
 use edges::Edge;
 use edges::Index;
-use store::search;
 
 // A small index, for so many nodes, that is cheap to clear: its heads, and with two entries for each node and for 0 its length.
 pub const FEW: usize = 511;
@@ -42,6 +42,25 @@ fn head(width: usize, l: u16, t: Edge, e: Edge) -> usize
     (part * width as u64 / 4294967296) as usize
 }
 
+// Does node n have this level, then and else? That is a matter of three lists only.
+fn holds_at(level: &[u16], then: &[Edge], els: &[Edge], l: u16, t: Edge, e: Edge, n: Index) -> bool
+    requires { ⌜ (1 ≤ n) × ((n ≤ length (now level)) × ((n ≤ length (now then)) × (n ≤ length (now els)))) ⌝ }
+    ensures { λ r. ⌜ r ≡ holds (slots (now (level .entry)) (now (then .entry)) (now (els .entry))) l t e n ⌝ }
+{
+    let i = (n - 1) as usize;
+    if level[i] == l {
+        let x = then[i];
+        if edges::same(x, t) {
+            let y = els[i];
+            edges::same(y, e)
+        } else {
+            false
+        }
+    } else {
+        false
+    }
+}
+
 // The entry of the node that has this level, then and else, or the empty entry where such a node belongs. `count` says how many nodes the
 // index knows.
 pub fn seek(
@@ -63,7 +82,7 @@ pub fn seek(
     let mut at = head(width, l, t, e);
     let mut n = index[at];
     while n != 0 {
-        if search::holds_at(level, then, els, l, t, e, n) {
+        if holds_at(level, then, els, l, t, e, n) {
             return at;
         }
         at = width + 2 * n as usize + (k % 2) as usize;

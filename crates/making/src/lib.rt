@@ -155,7 +155,20 @@ pub fn make(
     let minus = edges::is_minus(t);
     let a = complement(minus, t);
     let b = complement(minus, e);
-    let made = insert(levels, count, level, then, els, next, heads, index, width, l, a, b);
+    let made = insert(
+        levels,
+        count,
+        level,
+        then,
+        els,
+        next,
+        heads,
+        index,
+        width,
+        l,
+        a,
+        b,
+    );
     complement_made(minus, made)
 }
 

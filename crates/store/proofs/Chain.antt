@@ -34,6 +34,10 @@ pub bucketOf-small : (l : ℕ) (t e : ℤ) → bucketOf l t e < 256
 unfolding bucketAt
 bucketOf-small l t e = mod-lt _ (omega arith)
 
+-- a bucket has a head
+pub bucket-under : (b l : ℕ) (t e : ℤ) → b ≡ bucketOf l t e → b < 256
+bucket-under b l t e q = rw q (bucketOf-small l t e)
+
 pub bucket-small : (σ : Store) (n : ℕ) → bucket σ n < 256
 unfolding bucket
 bucket-small σ n = bucketOf-small (levelAt σ n) (thenAt σ n) (elseAt σ n)
@@ -107,9 +111,6 @@ module _ (σ : Store) (L : Linked σ) where
   module _ (n : ℕ) (h : 2 ≤ n) (k : n ≤ σ .count) where
     pub next-newest : (b : ℕ) → bucket σ n ≡ b → nextAt σ n ≡ newest σ b (n - 1)
     next-newest b e = L .next n h k ∙ ap (λ (w : ℕ). newest σ w (n - 1)) e
-
-    pub next-lower : nextAt σ n < n
-    next-lower = omega (arith, L .next n h k, newest-le σ (bucket σ n) (n - 1))
 
 -- The reading form. The members up to j are the newest of them and the members below it.
 module _ (σ : Store) (b : ℕ) where

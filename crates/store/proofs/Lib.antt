@@ -3,7 +3,6 @@ pub mod Canonicity
 pub mod Growth
 pub mod Chain
 pub mod Find
-pub mod Found
 pub mod Added
 pub mod Makes
 pub mod Empty

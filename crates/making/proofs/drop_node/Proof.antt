@@ -4,7 +4,7 @@ use native.Mathlib.Omega.{arith}
 use mir.Syntax.{w16}
 use mir.ValLaws.{toZ-ofZ}
 use Rattle.store.specs.Store.{Store, store, thenAt, elseAt}
-use Rattle.store.proofs.Found.{bucket-under}
+use Rattle.store.proofs.Chain.{bucket-under}
 use Rattle.making.proofs.Placed.{slot-cleared}
 use Rattle.making.proofs.drop_node.Statement.{statement}
 use Rattle.making.proofs.drop_node.Tie as tie

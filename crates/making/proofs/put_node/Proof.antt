@@ -4,7 +4,7 @@ use native.Mathlib.Omega.{arith}
 use mir.Syntax.{w16}
 use mir.ValLaws.{toZ-ofZ}
 use Rattle.store.specs.Store.{Store, store}
-use Rattle.store.proofs.Found.{bucket-under}
+use Rattle.store.proofs.Chain.{bucket-under}
 use Rattle.making.proofs.Placed.{slot-filled}
 use Rattle.making.proofs.put_node.Statement.{statement}
 use Rattle.making.proofs.put_node.Tie as tie

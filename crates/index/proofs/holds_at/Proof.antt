@@ -1,14 +1,13 @@
 -- `holds_at` meets its contract: the three tests in turn are the three of `holds`.
 use mathlib.Core.Path.{_≡_}
 use borrow.Author.Needs.{needs}
-use mathlib.Core.List.{[]}
 use mir.Syntax.{w16}
 use mir.ValLaws.{toZ-ofZ}
 use Rattle.edges.specs.Edge.{eqZ}
-use Rattle.store.specs.Store.{Store, store, thenAt, elseAt}
-use Rattle.store.proofs.Found.{other-level, other-then, by-else}
-use Rattle.store.proofs.search.holds_at.Statement.{statement}
-use Rattle.store.proofs.search.holds_at.Tie as tie
+use Rattle.store.specs.Store.{Store, slots, thenAt, elseAt}
+use Rattle.index.proofs.Holding.{other-level, other-then, by-else}
+use Rattle.index.proofs.holds_at.Statement.{statement}
+use Rattle.index.proofs.holds_at.Tie as tie
 
 sub-i : tie.Need-sub-i
 sub-i c = search needs
@@ -42,7 +41,7 @@ same-requires-2 c κs = search needs
 
 -- the store of the three lists
 abbrev σ : tie.Start → Store
-σ s = store 0 0 (s .args .level .now) (s .args .then .now) (s .args .els .now) [] []
+σ s = slots (s .args .level .now) (s .args .then .now) (s .args .els .now)
 
 -- what the two comparisons say of the edges themselves
 then-same : (c : tie.After-same)

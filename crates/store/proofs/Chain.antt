@@ -104,13 +104,9 @@ newest-same σ τ b (suc zero) h = refl
 newest-same σ τ b (suc (suc k)) h = rw (h (suc (suc k)) (omega arith) (omega arith), newest-same σ τ b (suc k) (λ n p q. h n p (omega arith)))
 
 -- A walk along a chain: from a node of bucket b the next number is the newest older node of b, which is lower.
-module _ (σ : Store) (L : Linked σ) where
-  pub head-le : (b : ℕ) → b < 256 → headAt σ b ≤ σ .count
-  head-le b h = omega (arith, L .head b h, newest-le σ b (σ .count))
-
-  module _ (n : ℕ) (h : 2 ≤ n) (k : n ≤ σ .count) where
-    pub next-newest : (b : ℕ) → bucket σ n ≡ b → nextAt σ n ≡ newest σ b (n - 1)
-    next-newest b e = L .next n h k ∙ ap (λ (w : ℕ). newest σ w (n - 1)) e
+module _ (σ : Store) (L : Linked σ) (n : ℕ) (h : 2 ≤ n) (k : n ≤ σ .count) where
+  pub next-newest : (b : ℕ) → bucket σ n ≡ b → nextAt σ n ≡ newest σ b (n - 1)
+  next-newest b e = L .next n h k ∙ ap (λ (w : ℕ). newest σ w (n - 1)) e
 
 -- The reading form. The members up to j are the newest of them and the members below it.
 module _ (σ : Store) (b : ℕ) where

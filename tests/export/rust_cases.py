@@ -213,4 +213,5 @@ def main():
     print("%d cases; left out: %s" % (len(rows), ", ".join("%s %d" % x for x in sorted(left.items()))))
 
 
-main()
+if __name__ == "__main__":
+    main()

@@ -7,8 +7,9 @@ ORACLE is the oracle's folder: the published Rust over plain managers, with gen.
 document 01. It is copied to build/oracle and compiled there; cargo is needed for it, and no network. Everything else is made in
 build/cases. The same oracle and the same scripts give the same bytes.
 
-At its end the script says of every file of stored cases, of each program's expected output, of INDEX.tsv and of COVERAGE.md whether what
-stands in the repository is what was made. With `install` it puts there what was made. It ends with status 1 where something differs.
+At its end the script prints the table of coverage, and says of every file of stored cases, of each program's expected output, of INDEX.tsv
+and of COVERAGE.md whether what stands in the repository is what was made. With `install` it puts there what was made. Without it, it ends
+with status 1 where something differs.
 
 INDEX.tsv says of each stored case which judge it has: the program, the cases by number, from 0, as `first-last` where several follow one
 another, their source, the judge and the reason. record.py lists the reasons. COVERAGE.md counts what the cases have.
@@ -224,25 +225,27 @@ def totals(cases):
     print("%-8s %6d cases, %6d judged by the Rust" % ("all", len(cases), sum(c.judge == RUST for c in cases)))
 
 
+def report(cases, files, same):
+    print("\n" + files["tests/cases/COVERAGE.md"].decode())
+    for path, is_same in same.items():
+        print("%s: %s, %d bytes" % (path, "as it stands in the repository" if is_same else "ANOTHER ONE stands in the repository", len(files[path])))
+    totals(cases)
+
+
 def main():
     if len(sys.argv) not in (2, 3) or sys.argv[2:] not in ([], ["install"]):
         sys.exit("usage: make.py ORACLE [install]")
     started, source = time.monotonic(), os.path.abspath(sys.argv[1])
     os.chdir(ROOT)
     print("the Rust is compiled in %s" % RUST_FOLDER, flush=True)
-    oracle.build(source, RUST_FOLDER, ("release", "checked"))
+    oracle.build(source, RUST_FOLDER)
     generate()
     false = make()
     cases = known()
     files = placed(cases, false)
     same = {path: content(path) == data for path, data in files.items()}
-    for path, is_same in same.items():
-        print("%s: %s, %d bytes" % (path, "as it stands in the repository" if is_same else "ANOTHER ONE stands in the repository", len(files[path])))
-    totals(cases)
-    print("the tables stand in %s; %.0f seconds" % (OUT, time.monotonic() - started))
-    for path in ("tests/cases/INDEX.tsv", "tests/cases/COVERAGE.md"):
-        with open(os.path.join(OUT, os.path.basename(path)), "wb") as f:
-            f.write(files[path])
+    report(cases, files, same)
+    print("%.0f seconds" % (time.monotonic() - started))
     if sys.argv[2:]:
         install(files)
         print("put in place")

@@ -154,6 +154,11 @@ def of_stored(program, table):
         yield x + ["vectors/export.tsv %d" % n] + (judge(x, next(said)) if x in asked else [DOCUMENT, why[x[17]]])
 
 
+def source(path, files):
+    folder, name = os.path.split(path)
+    return "vectors/" + name if folder == files else os.path.basename(folder) + "/" + name.split(".")[0]
+
+
 def write(folder, name, rows):
     with open(os.path.join(folder, name), "w") as f:
         f.write("".join("\t".join(map(str, row)) + "\n" for row in rows))
@@ -206,7 +211,7 @@ def main():
         row += [",".join("%d:%d" % x for x in enumerate(heads) if x[1]) or "-", listed(m["edges"]), listed(order)]
         row += [o.get("--mode", "B"), o.get("--version", "2"), named(variables), named(roots), dd or "-"]
         row += [size + rng.choice((0, 0, 1, 7)), count + rng.choice((0, 0, 3)), 0 if answer[0] == "ok" else 5, data.hex() or "-"]
-        row += ["%s/%s" % (os.path.basename(os.path.dirname(path)), os.path.basename(path).split(".")[0]), RUST, "-"]
+        row += [source(path, files), RUST, "-"]
         rows.append(row)
     write(outdir, "stored.tsv", of_stored(program, stored))
     write(outdir, "generated.tsv", rows)

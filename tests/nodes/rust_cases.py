@@ -38,7 +38,8 @@ class Load:
         self.path, self.levels, self.list, self.slots, self.source, self.kind = path, levels, level_list, slots, source, kind
         self.stored = None  # the columns of LOAD from the refusal on
         self.tables = None  # truth tables that the file's maker worked out
-        self.data = open(path, "rb").read()
+        with open(path, "rb") as f:
+            self.data = f.read()
 
     def commands(self):
         yield "header " + self.path

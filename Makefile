@@ -4,7 +4,12 @@
 # make lib      proves the crate firmware, and puts the library for C and its header file into build/
 # make round    builds the example in C, build/round, over that library
 # make bench    measures the library for C on generated files; ORACLE=DIR compares it with the Rust: see bench/run
-.PHONY: recode test lib round bench clean
+# make cases ORACLE=DIR
+#               makes the stored cases of the programs vectors_* again, with the Rust, and says whether they are those of the repository;
+#               INSTALL=1 puts them in place: see tests/README.md
+# make differences ORACLE=DIR
+#               runs the inputs of docs/DIFFERENCES.md on the Rust
+.PHONY: recode test lib round bench cases differences clean
 
 CFLAGS = -std=c99 -O2 -Wall -Wextra -pedantic
 
@@ -27,6 +32,14 @@ round: lib
 
 bench:
 	@ORACLE='$(ORACLE)' bench/run
+
+cases:
+	@test -n "$(ORACLE)" || { echo 'usage: make cases ORACLE=DIR [INSTALL=1]' >&2; exit 2; }
+	@python3 tests/cases/make.py "$(ORACLE)" $(if $(INSTALL),install)
+
+differences:
+	@test -n "$(ORACLE)" || { echo 'usage: make differences ORACLE=DIR' >&2; exit 2; }
+	@python3 tests/differences/rust.py "$(ORACLE)"
 
 clean:
 	rm -rf target build

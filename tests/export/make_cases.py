@@ -3,19 +3,22 @@
 
     python3 make_cases.py OUTDIR CASES..
 
-OUTDIR is the folder to write to. CASES are lists of exports, a case a line, columns between tabs, `-` for none: a store in nine columns
+OUTDIR is the folder to write to. CASES are lists of exports, a case a line, columns between tabs, `-` for none: a store in eight columns
 (level count, count, the slot lists level, then, else, next, the number of bucket heads, those that aren't 0 as `bucket:head`); the roots;
 the variable order; the mode, A or B; the version, 2 or 3; the variables' names and the roots' names, in hexadecimal, `empty` for an empty
-name; the diagram's name; the length of the output; the length of each list of marks; the refusal, 0 for none; the bytes written. Lines
-inside a level stand in the order of the walk's first meeting, which the Rust over its plain manager has too.
+name; the diagram's name; the length of the output; the length of each list of marks; the refusal, 0 for none; the bytes written; the
+source, the judge and the reason, as tests/cases/record.py has them. Lines inside a level stand in the order of the walk's first meeting,
+which the Rust over its plain manager has too.
 
-rust_cases.py makes such a list whose answers the Rust gives. The same lists give the same cases, byte for byte.
+rust_cases.py makes such lists. differences.tsv, beside this script, has the inputs E1 to E7 of docs/DIFFERENCES.md; tests/differences/rust.py
+describes its further columns. The same lists give the same cases, byte for byte.
 
 The files:
 
     cases.bin       all cases
     falsified.bin   some cases, each with its refusal or one byte of its file changed
     cut.bin         a few cases and a last one that isn't whole
+    index.tsv       for each of all cases its source and judge
 
 All numbers are of 16 bits, lowest byte first, but for starts and lengths of names, which are of 32. A case starts with 32 numbers: the
 store's level count and count; the lengths of its lists level, then, else, next and of the bucket heads; how many roots there are, entries
@@ -27,6 +30,9 @@ four slot lists as far as they are given, the heads, the roots, the order, the s
 import os
 import random
 import sys
+
+sys.path.insert(0, os.path.join(os.path.dirname(os.path.abspath(__file__)), "..", "cases"))
+from record import Record  # noqa: E402
 
 
 class Case:
@@ -44,6 +50,7 @@ class Case:
         self.out, self.marks = int(x[15]), int(x[16])
         self.refusal = int(x[17])
         self.file = b"" if x[18] == "-" else bytes.fromhex(x[18])
+        self.judged = x[19:22]
 
 
 def numbers(text):
@@ -110,13 +117,14 @@ def falsified(rng, case):
 def main():
     outdir, lists = sys.argv[1], sys.argv[2:]
     rng = random.Random(20261115)
-    whole_file, false_file = [], []
+    whole_file, false_file, record = [], [], Record()
     for name in lists:
         tally = {}
         with open(name) as f:
             for k, line in enumerate(f):
                 case = Case(line)
                 whole_file.append(case_bytes(case, case.refusal, case.file))
+                record.add(case.refusal, *case.judged, file=case.file or None)
                 tally[case.refusal] = tally.get(case.refusal, 0) + 1
                 if k % 3 == 1:
                     false_file.append(case_bytes(case, *falsified(rng, case)))
@@ -125,6 +133,7 @@ def main():
     for name, data in (("cases.bin", b"".join(whole_file)), ("falsified.bin", b"".join(false_file)), ("cut.bin", b"".join(cut_file)[:-1])):
         with open(os.path.join(outdir, name), "wb") as f:
             f.write(data)
+    record.write(outdir)
     print("cases", len(whole_file), "falsified", len(false_file), "cut", len(cut_file))
 
 

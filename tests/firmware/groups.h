@@ -8,8 +8,12 @@
 /* Where the stored cases are. */
 extern const char *vectors;
 
+/* Where the inputs of docs/DIFFERENCES.md are. */
+extern const char *differences;
+
 /* vectors.c: the stored cases, and changed ones, which must be noticed */
 void try_loads(void);
+void try_differences(void);
 void try_stores(void);
 void try_evaluations(void);
 void try_exports(void);
@@ -34,7 +38,7 @@ struct load_vector {
     char *answers;
 };
 
-/* Reads the cases of `load.tsv` or of `room.tsv`; 0 after the last one. */
+/* Reads the cases of `load.tsv`, of `room.tsv` or of `inputs.tsv`; 0 after the last one. */
 int next_load(struct table *t, struct load_vector *v);
 void drop_load(struct load_vector *v);
 int has_answers(const struct load_vector *v);

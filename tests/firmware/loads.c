@@ -1,11 +1,11 @@
-/* Stored loads: `load.tsv`, into an empty store, and `room.tsv`, into a store that may hold nodes already. */
+/* Stored loads: `load.tsv` and `inputs.tsv`, into an empty store, and `room.tsv`, into a store that may hold nodes already. */
 #include <stdlib.h>
 #include <string.h>
 
 #include "groups.h"
 #include "report.h"
 
-enum { LOAD_COLUMNS = 9, ROOM_REFUSED_COLUMNS = 15, ROOM_COLUMNS = 21 };
+enum { LOAD_COLUMNS = 9, INPUT_COLUMNS = 12, ROOM_REFUSED_COLUMNS = 15, ROOM_COLUMNS = 21 };
 
 int has_answers(const struct load_vector *v)
 {
@@ -83,22 +83,29 @@ static void read_room(char **column, size_t line, struct load_vector *v)
     v->answers = "-";
 }
 
-int next_load(struct table *t, struct load_vector *v)
+static struct bytes file_named(const char *name)
 {
-    int rooms = strcmp(t->name, "room.tsv") == 0;
     char folder[1000];
 
-    if (rooms ? !next_line(t, ROOM_REFUSED_COLUMNS, ROOM_COLUMNS) : !next_line(t, LOAD_COLUMNS, LOAD_COLUMNS))
+    if (strlen(vectors) + sizeof "/files" > sizeof folder)
+        stop("a path is too long");
+    strcpy(folder, vectors);
+    strcat(folder, "/files");
+    return read_bytes(folder, name);
+}
+
+int next_load(struct table *t, struct load_vector *v)
+{
+    int rooms = strcmp(t->name, "room.tsv") == 0, spelled = strcmp(t->name, "inputs.tsv") == 0;
+    size_t width = rooms ? ROOM_REFUSED_COLUMNS : spelled ? INPUT_COLUMNS : LOAD_COLUMNS;
+
+    if (!next_line(t, width, rooms ? ROOM_COLUMNS : width))
         return 0;
     if (rooms)
         read_room(t->columns, t->line, v);
     else
         read_load(t->columns, v);
-    if (strlen(vectors) + sizeof "/files" > sizeof folder)
-        stop("a path is too long");
-    strcpy(folder, vectors);
-    strcat(folder, "/files");
-    v->file = read_bytes(folder, t->columns[0]);
+    v->file = spelled ? spelled_in(t->columns[0]) : file_named(t->columns[0]);
     return 1;
 }
 

@@ -1,11 +1,11 @@
 /*
  * The library for C, held to document 01 through its header file.
  *
- *     firmware [-e] [-d DAMAGED] VECTORS
+ *     firmware [-e] [-d DAMAGED] VECTORS DIFFERENCES
  *
- * VECTORS is the folder of the stored cases. -e gives each part memory of its own size, for a run under a tool that watches memory, and
- * leaves out the changed cases, which make the same calls again; -d sets the number of stores that are damaged. The status is 0 where
- * nothing failed.
+ * VECTORS is the folder of the stored cases, DIFFERENCES that of the inputs of docs/DIFFERENCES.md. -e gives each part memory of its own
+ * size, for a run under a tool that watches memory, and leaves out the changed cases, which make the same calls again; -d sets the number
+ * of stores that are damaged. The status is 0 where nothing failed.
  */
 #include <stdio.h>
 #include <stdlib.h>
@@ -32,6 +32,7 @@ static void try_all(size_t damaged)
     try_lengths();
     try_empty_parts();
     try_loads();
+    try_differences();
     try_stores();
     try_evaluations();
     try_exports();
@@ -48,17 +49,18 @@ int main(int argc, char **argv)
     size_t damaged = 4000;
     int i;
 
-    for (i = 1; i + 1 < argc; i++) {
+    for (i = 1; i + 2 < argc; i++) {
         if (strcmp(argv[i], "-e") == 0)
             exact = 1;
-        else if (strcmp(argv[i], "-d") == 0 && i + 2 < argc)
+        else if (strcmp(argv[i], "-d") == 0 && i + 3 < argc)
             damaged = count_in(argv[++i]);
         else
             stop("an option isn't known");
     }
-    if (i >= argc)
-        stop("usage: firmware [-e] [-d DAMAGED] VECTORS");
+    if (i + 1 >= argc)
+        stop("usage: firmware [-e] [-d DAMAGED] VECTORS DIFFERENCES");
     vectors = argv[i];
+    differences = argv[i + 1];
     try_all(damaged);
     return failures() == 0 ? 0 : 1;
 }

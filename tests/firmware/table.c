@@ -155,6 +155,79 @@ struct bytes bytes_in(const char *column, size_t len)
     return b;
 }
 
+/* The byte that is spelled here. Moves behind it. */
+static uint8_t spelled_byte(const char **at)
+{
+    static const char letters[] = "nrt", bytes[] = "\n\r\t";
+    const char *from = *at, *letter;
+    uint8_t high;
+
+    *at += 1;
+    if (*from != '\\')
+        return (uint8_t)*from;
+    *at += 1;
+    if (from[1] == 'x') {
+        high = digit_in(from[2]);
+        *at += 2;
+        return (uint8_t)(high * 16 + digit_in(from[3]));
+    }
+    letter = from[1] == 0 ? NULL : strchr(letters, from[1]);
+    if (letter == NULL)
+        stop("a byte isn't spelled as the document says");
+    return (uint8_t)bytes[letter - letters];
+}
+
+/* How often the text is repeated that starts with `\*N(` here. Moves behind that. */
+static size_t repeats_in(const char **at)
+{
+    char *end;
+    unsigned long n = strtoul(*at + 2, &end, 10);
+
+    if (*end != '(' || n == 0)
+        stop("a repeated text isn't spelled as the document says");
+    *at = end + 1;
+    return (size_t)n;
+}
+
+/* Puts a byte at a place of `out`, where there is one. */
+static void put(uint8_t *out, size_t at, uint8_t byte)
+{
+    if (out != NULL)
+        out[at] = byte;
+}
+
+/* The bytes of a spelling into `out`, or only counted where that is NULL. A repeated text has no other one inside. */
+static size_t spell(const char *column, uint8_t *out)
+{
+    size_t len = 0;
+
+    while (*column != 0) {
+        int repeated = column[0] == '\\' && column[1] == '*';
+        size_t times = repeated ? repeats_in(&column) : 1, from = len, unit, end;
+
+        do {
+            put(out, len++, spelled_byte(&column));
+            if (repeated && *column == 0)
+                stop("a repeated text has no end");
+        } while (repeated && *column != ')');
+        column += repeated;
+        unit = len - from;
+        for (end = from + unit * times; len < end; len++)
+            put(out, len, out == NULL ? 0 : out[len - unit]);
+    }
+    return len;
+}
+
+struct bytes spelled_in(const char *column)
+{
+    struct bytes b;
+
+    b.len = spell(column, NULL);
+    b.at = room(b.len);
+    spell(column, b.at);
+    return b;
+}
+
 void heads_in(const char *column, zt_index *heads, size_t heads_len)
 {
     size_t n = entries_in(column), i;

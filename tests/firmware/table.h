@@ -44,6 +44,9 @@ int16_t *signed_list(const char *column, size_t *count);
 /* Bytes in hexadecimal digits; `empty` and `-` for none. */
 struct bytes bytes_in(const char *column, size_t len);
 
+/* An input in the spelling of docs/DIFFERENCES.md: `\n`, `\r`, `\t`, `\xNN`, and `\*N(..)` for what stands in the brackets, N times. */
+struct bytes spelled_in(const char *column);
+
 /* A store in eight columns from this one on. */
 struct store store_in(char **columns);
 

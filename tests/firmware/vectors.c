@@ -6,6 +6,7 @@
 #include "report.h"
 
 const char *vectors = "tests/vectors";
+const char *differences = "tests/differences";
 
 /* Loads */
 
@@ -56,9 +57,9 @@ static void hold_load(const struct load_vector *v)
     drop_store(&s);
 }
 
-static size_t try_load_table(const char *name)
+static size_t try_load_table(const char *folder, const char *name)
 {
-    struct table t = open_table(vectors, name);
+    struct table t = open_table(folder, name);
     struct load_vector v;
     size_t cases = 0;
 
@@ -72,8 +73,13 @@ static size_t try_load_table(const char *name)
 
 void try_loads(void)
 {
-    group_done("load.tsv", try_load_table("load.tsv"));
-    group_done("room.tsv", try_load_table("room.tsv"));
+    group_done("load.tsv", try_load_table(vectors, "load.tsv"));
+    group_done("room.tsv", try_load_table(vectors, "room.tsv"));
+}
+
+void try_differences(void)
+{
+    group_done("inputs.tsv, the inputs of docs/DIFFERENCES.md", try_load_table(differences, "inputs.tsv"));
 }
 
 /* Stores: each call says 3 of a store that breaks its rules, and of no other */
@@ -410,9 +416,9 @@ static void change_accepted(struct load_vector *v)
     v->after.els[v->after.count - 1]--;
 }
 
-static void change_loads(const char *name)
+static void change_loads(const char *folder, const char *name)
 {
-    struct table t = open_table(vectors, name);
+    struct table t = open_table(folder, name);
     struct load_vector v;
 
     while (next_load(&t, &v)) {
@@ -490,8 +496,9 @@ static void change_exports(void)
 void try_changed_cases(void)
 {
     changed_cases = 0;
-    change_loads("load.tsv");
-    change_loads("room.tsv");
+    change_loads(vectors, "load.tsv");
+    change_loads(vectors, "room.tsv");
+    change_loads(differences, "inputs.tsv");
     change_stores();
     change_evaluations();
     change_exports();

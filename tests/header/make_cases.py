@@ -36,6 +36,7 @@ The files:
     cases.bin       all cases
     falsified.bin   some cases, each with one stored value changed
     cut.bin         a few cases and a last one that isn't whole
+    index.tsv       for each of all cases its source and judge, with the oracle only: see tests/cases/record.py
 
 A case is 27 bytes, numbers with the lowest byte first: what the caller found; the lengths of the lists ids, support order, permids,
 auxids, names (starts, lengths), roots, root names (starts, lengths), two bytes each; the lengths of the file and of the answer, four
@@ -51,6 +52,9 @@ import re
 import subprocess
 import sys
 import tempfile
+
+sys.path.insert(0, os.path.join(os.path.dirname(os.path.abspath(__file__)), "..", "cases"))
+from record import DOCUMENT, RUST, Record  # noqa: E402
 
 VARS, ROOTS, NODES, INPUT = 4096, 1024, 32767, 16777216
 LISTS = ("ids", "order", "permids", "auxids", "names", "lens", "roots", "rootnames", "rootlens")
@@ -349,14 +353,17 @@ def compare(oracle, cases, tally):
     cases = [c for c in cases if c.lent == LENT and not c.found]
     for case, lines in zip(cases, rust_answers(oracle, [c.file for c in cases])):
         number, kind = case.answer.numbers[0], lines[0].split()[0]
+        case.judge = (RUST,)
         if number == 0:
             how = "accepted alike"
             fits = lines == rust_values(case.file, case.answer)
         elif kind in ("panic", "abort"):
             how = "panic or abort in place of a refusal"
+            case.judge = (DOCUMENT, "reserves memory")
             fits = re.search(rb"^\.n\w+[ \t]+0*[1-9][0-9]{7}", case.file, flags=re.M) is not None
         elif number in (18, 19):
             how = "%d, accepted or refused later by the Rust" % number
+            case.judge = (DOCUMENT, "not UTF-8" if number == 18 else "over a limit")
             line = case.answer.numbers[1]
             fits = kind == "ok" or (rust_refusal(lines[0])[1] or 10 ** 9) >= line
         else:
@@ -376,6 +383,7 @@ class Case:
     def __init__(self, file, lent=LENT, found=0):
         self.file, self.lent, self.found = file, tuple(lent), found
         self.answer = loaded(file, lent, found)
+        self.judge = (DOCUMENT, "lent parts")  # of a case that isn't compared with the Rust
 
 
 def of_files(load, folder):
@@ -798,13 +806,14 @@ def main():
                         ("utf8", of_utf8()), ("limits", of_limits()), ("full", of_full(rng)), ("names", of_names()), ("order", of_order())):
         groups.append((name, map(Case, files)))
     groups += [("lent", of_lent(rng)), ("headers", map(Case, of_headers(rng, 900)))]
-    seen, whole_file, false_file, cut_file, rust, counts = set(), [], [], [], {}, {}
+    seen, whole_file, false_file, cut_file, rust, counts, record = set(), [], [], [], {}, {}, Record()
     for name, cases in groups:
         cases = list(unique(cases, seen))
         if oracle != "-":
             compare(oracle, cases, rust.setdefault(name, {}))
         for k, case in enumerate(cases):
             whole_file.append(case_bytes(case, case.answer))
+            record.add(case.answer.numbers[0], name, *case.judge, file=case.file)
             tally = counts.setdefault(name, {})
             tally[case.answer.numbers[0]] = tally.get(case.answer.numbers[0], 0) + 1
             if k % 12 == 4 and len(case.file) < 400:
@@ -814,6 +823,8 @@ def main():
     for name, data in (("cases.bin", b"".join(whole_file)), ("falsified.bin", b"".join(false_file)), ("cut.bin", b"".join(cut_file)[:-1])):
         with open(os.path.join(outdir, name), "wb") as f:
             f.write(data)
+    if oracle != "-":
+        record.write(outdir)
     print("cases", len(whole_file), "falsified", len(false_file), "cut", len(cut_file))
     for name, tally in counts.items():
         print(name, sum(tally.values()), " ".join("%d: %d" % x for x in sorted(tally.items())))

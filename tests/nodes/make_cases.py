@@ -1,18 +1,15 @@
 #!/usr/bin/env python3
 """Makes the stored cases of the program `vectors_nodes`.
 
-    python3 make_cases.py LOAD ROOM FILES OUTDIR [MOST]
+    python3 make_cases.py LOAD ROOM FILES OUTDIR
 
 A case is a file, what a load is lent with it, and what the load gives. LOAD and ROOM have a case a line, columns between tabs, `-` for
-none; FILES is the folder of their files. OUTDIR is the folder to write to. Files over MOST bytes, 12,000 where none is given, are left
-out. The same files and the same script give the same cases, byte for byte.
+none; FILES is the folder of ROOM's files. OUTDIR is the folder to write to. Files over 12,000 bytes are left out. The same files and the
+same script give the same cases, byte for byte.
 
-LOAD: the file; the level count of an empty store; the level list; the number of slots; the refusal, 0 for none; its line; the roots;
+LOAD: the file's path; the level count of an empty store; the level list; the number of slots; the refusal, 0 for none; its line; the roots;
 the store's nodes from number 2 on as `level:then:else`; for up to 8 levels each root's answers, where character k stands for the setting
-in which level l is yes if bit l of k is 1.
-
-The stored cases were made of a LOAD whose files are of two kinds: files of other making, and generated ones, named `rust-..`, each of
-which the Rust answers alike: the same refusal and line, or the same header, roots and nodes in a store.
+in which level l is yes if bit l of k is 1; the source, the judge and the reason. rust_cases.py makes it.
 
 ROOM: the file; a store in eight columns: level count, count, the slot lists level, then, else, next, the number of bucket heads, those
 that aren't 0 as `bucket:head`; the level list; the length of each scratch list; `short` where a variable or root list is too short, else
@@ -26,6 +23,7 @@ The files:
     cases.bin       all cases
     falsified.bin   some cases, each with one stored value changed
     cut.bin         a few cases and a last one that isn't whole
+    index.tsv       for each of all cases its source and judge: see tests/cases/record.py
 
 All numbers are of 16 bits, lowest byte first. A case starts with 20 of them: the store's level count and count; the lengths of its lists
 level, then, else, next and of the bucket heads; the lengths of the level list, of the scratch lists edges and seats, of the variable
@@ -39,7 +37,11 @@ import os
 import random
 import sys
 
+sys.path.insert(0, os.path.join(os.path.dirname(os.path.abspath(__file__)), "..", "cases"))
+from record import DOCUMENT, Record  # noqa: E402
+
 VARS, ROOTS, BUCKETS, NODES = 4096, 1024, 256, 32767
+MOST = 12000  # bytes of a file
 
 
 class Store:
@@ -119,26 +121,26 @@ def case_bytes(case, answer):
     return bytes_of(head) + case.file + given + stored
 
 
-def of_load(name, folder, most):
+def of_load(name):
     with open(name) as f:
         for line in f:
-            file, levels, level_list, slots, refusal, at, roots, nodes, tables = line.rstrip("\n").split("\t")
-            with open(os.path.join(folder, file), "rb") as g:
+            file, levels, level_list, slots, refusal, at, roots, nodes, tables, *judged = line.rstrip("\n").split("\t")
+            with open(file, "rb") as g:
                 data = g.read()
-            if len(data) > most:
+            if len(data) > MOST:
                 continue
             tables = [] if tables == "-" else tables.split(",")
             yield Case(data, empty(int(levels), int(slots)), numbers(level_list), NODES, NODES), \
-                Answer(int(refusal), int(at), numbers(roots), pairs(nodes), tables)
+                Answer(int(refusal), int(at), numbers(roots), pairs(nodes), tables), judged
 
 
-def of_room(name, folder, most):
+def of_room(name, folder):
     with open(name) as f:
         for k, line in enumerate(f):
             x = line.rstrip("\n").split("\t")
             with open(os.path.join(folder, x[0]), "rb") as g:
                 data = g.read()
-            if len(data) > most:
+            if len(data) > MOST:
                 continue
             heads = [0] * int(x[7])
             for b, head in pairs(x[8]):
@@ -154,7 +156,7 @@ def of_room(name, folder, most):
                 nexts, heads = linked(answer.nodes, len(lists[3]))
                 if nexts != lists[3] or pairs(x[20]) != [[b, h] for b, h in enumerate(heads) if h]:
                     sys.exit("%s: links or heads differ" % x[0])
-            yield Case(data, store, numbers(x[9]), scratch, scratch, variables, roots), answer
+            yield Case(data, store, numbers(x[9]), scratch, scratch, variables, roots), answer, ("vectors/" + x[0] + " room", DOCUMENT, "lent parts")
 
 
 def falsified(rng, answer):
@@ -190,14 +192,14 @@ def falsified(rng, answer):
 
 
 def main():
-    load, room, folder, outdir = sys.argv[1:5]
-    most = int(sys.argv[5]) if len(sys.argv) > 5 else 12000
+    load, room, folder, outdir = sys.argv[1:]
     rng = random.Random(20261115)
-    whole_file, false_file, cut_file = [], [], []
-    for name, cases in (("load", of_load(load, folder, most)), ("room", of_room(room, folder, most))):
+    whole_file, false_file, cut_file, record = [], [], [], Record()
+    for name, cases in (("load", of_load(load)), ("room", of_room(room, folder))):
         tally = {}
-        for k, (case, answer) in enumerate(cases):
+        for k, (case, answer, judged) in enumerate(cases):
             whole_file.append(case_bytes(case, answer))
+            record.add(answer.refusal, *judged, file=case.file)
             tally[answer.refusal] = tally.get(answer.refusal, 0) + 1
             if answer.refusal == 0 or k % 6 == 4:
                 false_file.append(case_bytes(case, falsified(rng, answer)))
@@ -206,6 +208,7 @@ def main():
     for name, data in (("cases.bin", b"".join(whole_file)), ("falsified.bin", b"".join(false_file)), ("cut.bin", b"".join(cut_file)[:-1])):
         with open(os.path.join(outdir, name), "wb") as f:
             f.write(data)
+    record.write(outdir)
     print("cases", len(whole_file), "falsified", len(false_file), "cut", len(cut_file))
 
 

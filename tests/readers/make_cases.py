@@ -33,6 +33,7 @@ The files:
     cases.bin       all cases
     falsified.bin   some of each kind, each with an answer that is changed: in one byte, or by a byte more or less at its end
     cut.bin         a few cases and a last one that isn't whole
+    index.tsv       for each of all cases its source and judge: see tests/cases/record.py
 
 A case is a byte, its kind, then five numbers of 32 bits, lowest byte first: two arguments, the room of the lent list, the length of
 the input, the length of the answer; then the input and the answer. An answer is a byte, the refusal or 0, then numbers of 64 bits,
@@ -46,6 +47,9 @@ import re
 import subprocess
 import sys
 import tempfile
+
+sys.path.insert(0, os.path.join(os.path.dirname(os.path.abspath(__file__)), "..", "cases"))
+from record import DOCUMENT, RUST, Record  # noqa: E402
 
 FILL = 0x5A5A5A5A
 BLANKS = b" \t"
@@ -929,6 +933,12 @@ def ask(oracle, cases):
     return len(questions)
 
 
+def judge(c):
+    """18, 19 and 38 are document 01's own even where a file shows what else the Rust reads."""
+    added = {18: "not UTF-8", 19: "over a limit", 38: "over 64 bits"}.get(c.answer[0])
+    return (DOCUMENT, added) if added else (RUST,) if c.seen else (DOCUMENT, "no file shows it")
+
+
 # The files ---------------------------------------------------------------------------------------------------------------------
 
 
@@ -972,6 +982,10 @@ def main():
         with open(os.path.join(folder, name), "wb") as f:
             f.write(data)
         print("%s: %d bytes" % (name, len(data)))
+    record = Record()
+    for c in cases:
+        record.add(c.answer[0], c.kind, *judge(c))
+    record.write(folder)
     for kind in KINDS[1:]:
         those = [c for c in cases if c.kind == kind]
         print("%-18s %5d cases, %5d from the Rust, refusals %s" % (kind, len(those), sum(c.seen for c in those),

@@ -27,6 +27,7 @@ The files:
     cases.bin       all cases
     falsified.bin   some of each kind, each with another answer than it has
     cut.bin         a few cases and a last one that isn't whole
+    index.tsv       for each of all cases its source and judge: see tests/cases/record.py
 
 The program keeps the lists from one case to the next in one list of 131,500 numbers of 16 bits: 32,800 each for level, then, else and
 next, and 300 heads; all are 0 before the first case. A case is 23 bytes, numbers of 16 bits with the lowest byte first: its kind (1
@@ -38,6 +39,9 @@ import itertools
 import os
 import random
 import sys
+
+sys.path.insert(0, os.path.join(os.path.dirname(os.path.abspath(__file__)), "..", "cases"))
+from record import DOCUMENT, Record  # noqa: E402
 
 NODE_LIMIT, LEVEL_LIMIT, BUCKETS = 32767, 4096, 256
 SLOTS, HEADS = 32800, 300
@@ -545,12 +549,13 @@ def runs(old, new):
 def main():
     stores, evaluate, folder = sys.argv[1:]
     rng = random.Random(20260131)
-    whole, false, cut = File(), File(), File()
+    whole, false, cut, record = File(), File(), File(), Record()
     tallies = {}
     for name, cases in (("listed", listed(stores, evaluate)), ("rules", of_rules(rng)), ("tables", of_tables(rng)),
                         ("refusals", of_refusals(rng)), ("many", of_many(rng))):
         for k, case in enumerate(cases):
             whole.add(case)
+            record.add(case.answer[0], name + {1: ", rules", 2: ", evaluation"}[case.kind], DOCUMENT, "store")
             tally = tallies.setdefault((name, case.kind), {})
             tally[case.answer] = tally.get(case.answer, 0) + 1
             if name != "many" and k % 17 == 0:
@@ -560,6 +565,7 @@ def main():
     whole.write(os.path.join(folder, "cases.bin"))
     false.write(os.path.join(folder, "falsified.bin"))
     cut.write(os.path.join(folder, "cut.bin"), cut=1)
+    record.write(folder)
     print("cases", whole.cases, "falsified", false.cases, "cut", cut.cases)
     for (name, kind), tally in tallies.items():
         print(name, {1: "rules", 2: "evaluation"}[kind], " ".join("%d/%d: %d" % (*a, n) for a, n in sorted(tally.items())))

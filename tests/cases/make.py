@@ -1,0 +1,256 @@
+#!/usr/bin/env python3
+"""Makes all stored cases of the programs `vectors_*` again, with the Rust.
+
+    python3 tests/cases/make.py ORACLE [install]
+
+ORACLE is the oracle's folder: the published Rust over plain managers, with gen.py, which makes files, and model.py, a second reading of
+document 01. It is copied to build/oracle and compiled there; cargo is needed for it, and no network. Everything else is made in
+build/cases. The same oracle and the same scripts give the same bytes.
+
+At its end the script prints the table of coverage, and says of every file of stored cases, of each program's expected output, of INDEX.tsv
+and of COVERAGE.md whether what stands in the repository is what was made. With `install` it puts there what was made. Without it, it ends
+with status 1 where something differs.
+
+INDEX.tsv says of each stored case which judge it has: the program, the cases by number, from 0, as `first-last` where several follow one
+another, their source, the judge and the reason. record.py lists the reasons. COVERAGE.md counts what the cases have.
+"""
+import itertools
+import os
+import re
+import subprocess
+import sys
+import time
+
+HERE = os.path.dirname(os.path.abspath(__file__))
+ROOT = os.path.dirname(os.path.dirname(HERE))
+sys.path.insert(0, HERE)
+import oracle  # noqa: E402
+from record import DOCUMENT, KEYS, REASONS, RUST  # noqa: E402
+
+RUST_FOLDER, OUT = "build/oracle", "build/cases"
+PROGRAMS = ("readers", "header", "nodes", "store", "export")
+DATA = ("cases.bin", "falsified.bin", "cut.bin")
+# The generated files: folder, and the words for gen.py (seed, rounds).
+GENERATED = {"short": ("7", "1", "--short"), "seed7": ("7", "100")}
+LOAD, ROOM, STORES, EVALUATE, EXPORT = ("tests/vectors/%s.tsv" % x for x in ("load", "room", "stores", "evaluate", "export"))
+FILES = "tests/vectors/files"
+
+
+def run(script, *words, output=None):
+    """Runs a script of this repository, or of the oracle's copy, and gives what it writes. Stops where it fails."""
+    print("  " + " ".join((script,) + words), flush=True)
+    written = subprocess.run([sys.executable, script, *words], stdout=subprocess.PIPE, check=True, encoding="utf-8").stdout
+    if output:
+        with open(output, "w", encoding="utf-8") as f:
+            f.write(written)
+    return written
+
+
+def folder(name):
+    path = os.path.join(OUT, name)
+    os.makedirs(path, exist_ok=True)
+    return path
+
+
+def generate():
+    for name, words in GENERATED.items():
+        path = folder(name)
+        for old in os.listdir(path):
+            os.unlink(os.path.join(path, old))
+        run(RUST_FOLDER + "/gen.py", path, *words)
+
+
+def falsified(report):
+    """How many falsified cases a script says that it made."""
+    found = re.search(r"; (\d+) falsified|falsified (\d+)", report)
+    return int(found.group(1) or found.group(2))
+
+
+def make():
+    """Makes the files of stored cases. Gives how many falsified ones each program has."""
+    loads, program = os.path.join(OUT, "load.tsv"), oracle.program(RUST_FOLDER)
+    made = {"readers": run("tests/readers/make_cases.py", program, folder("readers")),
+            "header": run("tests/header/make_cases.py", LOAD, FILES, program, folder("header"))}
+    run("tests/nodes/rust_cases.py", RUST_FOLDER, LOAD, FILES, *(folder(x) for x in GENERATED), output=loads)
+    made["nodes"] = run("tests/nodes/make_cases.py", loads, ROOM, FILES, folder("nodes"))
+    made["store"] = run("tests/store/make_cases.py", STORES, EVALUATE, folder("store"))
+    lists = folder("export") + "/stored.tsv", folder("export") + "/generated.tsv"
+    run("tests/export/rust_cases.py", RUST_FOLDER, folder("seed7"), LOAD, FILES, EXPORT, folder("export"))
+    made["export"] = run("tests/export/make_cases.py", folder("export"), *lists, "tests/export/differences.tsv")
+    return {name: falsified(report) for name, report in made.items()}
+
+
+# What is known of the cases ----------------------------------------------------------------------------------------------------
+
+
+class Known:
+    """A line of index.tsv."""
+
+    def __init__(self, program, line):
+        self.program = program
+        self.refusal, self.source, self.judge, self.reason, keys, self.mode, self.version, self.names = line.rstrip("\n").split("\t")
+        self.keys = [] if keys == "-" else keys.split(",")
+        self.has_file = self.mode != "-"
+        self.kind = self.source.split(" ", 1)[1] if re.match("(short|seed7|vectors)/", self.source) and " " in self.source else self.source
+
+
+def known():
+    cases = []
+    for program in PROGRAMS:
+        with open(os.path.join(OUT, program, "index.tsv"), encoding="utf-8") as f:
+            cases += [Known(program, line) for line in f]
+    return cases
+
+
+def index_text(cases):
+    lines = ["program\tcases\tsource\tjudge\treason"]
+    for program, those in itertools.groupby(cases, key=lambda c: c.program):
+        numbered = enumerate(those)
+        for what, group in itertools.groupby(numbered, key=lambda x: (x[1].source, x[1].judge, x[1].reason)):
+            numbers = [n for n, _ in group]
+            span = "%d" % numbers[0] if len(numbers) == 1 else "%d-%d" % (numbers[0], numbers[-1])
+            lines.append("\t".join((program, span) + what))
+    return "".join(line + "\n" for line in lines)
+
+
+# The table of coverage ---------------------------------------------------------------------------------------------------------
+
+
+def table(title, first, cases, values):
+    """How many cases have each value, by program. `values` gives the values that a case has, as (place, name) where their order isn't that
+    of the letters."""
+    counts = {}
+    for c in cases:
+        for v in values(c):
+            counts.setdefault(v if isinstance(v, tuple) else (0, v), dict.fromkeys(PROGRAMS, 0))[c.program] += 1
+    programs = [p for p in PROGRAMS if any(counts[v][p] for v in counts)]
+    several = len(programs) > 1
+    lines = ["", "## " + title, "", row([first] + programs + ["all"] * several), "|---" * (1 + len(programs) + several) + "|"]
+    for v in sorted(counts):
+        numbers = [counts[v][p] for p in programs]
+        lines.append(row([v[1]] + ["{:,}".format(n) if n else "" for n in numbers + [sum(numbers)] * several]))
+    return lines
+
+
+def row(cells):
+    return "| %s |" % " | ".join(cells)
+
+
+def by_number(kind):
+    """Kinds that end in a number come in its order."""
+    number = re.search(r"\d+$", kind)
+    return int(number.group()) if number else 0, kind
+
+
+FORMS = {"none": "none of the three", "v": "`.varnames`", "o": "`.orderedvarnames`", "s": "`.suppvarnames`", "vo": "`.varnames`, `.orderedvarnames`",
+         "vs": "`.varnames`, `.suppvarnames`", "os": "`.orderedvarnames`, `.suppvarnames`", "vos": "all three"}
+
+
+def coverage_text(cases):
+    order = list(FORMS)
+    with_file = [c for c in cases if c.has_file]
+    lines = ["# What the stored cases cover", "",
+             "Made by `make cases ORACLE=DIR`; see `tests/README.md`. A number is how many cases of a program have what the line says.",
+             "", "A case is judged by the Rust where the Rust gave the answer that is stored (for an export that is refused: an error), else by",
+             "document 01 alone, with a reason."]
+    lines += table("Judges", "judge", cases, lambda c: [c.judge])
+    lines += table("Cases that document 01 judges alone, by reason", "reason", (c for c in cases if c.judge == DOCUMENT), lambda c: [c.reason])
+    used = {c.reason for c in cases}
+    lines += ["", "What the reasons are; letters with a number are entries of `docs/DIFFERENCES.md`:", ""]
+    lines += ["- %s: %s" % x for x in sorted(REASONS.items()) if x[0] in used]
+    lines += table("Accepted and refused", "answer", cases, lambda c: ["accepted" if c.refusal == "0" else "refused"])
+    lines += table("Answers", "refusal, 0 for none", cases, lambda c: [(int(c.refusal), c.refusal)])
+    lines += table("Answers that the Rust gave too", "refusal, 0 for none", (c for c in cases if c.judge == RUST), lambda c: [(int(c.refusal), c.refusal)])
+    lines += ["", "The following counts are of the cases that have a file: those of `header` and `nodes`, and of `export` those that are written."]
+    lines += table("Keys", "key", with_file, lambda c: [(KEYS.index(k), "`%s`" % k) for k in c.keys])
+    lines += table("Mode", "`.mode`", with_file, lambda c: [c.mode])
+    lines += table("Version", "`.ver`", with_file, lambda c: [c.version])
+    lines += table("Lists of variable names", "not empty", with_file, lambda c: [(order.index(c.names), FORMS[c.names])])
+    lines += ["", "The kinds of files in `nodes`: `vectors` and `room` are those of `tests/vectors`; of the generated ones `whole` was made to be",
+              "read, `made to meet N` to meet that refusal, `made` for a place between, `damaged` at random in the way that is named, and `short`",
+              "has every short text of a small alphabet in that place."]
+    lines += table("Kinds of loads", "kind", (c for c in cases if c.program == "nodes"), lambda c: [by_number(c.kind)])
+    lines += table("Kinds of headers", "kind", (c for c in cases if c.program == "header"), lambda c: [c.kind])
+    lines += table("Kinds of stores", "kind", (c for c in cases if c.program == "store"), lambda c: [c.kind])
+    lines += table("Readers", "reader", (c for c in cases if c.program == "readers"), lambda c: [c.kind])
+    return "".join(line + "\n" for line in lines)
+
+
+# What was made, and what stands in the repository ------------------------------------------------------------------------------
+
+
+def expected_output(program, count, false):
+    """The program's expected output with these numbers of cases."""
+    with open("crates/vectors_%s/stdout" % program, encoding="ascii") as f:
+        lines = f.read().split("\n")
+    lines[0] = "cases.bin: %d cases, 0 differ" % count
+    lines[1] = "falsified.bin: %d cases, %d differ" % (false, false)
+    return "\n".join(lines)
+
+
+def placed(cases, false):
+    """Where each file belongs, and what was made for it."""
+    files = {}
+    for program in PROGRAMS:
+        for name in DATA:
+            with open(os.path.join(OUT, program, name), "rb") as f:
+                files["crates/vectors_%s/data/%s" % (program, name)] = f.read()
+        count = sum(c.program == program for c in cases)
+        files["crates/vectors_%s/stdout" % program] = expected_output(program, count, false[program]).encode()
+    files["tests/cases/INDEX.tsv"] = index_text(cases).encode()
+    files["tests/cases/COVERAGE.md"] = coverage_text(cases).encode()
+    return files
+
+
+def content(path):
+    try:
+        with open(path, "rb") as f:
+            return f.read()
+    except FileNotFoundError:
+        return None
+
+
+def install(files):
+    for path, data in files.items():
+        with open(path, "wb") as f:
+            f.write(data)
+
+
+def totals(cases):
+    for program in PROGRAMS:
+        those = [c for c in cases if c.program == program]
+        print("%-8s %6d cases, %6d judged by the Rust, %6d by document 01 alone; %6d accepted, %6d refused" % (
+            program, len(those), sum(c.judge == RUST for c in those), sum(c.judge == DOCUMENT for c in those),
+            sum(c.refusal == "0" for c in those), sum(c.refusal != "0" for c in those)))
+    print("%-8s %6d cases, %6d judged by the Rust" % ("all", len(cases), sum(c.judge == RUST for c in cases)))
+
+
+def report(cases, files, same):
+    print("\n" + files["tests/cases/COVERAGE.md"].decode())
+    for path, is_same in same.items():
+        print("%s: %s, %d bytes" % (path, "as it stands in the repository" if is_same else "ANOTHER ONE stands in the repository", len(files[path])))
+    totals(cases)
+
+
+def main():
+    if len(sys.argv) not in (2, 3) or sys.argv[2:] not in ([], ["install"]):
+        sys.exit("usage: make.py ORACLE [install]")
+    started, source = time.monotonic(), os.path.abspath(sys.argv[1])
+    os.chdir(ROOT)
+    print("the Rust is compiled in %s" % RUST_FOLDER, flush=True)
+    oracle.build(source, RUST_FOLDER)
+    generate()
+    false = make()
+    cases = known()
+    files = placed(cases, false)
+    same = {path: content(path) == data for path, data in files.items()}
+    report(cases, files, same)
+    print("%.0f seconds" % (time.monotonic() - started))
+    if sys.argv[2:]:
+        install(files)
+        print("put in place")
+    elif not all(same.values()):
+        sys.exit("%d of %d files differ" % (sum(not x for x in same.values()), len(same)))
+
+
+main()

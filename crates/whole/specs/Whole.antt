@@ -80,7 +80,23 @@ wholeFault f t =
     (numberFaults (nvarsIn f t) (nnodesIn f t) (nsuppvarsIn f t)
     ++ (supportFaults f t ++ (nameCountFaults f t ++ (nameFaults f t ++ rootFaults f t))))
 
--- what the check of names leans on: as many ids and permids as support variables
+-- What checks lean on: the numbers pass,
+abbrev pub NumbersPass : List ℕ → List Span → Type 0
+NumbersPass f t = firstFault (numberFaults (nvarsIn f t) (nnodesIn f t) (nsuppvarsIn f t)) ≡ 0
+
+-- there are as many ids and permids as support variables,
 pub record Supported (f : List ℕ) (t : List Span) : Type 0 where
   pub ids-counted : length (u32sIn f t Ids) ≡ nsuppvarsIn f t
   pub permids-counted : length (u32sIn f t Permids) ≡ nsuppvarsIn f t
+
+-- these ids and permids were read,
+pub record Listed (f : List ℕ) (t : List Span) (ids permids : List ℕ) : Type 0 where
+  pub ids-are : ids ≡ u32sIn f t Ids
+  pub permids-are : permids ≡ u32sIn f t Permids
+  pub counted : Supported f t
+
+-- and the names of each list were counted
+pub record NameCounts (f : List ℕ) (t : List Span) (ordered supp varnames : ℕ) : Type 0 where
+  pub ordered-count : ordered ≡ length (orderedvarnamesIn f t)
+  pub supp-count : supp ≡ length (suppvarnamesIn f t)
+  pub varnames-count : varnames ≡ length (varnamesIn f t)

@@ -5,13 +5,14 @@ ghost use lib.ListN.{length};
 ghost use Rattle.codes.specs.Lent.{laid};
 ghost use Rattle.codes.specs.Limits.{varLimit};
 ghost use Rattle.fields.specs.Sweep.{Table};
-ghost use Rattle.whole.specs.Names.{upFrom, agree};
+ghost use Rattle.checks.specs.Names.{sameNames, chosen};
+ghost use Rattle.whole.specs.Names.{upFrom, agree, suppvarnamesIn};
 ghost use Rattle.values.specs.Values.{spans, Known, namesIn};
 use codes::limits;
 use fields::keys::Key;
 
 // The numbers 0, 1, .., `n` of them, over the front of a list.
-pub fn count_up(n: usize, dst: &mut [u32])
+fn count_up(n: usize, dst: &mut [u32])
     requires { ⌜ n ≤ varLimit ⌝ }
     ensures { λ _. ⌜ now (dst .exit) ≡ laid (upFrom n 0) (now (dst .entry)) ⌝ }
 {
@@ -22,8 +23,8 @@ pub fn count_up(n: usize, dst: &mut [u32])
     }
 }
 
-// Whether two lists of names, each taken at the positions of its index, agree. One that isn't given says nothing.
-pub fn agree(
+// Whether two lists of names that are given, each taken at the positions of its index, are alike.
+fn alike(
     f: &[u8],
     starts: &[u32],
     ends: &[u32],
@@ -34,36 +35,15 @@ pub fn agree(
 ) -> bool
     requires { ⌜ Table (now f) (now starts) (now ends) × Known key × Known key2 ⌝ }
     requires { ⌜ length (now index2) ≡ length (now index) ⌝ }
-    ensures { λ r. ⌜ r ≡ agree (now (f .entry)) (namesIn varLimit (now (f .entry)) (spans (now (starts .entry)) (now (ends .entry))) key) (now (index .entry)) (namesIn varLimit (now (f .entry)) (spans (now (starts .entry)) (now (ends .entry))) key2) (now (index2 .entry)) ⌝ }
+    ensures { λ r. ⌜ r ≡ sameNames (now (f .entry)) (chosen (now (index .entry)) (namesIn varLimit (now (f .entry)) (spans (now (starts .entry)) (now (ends .entry))) key)) (chosen (now (index2 .entry)) (namesIn varLimit (now (f .entry)) (spans (now (starts .entry)) (now (ends .entry))) key2)) ⌝ }
 {
+    let max = limits::VAR_LIMIT;
     let mut names = [0u32; limits::VAR_LIMIT];
     let mut lens = [0u32; limits::VAR_LIMIT];
-    let n = values::names_in(
-        f,
-        starts,
-        ends,
-        key,
-        limits::VAR_LIMIT,
-        &mut names,
-        &mut lens,
-    );
-    if n == 0 {
-        return true;
-    }
+    let n = values::read_names(f, starts, ends, key, max, &mut names, &mut lens);
     let mut names2 = [0u32; limits::VAR_LIMIT];
     let mut lens2 = [0u32; limits::VAR_LIMIT];
-    let m = values::names_in(
-        f,
-        starts,
-        ends,
-        key2,
-        limits::VAR_LIMIT,
-        &mut names2,
-        &mut lens2,
-    );
-    if m == 0 {
-        return true;
-    }
+    let m = values::read_names(f, starts, ends, key2, max, &mut names2, &mut lens2);
     checks::names::same_names(
         f,
         index,
@@ -73,4 +53,61 @@ pub fn agree(
         &names2[..m],
         &lens2[..m],
     )
+}
+
+// Whether two lists of `n` and of `m` names, each taken at the positions of its index, agree. One that isn't given says nothing, and
+// then nothing is read.
+pub fn agree(
+    f: &[u8],
+    starts: &[u32],
+    ends: &[u32],
+    key: Key,
+    n: usize,
+    index: &[u32],
+    key2: Key,
+    m: usize,
+    index2: &[u32],
+) -> bool
+    requires { ⌜ Table (now f) (now starts) (now ends) × Known key × Known key2 ⌝ }
+    requires { ⌜ n ≡ length (namesIn varLimit (now f) (spans (now starts) (now ends)) key) ⌝ }
+    requires { ⌜ m ≡ length (namesIn varLimit (now f) (spans (now starts) (now ends)) key2) ⌝ }
+    requires { ⌜ length (now index2) ≡ length (now index) ⌝ }
+    ensures { λ r. ⌜ r ≡ agree (now (f .entry)) (namesIn varLimit (now (f .entry)) (spans (now (starts .entry)) (now (ends .entry))) key) (now (index .entry)) (namesIn varLimit (now (f .entry)) (spans (now (starts .entry)) (now (ends .entry))) key2) (now (index2 .entry)) ⌝ }
+{
+    if n == 0 {
+        return true;
+    }
+    if m == 0 {
+        return true;
+    }
+    alike(f, starts, ends, key, index, key2, index2)
+}
+
+// Whether `.suppvarnames` of `m` names, in their order, and a list of `n` names, taken at the positions of its index, agree.
+pub fn supp_agrees(
+    f: &[u8],
+    starts: &[u32],
+    ends: &[u32],
+    key: Key,
+    n: usize,
+    index: &[u32],
+    m: usize,
+) -> bool
+    requires { ⌜ Table (now f) (now starts) (now ends) × Known key ⌝ }
+    requires { ⌜ n ≡ length (namesIn varLimit (now f) (spans (now starts) (now ends)) key) ⌝ }
+    requires { ⌜ m ≡ length (suppvarnamesIn (now f) (spans (now starts) (now ends))) ⌝ }
+    requires { ⌜ length (now index) ≤ varLimit ⌝ }
+    ensures { λ r. ⌜ r ≡ agree (now (f .entry)) (namesIn varLimit (now (f .entry)) (spans (now (starts .entry)) (now (ends .entry))) key) (now (index .entry)) (suppvarnamesIn (now (f .entry)) (spans (now (starts .entry)) (now (ends .entry)))) (upFrom (length (now (index .entry))) 0) ⌝ }
+{
+    if n == 0 {
+        return true;
+    }
+    if m == 0 {
+        return true;
+    }
+    let supp = Key::Suppvarnames;
+    let count = index.len();
+    let mut order = [0u32; limits::VAR_LIMIT];
+    count_up(count, &mut order);
+    alike(f, starts, ends, key, index, supp, &order[..count])
 }

@@ -28,9 +28,9 @@ pub fn fill_order(f: &[u8], starts: &[u32], ends: &[u32], dst: &mut [u32])
 {
     let nvars = values::u32_in(f, starts, ends, Key::Nvars);
     let mut ids = [0u32; VAR_LIMIT];
-    let n = values::u32s_in(f, starts, ends, Key::Ids, &mut ids);
+    let n = values::read_u32s(f, starts, ends, Key::Ids, &mut ids);
     let mut permids = [0u32; VAR_LIMIT];
-    let m = values::u32s_in(f, starts, ends, Key::Permids, &mut permids);
+    let m = values::read_u32s(f, starts, ends, Key::Permids, &mut permids);
     values::clear(dst);
     checks::support::arrange(&ids[..n], &permids[..m], nvars, dst);
 }
@@ -42,9 +42,9 @@ fn ordered_in(f: &[u8], starts: &[u32], ends: &[u32], dst: &mut [u32])
 {
     let nvars = values::u32_in(f, starts, ends, Key::Nvars);
     let mut ids = [0u32; VAR_LIMIT];
-    let n = values::u32s_in(f, starts, ends, Key::Ids, &mut ids);
+    let n = values::read_u32s(f, starts, ends, Key::Ids, &mut ids);
     let mut permids = [0u32; VAR_LIMIT];
-    let m = values::u32s_in(f, starts, ends, Key::Permids, &mut permids);
+    let m = values::read_u32s(f, starts, ends, Key::Permids, &mut permids);
     checks::names::ordered_seats(&ids[..n], &permids[..m], nvars, dst);
 }
 
@@ -55,7 +55,7 @@ fn supp_in(f: &[u8], starts: &[u32], ends: &[u32], dst: &mut [u32])
 {
     let nvars = values::u32_in(f, starts, ends, Key::Nvars);
     let mut ids = [0u32; VAR_LIMIT];
-    let n = values::u32s_in(f, starts, ends, Key::Ids, &mut ids);
+    let n = values::read_u32s(f, starts, ends, Key::Ids, &mut ids);
     checks::names::supp_seats(&ids[..n], nvars, dst);
 }
 
@@ -75,7 +75,7 @@ fn gather_names(
 {
     let mut from = [0u32; VAR_LIMIT];
     let mut from_lens = [0u32; VAR_LIMIT];
-    let n = values::names_in(f, starts, ends, key, VAR_LIMIT, &mut from, &mut from_lens);
+    let n = values::read_names(f, starts, ends, key, VAR_LIMIT, &mut from, &mut from_lens);
     checks::names::gather(seats, &from[..n], names);
     checks::names::gather(seats, &from_lens[..n], lens);
 }
@@ -90,8 +90,8 @@ pub fn fill_names(f: &[u8], starts: &[u32], ends: &[u32], names: &mut [u32], len
         return;
     }
     let nvars = values::u32_in(f, starts, ends, Key::Nvars) as usize;
-    let mut seats = [0u32; VAR_LIMIT];
     if values::count_names(f, starts, ends, Key::Orderedvarnames, VAR_LIMIT) != 0 {
+        let mut seats = [0u32; VAR_LIMIT];
         ordered_in(f, starts, ends, &mut seats);
         gather_names(
             f,
@@ -105,6 +105,7 @@ pub fn fill_names(f: &[u8], starts: &[u32], ends: &[u32], names: &mut [u32], len
         return;
     }
     if values::count_names(f, starts, ends, Key::Suppvarnames, VAR_LIMIT) != 0 {
+        let mut seats = [0u32; VAR_LIMIT];
         supp_in(f, starts, ends, &mut seats);
         gather_names(
             f,

@@ -1,37 +1,79 @@
 -- Laws of the checks that the lists of names agree about the support variables.
 use mathlib.Core.Path.{_≡_, refl, sym, _∙_}
 use mathlib.Core.Bool.{Bool, true, false, not}
-use mathlib.Core.List.{List}
+use mathlib.Core.List.{List, map}
 use Prim.Native.Nat.{ℕ, _≤_}
 use native.Mathlib.Omega.{arith}
-use lib.ListN.{length, take}
+use lib.ListN.{length, take, replicate, length-map}
 use borrow.Author.Tests.{eq-eqb, ne-eqb, not-true, not-false}
 use Rattle.codes.specs.Limits.{varLimit}
-use Rattle.readers.specs.Text.{Place}
+use Rattle.readers.specs.Text.{Place, startOf, lenOf}
 use Rattle.fields.specs.Sweep.{Span}
 use Rattle.fields.specs.declared.keys.Key.{Key}
 use Rattle.fields.specs.declared.keys.Key.the-variants.{Ids, Permids}
 use Rattle.checks.specs.Names.{places, sameNames, chosen}
 use Rattle.checks.proofs.Placed.{places-parts}
 use Rattle.values.specs.Values.{pad, namesIn}
-use Rattle.values.proofs.Counted.{u32s-most}
+use Rattle.values.proofs.Counted.{u32s-most, names-most}
 use Rattle.values.proofs.Fronts.{front-fits, front-is, front-long}
-use Rattle.values.proofs.Fronts.{HasNames, starts-are, lens-are, starts-long, lens-long}
 use Rattle.whole.specs.Names.{upFrom, agree, varnamesIn, orderedvarnamesIn, suppvarnamesIn, varnamesAgree, suppByVarnames, suppByOrdered}
-use Rattle.whole.specs.Whole.{firstFault, nameFaults, Listed}
+use Rattle.whole.specs.Whole.{firstFault, nameFaults, NameRoom, Listed}
 use Rattle.whole.proofs.FirstFault.{refuses, passes, last-check}
 use Rattle.whole.proofs.Refusals.{unless-holds, unless-fails}
+use Rattle.whole.proofs.Supporting.{room-in}
 use Rattle.whole.proofs.Upward.{length-up}
 
--- names that were read into two lent lists
-module _ (f : List ℕ) (t : List Span) (k : Key) {n : ℕ} {starts lens : List ℕ} (h : HasNames f t k n starts lens) where
-  -- there are as many lengths as starts
+-- names that were read into two lists with room for them
+module _ (f : List ℕ) (t : List Span) (k : Key) {a b : List ℕ} (r : NameRoom f t k a b) {n : ℕ} {starts lens : List ℕ}
+    (h : (n ≡ length (namesIn varLimit f t k))
+    × ((starts ≡ pad (length a) (map startOf (namesIn varLimit f t k)))
+    × (lens ≡ pad (length b) (map lenOf (namesIn varLimit f t k))))) where
+  -- as many parts as names
+  parts-count : (part : Place → ℕ) → n ≡ length (map part (namesIn varLimit f t k))
+  parts-count part = rw length-map (h .0)
+
+  -- the starts have room
+  few-starts : length (map startOf (namesIn varLimit f t k)) ≤ length a
+  few-starts = rw length-map (r .starts-room .enough)
+
+  -- the lengths do
+  few-lens : length (map lenOf (namesIn varLimit f t k)) ≤ length b
+  few-lens = rw length-map (r .lens-room .enough)
+
+  -- the list of starts reaches as far as the names
+  pub starts-fit : n ≤ length starts
+  starts-fit = front-fits (length a) _ few-starts (parts-count startOf) (h .1 .0)
+
+  -- the list of lengths does
+  pub lens-fit : n ≤ length lens
+  lens-fit = front-fits (length b) _ few-lens (parts-count lenOf) (h .1 .1)
+
+  -- the front of the starts has as many entries
+  pub starts-long : n ≡ length (take n starts)
+  starts-long = front-long (length a) _ few-starts (parts-count startOf) (h .1 .0)
+
+  -- the front of the lengths has
+  pub lens-long : n ≡ length (take n lens)
+  lens-long = front-long (length b) _ few-lens (parts-count lenOf) (h .1 .1)
+
+  -- so there are as many lengths as starts
   pub same-long : length (take n lens) ≡ length (take n starts)
-  same-long = sym (lens-long f t k h) ∙ starts-long f t k h
+  same-long = sym lens-long ∙ starts-long
 
   -- together they are the names
   pub names-are : places (take n starts) (take n lens) ≡ namesIn varLimit f t k
-  names-are = rw (starts-are f t k h, lens-are f t k h) (places-parts (namesIn varLimit f t k))
+  names-are =
+      rw (front-is (length a) _ few-starts (parts-count startOf) (h .1 .0), front-is (length b) _ few-lens (parts-count lenOf) (h .1 .1))
+      (places-parts (namesIn varLimit f t k))
+
+-- local lists have room for as many names as they have entries
+pub names-room : (f : List ℕ) (t : List Span) (k : Key) {n : ℕ} (m : ℕ) → n ≡ length (namesIn varLimit f t k) → n ≤ m
+    → NameRoom f t k (replicate m 0) (replicate m 0)
+names-room f t k m e h = record { starts-room = room-in m e h; lens-room = room-in m e h }
+
+-- there are few names
+pub few-names : (f : List ℕ) (t : List Span) (k : Key) {n : ℕ} → n ≡ length (namesIn varLimit f t k) → n ≤ varLimit
+few-names f t k e = rw e (names-most f t varLimit k)
 
 module _ (f : List ℕ) (ps : List Place) (is : List ℕ) (qs : List Place) (js : List ℕ) where
   module _ {n : ℕ} (p : n ≡ length ps) where
@@ -57,22 +99,22 @@ pub chosen-alike : (f : List ℕ) {ps ps′ qs qs′ : List Place} {js js′ : L
 chosen-alike f is a j b e = rw (a, j, b) at e
 
 -- the numbers 0, 1, .., n of them, were laid over the front of a list of zeros
-module _ (n : ℕ) (few : n ≤ varLimit) {order : List ℕ} (l : order ≡ pad varLimit (upFrom n 0)) where
+module _ (m n : ℕ) (few : n ≤ m) {order : List ℕ} (l : order ≡ pad m (upFrom n 0)) where
   -- they are as few
-  few-order : length (upFrom n 0) ≤ varLimit
+  few-order : length (upFrom n 0) ≤ m
   few-order = omega (arith, length-up n 0)
 
   -- the list reaches as far as they
   pub order-fits : n ≤ length order
-  order-fits = front-fits varLimit (upFrom n 0) few-order (sym (length-up n 0)) l
+  order-fits = front-fits m (upFrom n 0) few-order (sym (length-up n 0)) l
 
   -- its front has as many entries
   pub order-count : n ≡ length (take n order)
-  order-count = front-long varLimit (upFrom n 0) few-order (sym (length-up n 0)) l
+  order-count = front-long m (upFrom n 0) few-order (sym (length-up n 0)) l
 
   -- and is those numbers
   pub order-is : take n order ≡ upFrom n 0
-  order-is = front-is varLimit (upFrom n 0) few-order (sym (length-up n 0)) l
+  order-is = front-is m (upFrom n 0) few-order (sym (length-up n 0)) l
 
 -- where the ids and the permids were read and counted
 module _ {f : List ℕ} {t : List Span} {ids permids : List ℕ} (l : Listed f t ids permids) where

@@ -2,15 +2,18 @@
 use mathlib.Core.Path.{_≡_, refl, sym, _∙_}
 use mathlib.Core.Bool.{Bool, true, false, not}
 use mathlib.Core.List.{List, [], _∷_}
-use Prim.Native.Nat.{ℕ}
+use Prim.Native.Nat.{ℕ, _≤_}
 use native.Mathlib.Omega.{arith}
-use lib.ListN.{length}
+use lib.ListN.{length, take, replicate, length-replicate}
 use borrow.Author.Tests.{not-true, not-false}
 use Rattle.fields.specs.Sweep.{Span}
+use Rattle.fields.specs.declared.keys.Key.{Key}
 use Rattle.fields.specs.declared.keys.Key.the-variants.{Ids, Permids, Auxids}
 use Rattle.checks.specs.Support.{idsFit, permidsFit}
-use Rattle.values.specs.Values.{nvarsIn, nsuppvarsIn, u32sIn}
-use Rattle.whole.specs.Whole.{firstFault, unless, givenFault, supportFaults, Supported, Listed}
+use Rattle.checks.proofs.Free.{zeros-whole}
+use Rattle.values.specs.Values.{pad, nvarsIn, nsuppvarsIn, u32sIn}
+use Rattle.values.proofs.Fronts.{front-fits, front-is, front-long}
+use Rattle.whole.specs.Whole.{firstFault, unless, givenFault, supportFaults, Supported, Listed, Room}
 use Rattle.whole.proofs.FirstFault.{first-none, rest-none, refuses, passes, last-check}
 use Rattle.whole.proofs.Refusals.{unless-holds, unless-fails, unless-none, count-right, count-wrong, count-none}
 
@@ -22,6 +25,10 @@ CountsPass f t =
     ∷ unless (permidsFit (nvarsIn f t) (u32sIn f t Permids)) 23
     ∷ [])
     ≡ firstFault (supportFaults f t)
+
+-- a local list has room for as many entries as it has
+pub room-in : {want n : ℕ} (m : ℕ) → want ≡ n → want ≤ m → Room n (replicate m 0)
+room-in m w h = record { zeros = zeros-whole m; enough = rw (length-replicate, ← w) h }
 
 module _ (f : List ℕ) (t : List Span) where
   -- how many support variables, ids and permids there are
@@ -42,6 +49,25 @@ module _ (f : List ℕ) (t : List Span) where
       -- as many as there must be
       pub counted : m ≡ want → Supported f t
       counted k = record { ids-counted = sym p ∙ h ∙ w; permids-counted = sym q ∙ k ∙ w }
+
+  -- numbers that were read into a list with room for as many as support variables, and are as many
+  module _ (k : Key) {old : List ℕ} (r : Room (nsuppvarsIn f t) old) {want n : ℕ} {dst : List ℕ} (w : want ≡ nsuppvarsIn f t)
+      (h : (n ≡ length (u32sIn f t k)) × (dst ≡ pad (length old) (u32sIn f t k))) (e : n ≡ want) where
+    -- they have room
+    in-room : length (u32sIn f t k) ≤ length old
+    in-room = omega (arith, h .0, r .enough)
+
+    -- the list reaches as far as they
+    pub read-fits : n ≤ length dst
+    read-fits = front-fits (length old) (u32sIn f t k) in-room (h .0) (h .1)
+
+    -- its front is they
+    pub read-is : take n dst ≡ u32sIn f t k
+    read-is = front-is (length old) (u32sIn f t k) in-room (h .0) (h .1)
+
+    -- and has as many entries
+    pub read-long : n ≡ length (take n dst)
+    read-long = front-long (length old) (u32sIn f t k) in-room (h .0) (h .1)
 
   -- where the ids and the permids were read and counted: how many auxids there are
   module _ {ids permids : List ℕ} (l : Listed f t ids permids) {want a x : ℕ} (w : want ≡ nsuppvarsIn f t)

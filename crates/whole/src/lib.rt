@@ -3,9 +3,9 @@ ghost use mathlib.Core.Path.{_≡_};
 ghost use Prim.Native.Nat.{_≤_};
 ghost use Rattle.codes.specs.Limits.{varLimit};
 ghost use Rattle.fields.specs.Sweep.{Table};
-ghost use Rattle.values.specs.Values.{spans, nvarsIn};
+ghost use Rattle.values.specs.Values.{spans, nvarsIn, nsuppvarsIn};
 ghost use Rattle.whole.specs.Whole.{firstFault, countFault, givenFault, numberFaults, supportFaults, nameCountFaults, nameFaults, rootFaults, wholeFault};
-ghost use Rattle.whole.specs.Whole.{NumbersPass, Listed, NameCounts};
+ghost use Rattle.whole.specs.Whole.{NumbersPass, Room, Listed, NameCounts};
 
 pub mod names;
 
@@ -195,20 +195,21 @@ fn listed_fault(f: &[u8], starts: &[u32], ends: &[u32], ids: &[u32], permids: &[
     root_fault(f, starts, ends)
 }
 
-// What comes after the numbers. The ids and the permids are read here, once for all the checks that look at them.
-fn lists_fault(f: &[u8], starts: &[u32], ends: &[u32]) -> u8
+// What comes after the numbers. The ids and the permids are read here, once for all the checks that look at them, into lists of zeros
+// with room for as many as there must be.
+fn lists_fault(f: &[u8], starts: &[u32], ends: &[u32], ids: &mut [u32], permids: &mut [u32]) -> u8
     requires { ⌜ Table (now f) (now starts) (now ends) ⌝ }
     requires { ⌜ NumbersPass (now f) (spans (now starts) (now ends)) ⌝ }
+    requires { ⌜ Room (nsuppvarsIn (now f) (spans (now starts) (now ends))) (now ids) ⌝ }
+    requires { ⌜ Room (nsuppvarsIn (now f) (spans (now starts) (now ends))) (now permids) ⌝ }
     ensures { λ r. ⌜ r ≡ wholeFault (now (f .entry)) (spans (now (starts .entry)) (now (ends .entry))) ⌝ }
 {
     let want = values::u32_in(f, starts, ends, Key::Nsuppvars) as u64;
-    let mut ids = [0u32; limits::VAR_LIMIT];
-    let n = values::read_u32s(f, starts, ends, Key::Ids, &mut ids);
+    let n = values::read_u32s(f, starts, ends, Key::Ids, ids);
     if n as u64 != want {
         return refusal::WRONG_COUNT;
     }
-    let mut permids = [0u32; limits::VAR_LIMIT];
-    let m = values::read_u32s(f, starts, ends, Key::Permids, &mut permids);
+    let m = values::read_u32s(f, starts, ends, Key::Permids, permids);
     if m as u64 != want {
         return refusal::WRONG_COUNT;
     }
@@ -227,5 +228,12 @@ pub fn whole_fault(f: &[u8], starts: &[u32], ends: &[u32]) -> u8
     if number != 0 {
         return number;
     }
-    lists_fault(f, starts, ends)
+    if nsuppvars as usize <= names::FEW {
+        let mut ids = [0u32; names::FEW];
+        let mut permids = [0u32; names::FEW];
+        return lists_fault(f, starts, ends, &mut ids, &mut permids);
+    }
+    let mut ids = [0u32; limits::VAR_LIMIT];
+    let mut permids = [0u32; limits::VAR_LIMIT];
+    lists_fault(f, starts, ends, &mut ids, &mut permids)
 }

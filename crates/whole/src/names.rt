@@ -7,9 +7,13 @@ ghost use Rattle.codes.specs.Limits.{varLimit};
 ghost use Rattle.fields.specs.Sweep.{Table};
 ghost use Rattle.checks.specs.Names.{sameNames, chosen};
 ghost use Rattle.whole.specs.Names.{upFrom, agree, suppvarnamesIn};
+ghost use Rattle.whole.specs.Whole.{NameRoom};
 ghost use Rattle.values.specs.Values.{spans, Known, namesIn};
 use codes::limits;
 use fields::keys::Key;
+
+// Most files have few variables. Where that many entries do, a local list has no more: the zeros of 4,096 cost more than the reading.
+pub const FEW: usize = 256;
 
 // The numbers 0, 1, .., `n` of them, over the front of a list.
 fn count_up(n: usize, dst: &mut [u32])
@@ -23,8 +27,9 @@ fn count_up(n: usize, dst: &mut [u32])
     }
 }
 
-// Whether two lists of names that are given, each taken at the positions of its index, are alike.
-fn alike(
+// Whether two lists of names that are given, each taken at the positions of its index, are alike. They are read into lists of zeros
+// with room for them.
+fn alike_in(
     f: &[u8],
     starts: &[u32],
     ends: &[u32],
@@ -32,18 +37,20 @@ fn alike(
     index: &[u32],
     key2: Key,
     index2: &[u32],
+    names: &mut [u32],
+    lens: &mut [u32],
+    names2: &mut [u32],
+    lens2: &mut [u32],
 ) -> bool
     requires { ⌜ Table (now f) (now starts) (now ends) × Known key × Known key2 ⌝ }
     requires { ⌜ length (now index2) ≡ length (now index) ⌝ }
+    requires { ⌜ NameRoom (now f) (spans (now starts) (now ends)) key (now names) (now lens) ⌝ }
+    requires { ⌜ NameRoom (now f) (spans (now starts) (now ends)) key2 (now names2) (now lens2) ⌝ }
     ensures { λ r. ⌜ r ≡ sameNames (now (f .entry)) (chosen (now (index .entry)) (namesIn varLimit (now (f .entry)) (spans (now (starts .entry)) (now (ends .entry))) key)) (chosen (now (index2 .entry)) (namesIn varLimit (now (f .entry)) (spans (now (starts .entry)) (now (ends .entry))) key2)) ⌝ }
 {
     let max = limits::VAR_LIMIT;
-    let mut names = [0u32; limits::VAR_LIMIT];
-    let mut lens = [0u32; limits::VAR_LIMIT];
-    let n = values::read_names(f, starts, ends, key, max, &mut names, &mut lens);
-    let mut names2 = [0u32; limits::VAR_LIMIT];
-    let mut lens2 = [0u32; limits::VAR_LIMIT];
-    let m = values::read_names(f, starts, ends, key2, max, &mut names2, &mut lens2);
+    let n = values::read_names(f, starts, ends, key, max, names, lens);
+    let m = values::read_names(f, starts, ends, key2, max, names2, lens2);
     checks::names::same_names(
         f,
         index,
@@ -52,6 +59,62 @@ fn alike(
         index2,
         &names2[..m],
         &lens2[..m],
+    )
+}
+
+// Whether two lists of `n` and of `m` names, each taken at the positions of its index, are alike.
+fn alike(
+    f: &[u8],
+    starts: &[u32],
+    ends: &[u32],
+    key: Key,
+    n: usize,
+    index: &[u32],
+    key2: Key,
+    m: usize,
+    index2: &[u32],
+) -> bool
+    requires { ⌜ Table (now f) (now starts) (now ends) × Known key × Known key2 ⌝ }
+    requires { ⌜ n ≡ length (namesIn varLimit (now f) (spans (now starts) (now ends)) key) ⌝ }
+    requires { ⌜ m ≡ length (namesIn varLimit (now f) (spans (now starts) (now ends)) key2) ⌝ }
+    requires { ⌜ length (now index2) ≡ length (now index) ⌝ }
+    ensures { λ r. ⌜ r ≡ sameNames (now (f .entry)) (chosen (now (index .entry)) (namesIn varLimit (now (f .entry)) (spans (now (starts .entry)) (now (ends .entry))) key)) (chosen (now (index2 .entry)) (namesIn varLimit (now (f .entry)) (spans (now (starts .entry)) (now (ends .entry))) key2)) ⌝ }
+{
+    if n <= FEW && m <= FEW {
+        let mut names = [0u32; FEW];
+        let mut lens = [0u32; FEW];
+        let mut names2 = [0u32; FEW];
+        let mut lens2 = [0u32; FEW];
+        return alike_in(
+            f,
+            starts,
+            ends,
+            key,
+            index,
+            key2,
+            index2,
+            &mut names,
+            &mut lens,
+            &mut names2,
+            &mut lens2,
+        );
+    }
+    let mut names = [0u32; limits::VAR_LIMIT];
+    let mut lens = [0u32; limits::VAR_LIMIT];
+    let mut names2 = [0u32; limits::VAR_LIMIT];
+    let mut lens2 = [0u32; limits::VAR_LIMIT];
+    alike_in(
+        f,
+        starts,
+        ends,
+        key,
+        index,
+        key2,
+        index2,
+        &mut names,
+        &mut lens,
+        &mut names2,
+        &mut lens2,
     )
 }
 
@@ -80,7 +143,7 @@ pub fn agree(
     if m == 0 {
         return true;
     }
-    alike(f, starts, ends, key, index, key2, index2)
+    alike(f, starts, ends, key, n, index, key2, m, index2)
 }
 
 // Whether `.suppvarnames` of `m` names, in their order, and a list of `n` names, taken at the positions of its index, agree.
@@ -107,7 +170,12 @@ pub fn supp_agrees(
     }
     let supp = Key::Suppvarnames;
     let count = index.len();
+    if count <= FEW {
+        let mut order = [0u32; FEW];
+        count_up(count, &mut order);
+        return alike(f, starts, ends, key, n, index, supp, m, &order[..count]);
+    }
     let mut order = [0u32; limits::VAR_LIMIT];
     count_up(count, &mut order);
-    alike(f, starts, ends, key, index, supp, &order[..count])
+    alike(f, starts, ends, key, n, index, supp, m, &order[..count])
 }

@@ -12,9 +12,7 @@ returns-2 c =
     second-missing _ _ _ _ _ (p .1 .0) (c .before .if1 .left) (p .1 .1 .0) (c .if2 .taken)
 
 alike-requires : tie.Need-alike-requires
-alike-requires c κs =
-    let p = c .before .before .before .before .before .before .before .pre in
-    (p .0, p .1 .1 .1)
+alike-requires c κs = c .before .before .before .before .before .before .before .pre
 
 returns-3 : tie.Need-returns-3
 returns-3 c =

@@ -39,11 +39,7 @@ HasNames f t k n starts lens =
 
 module _ (f : List ℕ) (t : List Span) (k : Key) where
   module _ {n : ℕ} {dst : List ℕ} (h : HasNumbers f t k n dst) where
-    -- there are few numbers
-    pub numbers-few : n ≤ varLimit
-    numbers-few = rw (h .0) (u32s-most f t k)
-
-    -- the lent list reaches as far
+    -- the lent list reaches as far as the numbers
     pub numbers-fit : n ≤ length dst
     numbers-fit = front-fits varLimit (u32sIn f t k) (u32s-most f t k) (h .0) (h .1)
 

@@ -23,11 +23,16 @@ use Rattle.whole.proofs.Refusals.{unless-holds, unless-fails}
 use Rattle.whole.proofs.Supporting.{room-in}
 use Rattle.whole.proofs.Upward.{length-up}
 
--- names that were read into two lists with room for them
-module _ (f : List ℕ) (t : List Span) (k : Key) {a b : List ℕ} (r : NameRoom f t k a b) {n : ℕ} {starts lens : List ℕ}
-    (h : (n ≡ length (namesIn varLimit f t k))
+-- the names of a header's list, n of them, were read into two lists of zeros
+abbrev pub HasNames : List ℕ → List Span → Key → List ℕ → List ℕ → ℕ → List ℕ → List ℕ → Type 0
+HasNames f t k a b n starts lens =
+    (n ≡ length (namesIn varLimit f t k))
     × ((starts ≡ pad (length a) (map startOf (namesIn varLimit f t k)))
-    × (lens ≡ pad (length b) (map lenOf (namesIn varLimit f t k))))) where
+    × (lens ≡ pad (length b) (map lenOf (namesIn varLimit f t k))))
+
+-- which had room for them
+module _ (f : List ℕ) (t : List Span) (k : Key) {a b : List ℕ} (r : NameRoom f t k a b) {n : ℕ} {starts lens : List ℕ}
+    (h : HasNames f t k a b n starts lens) where
   -- as many parts as names
   parts-count : (part : Place → ℕ) → n ≡ length (map part (namesIn varLimit f t k))
   parts-count part = rw length-map (h .0)
@@ -60,11 +65,17 @@ module _ (f : List ℕ) (t : List Span) (k : Key) {a b : List ℕ} (r : NameRoom
   pub same-long : length (take n lens) ≡ length (take n starts)
   same-long = sym lens-long ∙ starts-long
 
+  -- the front of the starts is the names' starts
+  pub starts-are : take n starts ≡ map startOf (namesIn varLimit f t k)
+  starts-are = front-is (length a) _ few-starts (parts-count startOf) (h .1 .0)
+
+  -- the front of the lengths is their lengths
+  pub lens-are : take n lens ≡ map lenOf (namesIn varLimit f t k)
+  lens-are = front-is (length b) _ few-lens (parts-count lenOf) (h .1 .1)
+
   -- together they are the names
   pub names-are : places (take n starts) (take n lens) ≡ namesIn varLimit f t k
-  names-are =
-      rw (front-is (length a) _ few-starts (parts-count startOf) (h .1 .0), front-is (length b) _ few-lens (parts-count lenOf) (h .1 .1))
-      (places-parts (namesIn varLimit f t k))
+  names-are = rw (starts-are, lens-are) (places-parts (namesIn varLimit f t k))
 
 -- local lists have room for as many names as they have entries
 pub names-room : (f : List ℕ) (t : List Span) (k : Key) {n : ℕ} (m : ℕ) → n ≡ length (namesIn varLimit f t k) → n ≤ m

@@ -12,7 +12,7 @@ ghost use Rattle.values.specs.Values.{spans, Known, namesIn};
 use codes::limits;
 use fields::keys::Key;
 
-// Most files have few variables. Where that many entries do, a local list has no more: the zeros of 4,096 cost more than the reading.
+// The length of a small local list. Where it is enough, far fewer zeros are written than for 4,096 entries.
 pub const FEW: usize = 256;
 
 // The numbers 0, 1, .., `n` of them, over the front of a list.
@@ -62,7 +62,8 @@ fn alike_in(
     )
 }
 
-// Whether two lists of `n` and of `m` names, each taken at the positions of its index, are alike.
+// Whether two lists of `n` and of `m` names, each taken at the positions of its index, are alike. Small local lists where they are
+// enough.
 fn alike(
     f: &[u8],
     starts: &[u32],

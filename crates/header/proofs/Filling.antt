@@ -18,7 +18,9 @@ use Rattle.checks.specs.Support.{supportOrder}
 use Rattle.checks.proofs.Placed.{starts-gathered, lens-gathered}
 use Rattle.values.specs.Values.{pad, nvarsIn, u32sIn, namesIn, rootsIn}
 use Rattle.values.proofs.Counted.{roots-most}
-use Rattle.values.proofs.Fronts.{HasNumbers, numbers-are, HasNames, starts-are, lens-are}
+use Rattle.values.proofs.Fronts.{HasNumbers, numbers-are}
+use Rattle.whole.specs.Whole.{NameRoom}
+use Rattle.whole.proofs.Agreeing.{HasNames, starts-are, lens-are}
 use Rattle.header.specs.Header.{Settled}
 
 -- permids are below the limit
@@ -45,17 +47,17 @@ module _ (f : List ℕ) (t : List Span) {nvars : ℕ} (v : nvars ≡ nvarsIn f t
     order-laid k o d = d ∙ rw (v, numbers-are f t Ids i, numbers-are f t Permids p, o)
 
 -- the names at seats, over the front of a list
-module _ (f : List ℕ) (t : List Span) (k : Key) {n : ℕ} {starts lens : List ℕ} (h : HasNames f t k n starts lens)
-    (seats old : List ℕ) {dst : List ℕ} where
+module _ (f : List ℕ) (t : List Span) (k : Key) {a b : List ℕ} (r : NameRoom f t k a b) {n : ℕ} {starts lens : List ℕ}
+    (h : HasNames f t k a b n starts lens) (seats old : List ℕ) {dst : List ℕ} where
   -- their starts
   pub starts-laid : dst ≡ laid (map (entryAt (take n starts)) seats) old
       → dst ≡ laid (map startOf (map (nameAt (namesIn varLimit f t k)) seats)) old
-  starts-laid d = d ∙ rw (starts-are f t k h, starts-gathered (namesIn varLimit f t k) seats)
+  starts-laid d = d ∙ rw (starts-are f t k r h, starts-gathered (namesIn varLimit f t k) seats)
 
   -- their lengths
   pub lens-laid : dst ≡ laid (map (entryAt (take n lens)) seats) old
       → dst ≡ laid (map lenOf (map (nameAt (namesIn varLimit f t k)) seats)) old
-  lens-laid d = d ∙ rw (lens-are f t k h, lens-gathered (namesIn varLimit f t k) seats)
+  lens-laid d = d ∙ rw (lens-are f t k r h, lens-gathered (namesIn varLimit f t k) seats)
 
 -- n roots were read into the front of a list
 module _ (f : List ℕ) (t : List Span) {n : ℕ} (l : List ℤ) (e : n ≡ length (rootsIn f t)) where

@@ -15,11 +15,13 @@ ghost use Rattle.checks.specs.Roots.{edgeOf};
 ghost use Rattle.checks.specs.Support.{supportOrder};
 ghost use Rattle.values.specs.Values.{spans, Known, pad, nvarsIn, u32sIn, namesIn, rootsIn};
 ghost use Rattle.whole.specs.Names.{variableNamesIn};
+ghost use Rattle.whole.specs.Whole.{NameRoom};
 ghost use Rattle.header.specs.Header.{Settled};
 use codes::limits::ROOT_LIMIT;
 use codes::limits::VAR_LIMIT;
 use edges::Edge;
 use fields::keys::Key;
+use whole::names::FEW;
 
 // The support order.
 pub fn fill_order(f: &[u8], starts: &[u32], ends: &[u32], dst: &mut [u32])
@@ -28,9 +30,9 @@ pub fn fill_order(f: &[u8], starts: &[u32], ends: &[u32], dst: &mut [u32])
 {
     let nvars = values::u32_in(f, starts, ends, Key::Nvars);
     let mut ids = [0u32; VAR_LIMIT];
-    let n = values::u32s_in(f, starts, ends, Key::Ids, &mut ids);
+    let n = values::read_u32s(f, starts, ends, Key::Ids, &mut ids);
     let mut permids = [0u32; VAR_LIMIT];
-    let m = values::u32s_in(f, starts, ends, Key::Permids, &mut permids);
+    let m = values::read_u32s(f, starts, ends, Key::Permids, &mut permids);
     values::clear(dst);
     checks::support::arrange(&ids[..n], &permids[..m], nvars, dst);
 }
@@ -42,9 +44,9 @@ fn ordered_in(f: &[u8], starts: &[u32], ends: &[u32], dst: &mut [u32])
 {
     let nvars = values::u32_in(f, starts, ends, Key::Nvars);
     let mut ids = [0u32; VAR_LIMIT];
-    let n = values::u32s_in(f, starts, ends, Key::Ids, &mut ids);
+    let n = values::read_u32s(f, starts, ends, Key::Ids, &mut ids);
     let mut permids = [0u32; VAR_LIMIT];
-    let m = values::u32s_in(f, starts, ends, Key::Permids, &mut permids);
+    let m = values::read_u32s(f, starts, ends, Key::Permids, &mut permids);
     checks::names::ordered_seats(&ids[..n], &permids[..m], nvars, dst);
 }
 
@@ -55,12 +57,12 @@ fn supp_in(f: &[u8], starts: &[u32], ends: &[u32], dst: &mut [u32])
 {
     let nvars = values::u32_in(f, starts, ends, Key::Nvars);
     let mut ids = [0u32; VAR_LIMIT];
-    let n = values::u32s_in(f, starts, ends, Key::Ids, &mut ids);
+    let n = values::read_u32s(f, starts, ends, Key::Ids, &mut ids);
     checks::names::supp_seats(&ids[..n], nvars, dst);
 }
 
-// The names at the seats of a list, over the front of the lent ones.
-fn gather_names(
+// The names at the seats of a list, over the front of the lent ones. The list is read into two of zeros with room for it.
+fn gather_in(
     f: &[u8],
     starts: &[u32],
     ends: &[u32],
@@ -68,16 +70,64 @@ fn gather_names(
     seats: &[u32],
     names: &mut [u32],
     lens: &mut [u32],
+    from: &mut [u32],
+    sizes: &mut [u32],
 )
     requires { ⌜ Table (now f) (now starts) (now ends) × Known key ⌝ }
+    requires { ⌜ NameRoom (now f) (spans (now starts) (now ends)) key (now from) (now sizes) ⌝ }
     ensures { λ _. ⌜ now (names .exit) ≡ laid (map startOf (map (nameAt (namesIn varLimit (now (f .entry)) (spans (now (starts .entry)) (now (ends .entry))) key)) (now (seats .entry)))) (now (names .entry)) ⌝ }
     ensures { λ _. ⌜ now (lens .exit) ≡ laid (map lenOf (map (nameAt (namesIn varLimit (now (f .entry)) (spans (now (starts .entry)) (now (ends .entry))) key)) (now (seats .entry)))) (now (lens .entry)) ⌝ }
 {
-    let mut from = [0u32; VAR_LIMIT];
-    let mut from_lens = [0u32; VAR_LIMIT];
-    let n = values::names_in(f, starts, ends, key, VAR_LIMIT, &mut from, &mut from_lens);
+    let n = values::read_names(f, starts, ends, key, VAR_LIMIT, from, sizes);
     checks::names::gather(seats, &from[..n], names);
-    checks::names::gather(seats, &from_lens[..n], lens);
+    checks::names::gather(seats, &sizes[..n], lens);
+}
+
+// The names at the seats of a list of `count` names, over the front of the lent ones.
+fn gather_names(
+    f: &[u8],
+    starts: &[u32],
+    ends: &[u32],
+    key: Key,
+    count: usize,
+    seats: &[u32],
+    names: &mut [u32],
+    lens: &mut [u32],
+)
+    requires { ⌜ Table (now f) (now starts) (now ends) × Known key ⌝ }
+    requires { ⌜ count ≡ length (namesIn varLimit (now f) (spans (now starts) (now ends)) key) ⌝ }
+    ensures { λ _. ⌜ now (names .exit) ≡ laid (map startOf (map (nameAt (namesIn varLimit (now (f .entry)) (spans (now (starts .entry)) (now (ends .entry))) key)) (now (seats .entry)))) (now (names .entry)) ⌝ }
+    ensures { λ _. ⌜ now (lens .exit) ≡ laid (map lenOf (map (nameAt (namesIn varLimit (now (f .entry)) (spans (now (starts .entry)) (now (ends .entry))) key)) (now (seats .entry)))) (now (lens .entry)) ⌝ }
+{
+    if count <= FEW {
+        let mut from = [0u32; FEW];
+        let mut sizes = [0u32; FEW];
+        gather_in(
+            f,
+            starts,
+            ends,
+            key,
+            seats,
+            names,
+            lens,
+            &mut from,
+            &mut sizes,
+        );
+        return;
+    }
+    let mut from = [0u32; VAR_LIMIT];
+    let mut sizes = [0u32; VAR_LIMIT];
+    gather_in(
+        f,
+        starts,
+        ends,
+        key,
+        seats,
+        names,
+        lens,
+        &mut from,
+        &mut sizes,
+    );
 }
 
 // The names of the variables: `.varnames` first, else `.orderedvarnames`, else `.suppvarnames`.
@@ -90,27 +140,32 @@ pub fn fill_names(f: &[u8], starts: &[u32], ends: &[u32], names: &mut [u32], len
         return;
     }
     let nvars = values::u32_in(f, starts, ends, Key::Nvars) as usize;
-    let mut seats = [0u32; VAR_LIMIT];
-    if values::count_names(f, starts, ends, Key::Orderedvarnames, VAR_LIMIT) != 0 {
+    let ordered = values::count_names(f, starts, ends, Key::Orderedvarnames, VAR_LIMIT);
+    if ordered != 0 {
+        let mut seats = [0u32; VAR_LIMIT];
         ordered_in(f, starts, ends, &mut seats);
         gather_names(
             f,
             starts,
             ends,
             Key::Orderedvarnames,
+            ordered,
             &seats[..nvars],
             names,
             lens,
         );
         return;
     }
-    if values::count_names(f, starts, ends, Key::Suppvarnames, VAR_LIMIT) != 0 {
+    let supp = values::count_names(f, starts, ends, Key::Suppvarnames, VAR_LIMIT);
+    if supp != 0 {
+        let mut seats = [0u32; VAR_LIMIT];
         supp_in(f, starts, ends, &mut seats);
         gather_names(
             f,
             starts,
             ends,
             Key::Suppvarnames,
+            supp,
             &seats[..nvars],
             names,
             lens,

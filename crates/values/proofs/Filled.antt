@@ -51,9 +51,9 @@ module _ {A : Type 0} {l m : Listed A} (same : l ≡ m) where
     given-pad r = d ∙ ap (laid (g (l .entries))) o ∙ ap (λ es. pad k (g es)) (given-entries r)
 
     -- and so it does where they were refused and it was cleared again
-    pub cleared-pad : {n : ℕ} {out : List ℕ} → g [] ≡ [] → refused n ≡ l .answer → out ≡ replicate (length dst) 0
+    pub emptied-pad : {n : ℕ} {out : List ℕ} → g [] ≡ [] → refused n ≡ l .answer → out ≡ replicate (length dst) 0
         → out ≡ pad k (g (entriesOf m))
-    cleared-pad z r c = pad-again k (g (l .entries)) o d c ∙ ap (pad k) (sym z ∙ ap g (given-none r))
+    emptied-pad z r c = pad-again k (g (l .entries)) o d c ∙ ap (pad k) (sym z ∙ ap g (given-none r))
 
 module _ (f : List ℕ) (t : List Span) (k : Key) (s : code.Span) (at : ofSpan s ≡ spanIn t k) where
   -- the bytes of the span that was found
@@ -78,7 +78,7 @@ module _ (f : List ℕ) (t : List Span) (k : Key) (s : code.Span) (at : ofSpan s
     pub u32s-none : {out : List ℕ} → refused n ≡ u32List varLimit bytes .answer → out ≡ replicate (length dst) 0
         → (0 ≡ length (u32sIn f t k)) × (out ≡ pad m (u32sIn f t k))
     unfolding u32sIn
-    u32s-none r c = (ap length (given-none numbers r), cleared-pad numbers (λ es. es) m o d refl r c)
+    u32s-none r c = (ap length (given-none numbers r), emptied-pad numbers (λ es. es) m o d refl r c)
 
   module _ (max i j : ℕ) {n : ℕ} {olds oldl starts lens : List ℕ} (o : olds ≡ replicate i 0) (p : oldl ≡ replicate j 0)
       (d : starts ≡ laid (map startOf (nameList max (s .start) bytes .entries)) olds)
@@ -100,7 +100,7 @@ module _ (f : List ℕ) (t : List Span) (k : Key) (s : code.Span) (at : ofSpan s
     unfolding namesIn
     names-none r a b =
         let none = ap length (given-none (names max) r) in
-        (none, (cleared-pad (names max) (map startOf) i o d refl r a, cleared-pad (names max) (map lenOf) j p e refl r b))
+        (none, (emptied-pad (names max) (map startOf) i o d refl r a, emptied-pad (names max) (map lenOf) j p e refl r b))
 
 module _ (f : List ℕ) (t : List Span) (s : code.Span) (at : ofSpan s ≡ spanIn t Rootids) where
   -- the bytes of the span that was found are those of the roots

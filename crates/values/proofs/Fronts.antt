@@ -1,15 +1,14 @@
 -- Laws of a header's lists that were read into lent lists of zeros: they are the fronts of these.
 use mathlib.Core.Path.{_≡_, sym, ap, _∙_}
-use mathlib.Core.List.{List, map}
+use mathlib.Core.List.{List}
 use Prim.Native.Nat.{ℕ, _≤_}
 use native.Mathlib.Omega.{arith}
-use lib.ListN.{length, take, replicate, length-replicate, length-map}
+use lib.ListN.{length, take, replicate, length-replicate}
 use Rattle.codes.specs.Limits.{varLimit}
-use Rattle.readers.specs.Text.{Place, startOf, lenOf}
 use Rattle.fields.specs.Sweep.{Span}
 use Rattle.fields.specs.declared.keys.Key.{Key}
-use Rattle.values.specs.Values.{pad, u32sIn, namesIn}
-use Rattle.values.proofs.Counted.{u32s-most, names-most}
+use Rattle.values.specs.Values.{pad, u32sIn}
+use Rattle.values.proofs.Counted.{u32s-most}
 use Rattle.values.proofs.Padded.{take-laid, length-pad}
 
 -- a lent list of m zeros, over which n entries were laid
@@ -30,20 +29,9 @@ module _ (m : ℕ) (es : List ℕ) (h : length es ≤ m) {n : ℕ} {dst : List �
 abbrev pub HasNumbers : List ℕ → List Span → Key → ℕ → List ℕ → Type 0
 HasNumbers f t k n dst = (n ≡ length (u32sIn f t k)) × (dst ≡ pad varLimit (u32sIn f t k))
 
--- the names of a header's list, n of them, are in two lent lists
-abbrev pub HasNames : List ℕ → List Span → Key → ℕ → List ℕ → List ℕ → Type 0
-HasNames f t k n starts lens =
-    (n ≡ length (namesIn varLimit f t k))
-    × ((starts ≡ pad varLimit (map startOf (namesIn varLimit f t k)))
-    × (lens ≡ pad varLimit (map lenOf (namesIn varLimit f t k))))
-
 module _ (f : List ℕ) (t : List Span) (k : Key) where
   module _ {n : ℕ} {dst : List ℕ} (h : HasNumbers f t k n dst) where
-    -- there are few numbers
-    pub numbers-few : n ≤ varLimit
-    numbers-few = rw (h .0) (u32s-most f t k)
-
-    -- the lent list reaches as far
+    -- the lent list reaches as far as the numbers
     pub numbers-fit : n ≤ length dst
     numbers-fit = front-fits varLimit (u32sIn f t k) (u32s-most f t k) (h .0) (h .1)
 
@@ -58,38 +46,3 @@ module _ (f : List ℕ) (t : List Span) (k : Key) where
     -- which is no more than the limit
     pub numbers-short : length (take n dst) ≤ varLimit
     numbers-short = rw numbers-are (u32s-most f t k)
-
-  -- a part of each name
-  module _ (part : Place → ℕ) where
-    -- there are few
-    few-parts : length (map part (namesIn varLimit f t k)) ≤ varLimit
-    few-parts = rw length-map (names-most f t varLimit k)
-
-    -- as many as names
-    count-parts : {n : ℕ} → n ≡ length (namesIn varLimit f t k) → n ≡ length (map part (namesIn varLimit f t k))
-    count-parts e = rw length-map e
-
-  module _ {n : ℕ} {starts lens : List ℕ} (h : HasNames f t k n starts lens) where
-    -- the lent list of starts reaches as far as the names
-    pub starts-fit : n ≤ length starts
-    starts-fit = front-fits varLimit _ (few-parts startOf) (count-parts startOf (h .0)) (h .1 .0)
-
-    -- the lent list of lengths does
-    pub lens-fit : n ≤ length lens
-    lens-fit = front-fits varLimit _ (few-parts lenOf) (count-parts lenOf (h .0)) (h .1 .1)
-
-    -- the front of the starts is the names' starts
-    pub starts-are : take n starts ≡ map startOf (namesIn varLimit f t k)
-    starts-are = front-is varLimit _ (few-parts startOf) (count-parts startOf (h .0)) (h .1 .0)
-
-    -- the front of the lengths is their lengths
-    pub lens-are : take n lens ≡ map lenOf (namesIn varLimit f t k)
-    lens-are = front-is varLimit _ (few-parts lenOf) (count-parts lenOf (h .0)) (h .1 .1)
-
-    -- the front of the starts has as many entries
-    pub starts-long : n ≡ length (take n starts)
-    starts-long = front-long varLimit _ (few-parts startOf) (count-parts startOf (h .0)) (h .1 .0)
-
-    -- the front of the lengths has
-    pub lens-long : n ≡ length (take n lens)
-    lens-long = front-long varLimit _ (few-parts lenOf) (count-parts lenOf (h .0)) (h .1 .1)

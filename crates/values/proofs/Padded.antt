@@ -29,3 +29,17 @@ pub pad-again : (n : ℕ) (es : List ℕ) {old dst out : List ℕ} → old ≡ r
 pad-again n es o d c =
     let long = ap length d ∙ ap (λ l. length (laid es l)) o ∙ length-pad n es in
     c ∙ ap (λ m. replicate m 0) long ∙ sym (pad-none n)
+
+-- a list that was cleared
+module _ (n : ℕ) {old : List ℕ} (o : old ≡ replicate n 0) where
+  -- keeps its length
+  cleared-long : length old ≡ n
+  cleared-long = ap length o ∙ length-replicate n 0
+
+  -- and is zeros, as many as it has entries,
+  pub cleared-zeros : old ≡ replicate (length old) 0
+  cleared-zeros = o ∙ ap (λ m. replicate m 0) (sym cleared-long)
+
+  -- so that entries are laid over as many zeros as it had before
+  pub cleared-pad : (es : List ℕ) {dst : List ℕ} → dst ≡ pad (length old) es → dst ≡ pad n es
+  cleared-pad es d = d ∙ ap (λ m. pad m es) cleared-long

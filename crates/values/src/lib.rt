@@ -130,16 +130,16 @@ pub fn dd_in(f: &[u8], starts: &[u32], ends: &[u32]) -> Place
     Place { start: at, len }
 }
 
-// Reads a list of numbers, and answers how many there are. The rest of the lent list is zeros.
-pub fn u32s_in(f: &[u8], starts: &[u32], ends: &[u32], key: Key, dst: &mut [u32]) -> usize
+// Reads a list of numbers over the front of a list of zeros, and answers how many there are. Where they are refused it is zeros again.
+pub fn read_u32s(f: &[u8], starts: &[u32], ends: &[u32], key: Key, dst: &mut [u32]) -> usize
     requires { ⌜ Table (now f) (now starts) (now ends) × Known key ⌝ }
+    requires { ⌜ now dst ≡ replicate (length (now dst)) 0 ⌝ }
     ensures { λ r. ⌜ r ≡ length (u32sIn (now (f .entry)) (spans (now (starts .entry)) (now (ends .entry))) key) ⌝ }
     ensures { λ _. ⌜ now (dst .exit) ≡ pad (length (now (dst .entry))) (u32sIn (now (f .entry)) (spans (now (starts .entry)) (now (ends .entry))) key) ⌝ }
 {
     let span = span_in(f, starts, ends, key);
     let start = span.start;
     let end = span.end;
-    clear(dst);
     let Count::Entries(n) = readers::lists::parse_u32_list(&f[start..end], limits::VAR_LIMIT, dst)
     else {
         clear(dst);
@@ -148,7 +148,53 @@ pub fn u32s_in(f: &[u8], starts: &[u32], ends: &[u32], key: Key, dst: &mut [u32]
     n
 }
 
-// Reads a list of at most `max` names, and answers how many there are. The rest of the lent lists is zeros.
+// Reads a list of numbers into a list that may hold anything, and answers how many there are. The rest of the lent list is zeros.
+pub fn u32s_in(f: &[u8], starts: &[u32], ends: &[u32], key: Key, dst: &mut [u32]) -> usize
+    requires { ⌜ Table (now f) (now starts) (now ends) × Known key ⌝ }
+    ensures { λ r. ⌜ r ≡ length (u32sIn (now (f .entry)) (spans (now (starts .entry)) (now (ends .entry))) key) ⌝ }
+    ensures { λ _. ⌜ now (dst .exit) ≡ pad (length (now (dst .entry))) (u32sIn (now (f .entry)) (spans (now (starts .entry)) (now (ends .entry))) key) ⌝ }
+{
+    clear(dst);
+    read_u32s(f, starts, ends, key, dst)
+}
+
+// Reads a list of at most `max` names over the fronts of two lists of zeros, and answers how many there are. Where they are refused
+// both are zeros again.
+pub fn read_names(
+    f: &[u8],
+    starts: &[u32],
+    ends: &[u32],
+    key: Key,
+    max: usize,
+    names: &mut [u32],
+    lens: &mut [u32],
+) -> usize
+    requires { ⌜ Table (now f) (now starts) (now ends) × Known key ⌝ }
+    requires { ⌜ now names ≡ replicate (length (now names)) 0 ⌝ }
+    requires { ⌜ now lens ≡ replicate (length (now lens)) 0 ⌝ }
+    ensures { λ r. ⌜ r ≡ length (namesIn max (now (f .entry)) (spans (now (starts .entry)) (now (ends .entry))) key) ⌝ }
+    ensures { λ _. ⌜ now (names .exit) ≡ pad (length (now (names .entry))) (map startOf (namesIn max (now (f .entry)) (spans (now (starts .entry)) (now (ends .entry))) key)) ⌝ }
+    ensures { λ _. ⌜ now (lens .exit) ≡ pad (length (now (lens .entry))) (map lenOf (namesIn max (now (f .entry)) (spans (now (starts .entry)) (now (ends .entry))) key)) ⌝ }
+{
+    let span = span_in(f, starts, ends, key);
+    let start = span.start;
+    let end = span.end;
+    let Count::Entries(n) = readers::text::parse_str_list(
+        &f[start..end],
+        start as u32,
+        max,
+        names,
+        lens,
+    ) else {
+        clear(names);
+        clear(lens);
+        return 0;
+    };
+    n
+}
+
+// Reads a list of at most `max` names into lists that may hold anything, and answers how many there are. The rest of the lent lists is
+// zeros.
 pub fn names_in(
     f: &[u8],
     starts: &[u32],
@@ -163,23 +209,9 @@ pub fn names_in(
     ensures { λ _. ⌜ now (names .exit) ≡ pad (length (now (names .entry))) (map startOf (namesIn max (now (f .entry)) (spans (now (starts .entry)) (now (ends .entry))) key)) ⌝ }
     ensures { λ _. ⌜ now (lens .exit) ≡ pad (length (now (lens .entry))) (map lenOf (namesIn max (now (f .entry)) (spans (now (starts .entry)) (now (ends .entry))) key)) ⌝ }
 {
-    let span = span_in(f, starts, ends, key);
-    let start = span.start;
-    let end = span.end;
     clear(names);
     clear(lens);
-    let Count::Entries(n) = readers::text::parse_str_list(
-        &f[start..end],
-        start as u32,
-        max,
-        names,
-        lens,
-    ) else {
-        clear(names);
-        clear(lens);
-        return 0;
-    };
-    n
+    read_names(f, starts, ends, key, max, names, lens)
 }
 
 // Reads the roots over the front of a list, and answers how many there are.
@@ -205,5 +237,5 @@ pub fn count_names(f: &[u8], starts: &[u32], ends: &[u32], key: Key, max: usize)
 {
     let mut names = [0u32; 1];
     let mut lens = [0u32; 1];
-    names_in(f, starts, ends, key, max, &mut names, &mut lens)
+    read_names(f, starts, ends, key, max, &mut names, &mut lens)
 }

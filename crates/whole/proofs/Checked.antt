@@ -4,12 +4,8 @@ use mathlib.Core.List.{List}
 use Prim.Native.Nat.{ℕ}
 use Rattle.fields.specs.Sweep.{Span}
 use Rattle.values.specs.Values.{nnodesIn, nvarsIn, nsuppvarsIn}
-use Rattle.whole.specs.Whole.{firstFault, numberFaults, supportFaults, nameCountFaults, nameFaults, rootFaults, wholeFault}
+use Rattle.whole.specs.Whole.{firstFault, numberFaults, supportFaults, nameCountFaults, nameFaults, rootFaults, wholeFault, NumbersPass}
 use Rattle.whole.proofs.FirstFault.{front-refuses, front-passes}
-
--- the numbers pass
-abbrev pub NumbersPass : List ℕ → List Span → Type 0
-NumbersPass f t = firstFault (numberFaults (nvarsIn f t) (nnodesIn f t) (nsuppvarsIn f t)) ≡ 0
 
 module _ (f : List ℕ) (t : List Span) where
   -- the numbers, and the answer about them

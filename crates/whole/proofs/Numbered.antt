@@ -47,3 +47,8 @@ module _ (nvars nnodes nsuppvars : ℕ) where
     pub few-nodes : nnodes ≤ nodeLimit
     unfolding numberFaults
     few-nodes = within-none nodeLimit nnodes 18 (first-none _ _ (rest-none _ _ h))
+
+    -- and few support variables, since there are no more of them than variables
+    pub few-supp : nsuppvars ≤ varLimit
+    unfolding numberFaults
+    few-supp = omega (arith, few-vars, within-none nvars nsuppvars 19 (first-none _ _ (rest-none _ _ (rest-none _ _ h))))

@@ -1,12 +1,13 @@
 -- The header as a whole. Document 01, 'The file's writer, header as a whole', its sentence in its order.
 use mathlib.Core.Path.{_≡_}
-use Prim.Native.Nat.{ℕ, zero, suc}
+use Prim.Native.Nat.{ℕ, zero, suc, _≤_}
 use mathlib.Core.List.{List, [], _∷_, _++_}
 use mathlib.Core.Bool.{Bool, cond, _||_}
-use lib.ListN.{length}
+use lib.ListN.{length, replicate}
 use lib.Dec.{ltb, eqb}
 use Rattle.codes.specs.Limits.{varLimit, nodeLimit, rootLimit}
 use Rattle.fields.specs.Sweep.{Span}
+use Rattle.fields.specs.declared.keys.Key.{Key}
 use Rattle.fields.specs.declared.keys.Key.the-variants.{Ids, Permids, Auxids, Rootnames}
 use Rattle.checks.specs.Support.{idsFit, permidsFit}
 use Rattle.checks.specs.Roots.{rootsFault}
@@ -80,7 +81,33 @@ wholeFault f t =
     (numberFaults (nvarsIn f t) (nnodesIn f t) (nsuppvarsIn f t)
     ++ (supportFaults f t ++ (nameCountFaults f t ++ (nameFaults f t ++ rootFaults f t))))
 
--- what the check of names leans on: as many ids and permids as support variables
+-- What checks lean on: the numbers pass,
+abbrev pub NumbersPass : List ℕ → List Span → Type 0
+NumbersPass f t = firstFault (numberFaults (nvarsIn f t) (nnodesIn f t) (nsuppvarsIn f t)) ≡ 0
+
+-- a list of zeros has room for a number of entries,
+pub record Room (n : ℕ) (l : List ℕ) : Type 0 where
+  pub zeros : l ≡ replicate (length l) 0
+  pub enough : n ≤ length l
+
+-- two have room for the starts and the lengths of a list's names,
+pub record NameRoom (f : List ℕ) (t : List Span) (k : Key) (starts lens : List ℕ) : Type 0 where
+  pub starts-room : Room (length (namesIn varLimit f t k)) starts
+  pub lens-room : Room (length (namesIn varLimit f t k)) lens
+
+-- there are as many ids and permids as support variables,
 pub record Supported (f : List ℕ) (t : List Span) : Type 0 where
   pub ids-counted : length (u32sIn f t Ids) ≡ nsuppvarsIn f t
   pub permids-counted : length (u32sIn f t Permids) ≡ nsuppvarsIn f t
+
+-- these ids and permids were read,
+pub record Listed (f : List ℕ) (t : List Span) (ids permids : List ℕ) : Type 0 where
+  pub ids-are : ids ≡ u32sIn f t Ids
+  pub permids-are : permids ≡ u32sIn f t Permids
+  pub counted : Supported f t
+
+-- and the names of each list were counted
+pub record NameCounts (f : List ℕ) (t : List Span) (ordered supp varnames : ℕ) : Type 0 where
+  pub ordered-count : ordered ≡ length (orderedvarnamesIn f t)
+  pub supp-count : supp ≡ length (suppvarnamesIn f t)
+  pub varnames-count : varnames ≡ length (varnamesIn f t)

@@ -3,12 +3,14 @@ ghost use mathlib.Core.Path.{_≡_};
 ghost use Prim.Native.Nat.{_≤_};
 ghost use Rattle.codes.specs.Limits.{varLimit};
 ghost use Rattle.fields.specs.Sweep.{Table};
-ghost use Rattle.values.specs.Values.{spans, nvarsIn};
-ghost use Rattle.whole.specs.Whole.{firstFault, countFault, givenFault, numberFaults, supportFaults, nameCountFaults, nameFaults, rootFaults, wholeFault, Supported};
+ghost use Rattle.values.specs.Values.{spans, nvarsIn, nsuppvarsIn};
+ghost use Rattle.whole.specs.Whole.{firstFault, countFault, givenFault, numberFaults, supportFaults, nameCountFaults, nameFaults, rootFaults, wholeFault};
+ghost use Rattle.whole.specs.Whole.{NumbersPass, Room, Listed, NameCounts};
 
 pub mod names;
 
 use crate::names::agree;
+use crate::names::supp_agrees;
 use codes::limits;
 use codes::refusal;
 use fields::keys::Key;
@@ -48,102 +50,98 @@ fn number_fault(nvars: u32, nnodes: u64, nsuppvars: u32) -> u8
     0
 }
 
-fn support_fault(f: &[u8], starts: &[u32], ends: &[u32]) -> u8
+// The support variables, whose ids and permids were read and counted before.
+fn support_fault(f: &[u8], starts: &[u32], ends: &[u32], ids: &[u32], permids: &[u32]) -> u8
     requires { ⌜ Table (now f) (now starts) (now ends) ⌝ }
     requires { ⌜ nvarsIn (now f) (spans (now starts) (now ends)) ≤ varLimit ⌝ }
+    requires { ⌜ Listed (now f) (spans (now starts) (now ends)) (now ids) (now permids) ⌝ }
     ensures { λ r. ⌜ r ≡ firstFault (supportFaults (now (f .entry)) (spans (now (starts .entry)) (now (ends .entry)))) ⌝ }
 {
     let nvars = values::u32_in(f, starts, ends, Key::Nvars);
     let want = values::u32_in(f, starts, ends, Key::Nsuppvars) as u64;
-    let mut ids = [0u32; limits::VAR_LIMIT];
-    let n = values::u32s_in(f, starts, ends, Key::Ids, &mut ids);
-    if n as u64 != want {
-        return refusal::WRONG_COUNT;
-    }
-    let mut permids = [0u32; limits::VAR_LIMIT];
-    let m = values::u32s_in(f, starts, ends, Key::Permids, &mut permids);
-    if m as u64 != want {
-        return refusal::WRONG_COUNT;
-    }
     let mut unused = [0u32; 1];
     let fault = given_fault(
         want,
-        values::u32s_in(f, starts, ends, Key::Auxids, &mut unused),
+        values::read_u32s(f, starts, ends, Key::Auxids, &mut unused),
     );
     if fault != 0 {
         return fault;
     }
-    if !checks::support::ids_fit(&ids[..n], nvars) {
+    if !checks::support::ids_fit(ids, nvars) {
         return refusal::BAD_IDS;
     }
-    if !checks::support::permids_fit(&permids[..m], nvars) {
+    if !checks::support::permids_fit(permids, nvars) {
         return refusal::BAD_PERMIDS;
     }
     0
 }
 
 // The lists of names have as many entries as they must.
-fn name_count_fault(f: &[u8], starts: &[u32], ends: &[u32]) -> u8
+fn name_count_fault(
+    f: &[u8],
+    starts: &[u32],
+    ends: &[u32],
+    ordered: usize,
+    supp: usize,
+    varnames: usize,
+) -> u8
     requires { ⌜ Table (now f) (now starts) (now ends) ⌝ }
+    requires { ⌜ NameCounts (now f) (spans (now starts) (now ends)) ordered supp varnames ⌝ }
     ensures { λ r. ⌜ r ≡ firstFault (nameCountFaults (now (f .entry)) (spans (now (starts .entry)) (now (ends .entry)))) ⌝ }
 {
     let nvars = values::u32_in(f, starts, ends, Key::Nvars) as u64;
     let nsuppvars = values::u32_in(f, starts, ends, Key::Nsuppvars) as u64;
-    let ordered = given_fault(
-        nvars,
-        values::count_names(f, starts, ends, Key::Orderedvarnames, limits::VAR_LIMIT),
-    );
-    if ordered != 0 {
-        return ordered;
+    let first = given_fault(nvars, ordered);
+    if first != 0 {
+        return first;
     }
-    let supp = given_fault(
-        nsuppvars,
-        values::count_names(f, starts, ends, Key::Suppvarnames, limits::VAR_LIMIT),
-    );
-    if supp != 0 {
-        return supp;
+    let second = given_fault(nsuppvars, supp);
+    if second != 0 {
+        return second;
     }
-    given_fault(
-        nvars,
-        values::count_names(f, starts, ends, Key::Varnames, limits::VAR_LIMIT),
-    )
+    given_fault(nvars, varnames)
 }
 
 // The lists of names agree about the support variables.
-fn name_fault(f: &[u8], starts: &[u32], ends: &[u32]) -> u8
+fn name_fault(
+    f: &[u8],
+    starts: &[u32],
+    ends: &[u32],
+    ids: &[u32],
+    permids: &[u32],
+    ordered: usize,
+    supp: usize,
+    varnames: usize,
+) -> u8
     requires { ⌜ Table (now f) (now starts) (now ends) ⌝ }
-    requires { ⌜ Supported (now f) (spans (now starts) (now ends)) ⌝ }
+    requires { ⌜ Listed (now f) (spans (now starts) (now ends)) (now ids) (now permids) ⌝ }
+    requires { ⌜ NameCounts (now f) (spans (now starts) (now ends)) ordered supp varnames ⌝ }
     ensures { λ r. ⌜ r ≡ firstFault (nameFaults (now (f .entry)) (spans (now (starts .entry)) (now (ends .entry)))) ⌝ }
 {
-    let mut ids = [0u32; limits::VAR_LIMIT];
-    let n = values::u32s_in(f, starts, ends, Key::Ids, &mut ids);
-    let mut permids = [0u32; limits::VAR_LIMIT];
-    let m = values::u32s_in(f, starts, ends, Key::Permids, &mut permids);
-    let mut order = [0u32; limits::VAR_LIMIT];
-    crate::names::count_up(n, &mut order);
-    let supp = Key::Suppvarnames;
     if !agree(
         f,
         starts,
         ends,
         Key::Varnames,
-        &ids[..n],
+        varnames,
+        ids,
         Key::Orderedvarnames,
-        &permids[..m],
+        ordered,
+        permids,
     ) {
         return refusal::UNLIKE_NAMES;
     }
-    if !agree(f, starts, ends, Key::Varnames, &ids[..n], supp, &order[..n]) {
+    if !supp_agrees(f, starts, ends, Key::Varnames, varnames, ids, supp) {
         return refusal::UNLIKE_NAMES;
     }
-    if !agree(
+    if !supp_agrees(
         f,
         starts,
         ends,
         Key::Orderedvarnames,
-        &permids[..m],
+        ordered,
+        permids,
         supp,
-        &order[..n],
     ) {
         return refusal::UNLIKE_NAMES;
     }
@@ -171,6 +169,53 @@ fn root_fault(f: &[u8], starts: &[u32], ends: &[u32]) -> u8
     )
 }
 
+// What comes after the numbers, once the ids and the permids were read and counted. How many names a list has is counted here, once.
+fn listed_fault(f: &[u8], starts: &[u32], ends: &[u32], ids: &[u32], permids: &[u32]) -> u8
+    requires { ⌜ Table (now f) (now starts) (now ends) ⌝ }
+    requires { ⌜ NumbersPass (now f) (spans (now starts) (now ends)) ⌝ }
+    requires { ⌜ Listed (now f) (spans (now starts) (now ends)) (now ids) (now permids) ⌝ }
+    ensures { λ r. ⌜ r ≡ wholeFault (now (f .entry)) (spans (now (starts .entry)) (now (ends .entry))) ⌝ }
+{
+    let support = support_fault(f, starts, ends, ids, permids);
+    if support != 0 {
+        return support;
+    }
+    let max = limits::VAR_LIMIT;
+    let ordered = values::count_names(f, starts, ends, Key::Orderedvarnames, max);
+    let supp = values::count_names(f, starts, ends, Key::Suppvarnames, max);
+    let varnames = values::count_names(f, starts, ends, Key::Varnames, max);
+    let count = name_count_fault(f, starts, ends, ordered, supp, varnames);
+    if count != 0 {
+        return count;
+    }
+    let name = name_fault(f, starts, ends, ids, permids, ordered, supp, varnames);
+    if name != 0 {
+        return name;
+    }
+    root_fault(f, starts, ends)
+}
+
+// What comes after the numbers. The ids and the permids are read here, once for all the checks that look at them, into lists of zeros
+// with room for as many as there must be.
+fn lists_fault(f: &[u8], starts: &[u32], ends: &[u32], ids: &mut [u32], permids: &mut [u32]) -> u8
+    requires { ⌜ Table (now f) (now starts) (now ends) ⌝ }
+    requires { ⌜ NumbersPass (now f) (spans (now starts) (now ends)) ⌝ }
+    requires { ⌜ Room (nsuppvarsIn (now f) (spans (now starts) (now ends))) (now ids) ⌝ }
+    requires { ⌜ Room (nsuppvarsIn (now f) (spans (now starts) (now ends))) (now permids) ⌝ }
+    ensures { λ r. ⌜ r ≡ wholeFault (now (f .entry)) (spans (now (starts .entry)) (now (ends .entry))) ⌝ }
+{
+    let want = values::u32_in(f, starts, ends, Key::Nsuppvars) as u64;
+    let n = values::read_u32s(f, starts, ends, Key::Ids, ids);
+    if n as u64 != want {
+        return refusal::WRONG_COUNT;
+    }
+    let m = values::read_u32s(f, starts, ends, Key::Permids, permids);
+    if m as u64 != want {
+        return refusal::WRONG_COUNT;
+    }
+    listed_fault(f, starts, ends, &ids[..n], &permids[..m])
+}
+
 // The first refusal of the header as a whole, in the order of document 01.
 pub fn whole_fault(f: &[u8], starts: &[u32], ends: &[u32]) -> u8
     requires { ⌜ Table (now f) (now starts) (now ends) ⌝ }
@@ -183,17 +228,12 @@ pub fn whole_fault(f: &[u8], starts: &[u32], ends: &[u32]) -> u8
     if number != 0 {
         return number;
     }
-    let support = support_fault(f, starts, ends);
-    if support != 0 {
-        return support;
+    if nsuppvars as usize <= names::FEW {
+        let mut ids = [0u32; names::FEW];
+        let mut permids = [0u32; names::FEW];
+        return lists_fault(f, starts, ends, &mut ids, &mut permids);
     }
-    let count = name_count_fault(f, starts, ends);
-    if count != 0 {
-        return count;
-    }
-    let name = name_fault(f, starts, ends);
-    if name != 0 {
-        return name;
-    }
-    root_fault(f, starts, ends)
+    let mut ids = [0u32; limits::VAR_LIMIT];
+    let mut permids = [0u32; limits::VAR_LIMIT];
+    lists_fault(f, starts, ends, &mut ids, &mut permids)
 }

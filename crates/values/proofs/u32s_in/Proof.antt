@@ -1,81 +1,29 @@
--- `u32s_in` meets its contract: the list is cleared, and again where it is refused.
+-- `u32s_in` meets its contract: the list is cleared, and so it is zeros when the numbers are read.
 use borrow.Author.Needs.{needs}
-use Rattle.values.proofs.Filled.{u32s-given, u32s-none}
-use Rattle.values.specs.Values.{spans}
 use lib.ListN.{length}
+use Rattle.values.proofs.Padded.{cleared-zeros, cleared-pad}
 use Rattle.values.proofs.u32s_in.Statement.{statement}
 use Rattle.values.proofs.u32s_in.Tie as tie
-
-span-in-requires : tie.Need-span-in-requires
-span-in-requires c κs = search needs
 
 clear-requires : tie.Need-clear-requires
 clear-requires c κs = search needs
 
-sub-parse-u32-list : tie.Need-sub-parse-u32-list
-sub-parse-u32-list c = search needs
-
-part-parse-u32-list-start : tie.Need-part-parse-u32-list-start
-part-parse-u32-list-start c = search needs
-
-part-parse-u32-list-end : tie.Need-part-parse-u32-list-end
-part-parse-u32-list-end c = search needs
-
-parse-u32-list-requires : tie.Need-parse-u32-list-requires
-parse-u32-list-requires c κs = search needs
-
-enum-known-n : tie.Need-enum-known-n
-enum-known-n c = search needs
-
-enum-told : tie.Need-enum-told
-enum-told c = search needs
-
-clear-requires-2 : tie.Need-clear-requires-2
-clear-requires-2 c κs = search needs
+read-u32s-requires : tie.Need-read-u32s-requires
+read-u32s-requires c κs =
+    let clear = c .before .before .before in
+    let s = clear .before .before .before .before .before .before in
+    (s .pre, cleared-zeros (length (s .args .dst .now)) (clear .clear .ensures))
 
 same-length : tie.Need-same-length
 same-length c = search needs
 
 returns : tie.Need-returns
 returns c =
-    let again = c .before .before in
-    let told = again .before .before in
-    let read = told .before .before .before .before in
-    let clear = read .before .before .before .before .before in
-    let span = clear .before .before in
-    let s = span .before .before .before .before .before in
-    let p = read .parse-u32-list .ensures in
-    u32s-none (s .args .f .now) (spans (s .args .starts .now) (s .args .ends .now)) (s .args .key) (span .span-in .result) (span .span-in .ensures .0)
-    (length (s .args .dst .now)) (clear .clear .ensures) (p .1) (rw (told .enum-told .given .1) at (p .0)) (again .clear2 .ensures)
-
-same-length-2 : tie.Need-same-length-2
-same-length-2 c = search needs
-
-returns-2 : tie.Need-returns-2
-returns-2 c =
-    let known = c .before in
-    let read = known .before .before .before .before in
-    let clear = read .before .before .before .before .before in
-    let span = clear .before .before in
-    let s = span .before .before .before .before .before in
-    let p = read .parse-u32-list .ensures in
-    u32s-given (s .args .f .now) (spans (s .args .starts .now) (s .args .ends .now)) (s .args .key) (span .span-in .result) (span .span-in .ensures .0)
-    (length (s .args .dst .now)) (clear .clear .ensures) (p .1) (rw (known .n .given .1) at (p .0))
+    let read = c .before .before in
+    let clear = read .before .before .before .before in
+    let s = clear .before .before .before .before .before .before in
+    let r = read .read-u32s .ensures in
+    (r .0, cleared-pad (length (s .args .dst .now)) (clear .clear .ensures) _ (r .1))
 
 pub u32s-in-spec : {M : Type 1} → statement M
-u32s-in-spec =
-    tie.close
-    (tie.spec
-    span-in-requires
-    clear-requires
-    sub-parse-u32-list
-    part-parse-u32-list-start
-    part-parse-u32-list-end
-    parse-u32-list-requires
-    enum-known-n
-    enum-told
-    clear-requires-2
-    same-length
-    returns
-    same-length-2
-    returns-2)
+u32s-in-spec = tie.close (tie.spec clear-requires read-u32s-requires same-length returns)

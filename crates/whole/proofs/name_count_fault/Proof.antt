@@ -16,49 +16,36 @@ u32-in-requires-2 c κs = search needs
 cast-nsuppvars : tie.Need-cast-nsuppvars
 cast-nsuppvars c = search needs
 
-count-names-requires : tie.Need-count-names-requires
-count-names-requires c κs = search needs
-
 given-fault-requires : tie.Need-given-fault-requires
 given-fault-requires c κs = search needs
 
 returns : tie.Need-returns
 returns c =
-    let n = c .before .before .before in
-    ordered-wrong _ _ (n .before .u32-in .ensures) (n .u32-in2 .ensures) (c .before .before .count-names .ensures)
-    (c .before .given-fault .ensures)
-    (c .if1 .taken)
-
-count-names-requires-2 : tie.Need-count-names-requires-2
-count-names-requires-2 c κs = search needs
+    let n = c .before .before in
+    ordered-wrong _ _ (n .before .before .before .before .before .pre .1) (n .before .u32-in .ensures) (n .u32-in2 .ensures) (c .before .given-fault .ensures) (c .if1 .taken)
 
 given-fault-requires-2 : tie.Need-given-fault-requires-2
 given-fault-requires-2 c κs = search needs
 
 returns-2 : tie.Need-returns-2
 returns-2 c =
-    let o = c .before .before .before in
-    let n = o .before .before .before in
-    supp-wrong _ _ (n .before .u32-in .ensures) (n .u32-in2 .ensures) (o .before .before .count-names .ensures)
-    (o .before .given-fault .ensures)
-    (o .if1 .left) (c .before .before .count-names2 .ensures) (c .before .given-fault2 .ensures) (c .if2 .taken)
-
-count-names-requires-3 : tie.Need-count-names-requires-3
-count-names-requires-3 c κs = search needs
+    let o = c .before .before in
+    let n = o .before .before in
+    supp-wrong _ _ (n .before .before .before .before .before .pre .1) (n .before .u32-in .ensures) (n .u32-in2 .ensures) (o .before .given-fault .ensures) (o .if1 .left)
+    (c .before .given-fault2 .ensures)
+    (c .if2 .taken)
 
 given-fault-requires-3 : tie.Need-given-fault-requires-3
 given-fault-requires-3 c κs = search needs
 
 returns-3 : tie.Need-returns-3
 returns-3 c =
-    let s = c .before .before in
-    let o = s .before .before .before in
-    let n = o .before .before .before in
-    counts-pass _ _ (n .before .u32-in .ensures) (n .u32-in2 .ensures) (o .before .before .count-names .ensures)
-    (o .before .given-fault .ensures)
-    (o .if1 .left) (s .before .before .count-names2 .ensures) (s .before .given-fault2 .ensures) (s .if2 .left)
-    (c .before .count-names3 .ensures)
-    (c .given-fault3 .ensures)
+    let s = c .before in
+    let o = s .before .before in
+    let n = o .before .before in
+    counts-pass _ _ (n .before .before .before .before .before .pre .1) (n .before .u32-in .ensures) (n .u32-in2 .ensures) (o .before .given-fault .ensures) (o .if1 .left)
+    (s .before .given-fault2 .ensures)
+    (s .if2 .left) (c .given-fault3 .ensures)
 
 pub name-count-fault-spec : {M : Type 1} → statement M
 name-count-fault-spec =
@@ -68,12 +55,9 @@ name-count-fault-spec =
     cast-nvars
     u32-in-requires-2
     cast-nsuppvars
-    count-names-requires
     given-fault-requires
     returns
-    count-names-requires-2
     given-fault-requires-2
     returns-2
-    count-names-requires-3
     given-fault-requires-3
     returns-3)

@@ -1,10 +1,11 @@
--- `whole_fault` meets its contract.
-use mathlib.Core.Path.{sym, _∙_}
+-- `whole_fault` meets its contract: the local lists have room for as many entries as there are support variables.
+use mathlib.Core.Path.{refl}
 use borrow.Author.Needs.{needs}
 use Rattle.values.specs.Values.{spans}
-use Rattle.whole.proofs.Numbered.{few-vars}
-use Rattle.whole.proofs.Supporting.{supported}
-use Rattle.whole.proofs.Checked.{NumbersPass, number-refused, numbers-pass, support-refused, count-refused, name-refused, names-passed}
+use Rattle.whole.specs.Whole.{NumbersPass}
+use Rattle.whole.proofs.Numbered.{few-supp}
+use Rattle.whole.proofs.Supporting.{room-in}
+use Rattle.whole.proofs.Checked.{number-refused, numbers-pass}
 use Rattle.whole.proofs.whole_fault.Statement.{statement}
 use Rattle.whole.proofs.whole_fault.Tie as tie
 
@@ -23,58 +24,49 @@ number-fault-requires c κs = search needs
 returns : tie.Need-returns
 returns c =
     let n = c .before .before in
-    number-refused _ _ (n .before .before .u32-in .ensures) (n .before .u64-in .ensures) (n .u32-in2 .ensures)
-    (c .before .number-fault .ensures)
-    (c .if1 .taken)
+    number-refused _ _ (n .before .before .u32-in .ensures) (n .before .u64-in .ensures) (n .u32-in2 .ensures) (c .before .number-fault .ensures) (c .if1 .taken)
 
--- Where the numbers pass: the function's entry.
+-- Where the numbers pass: the function's entry, and that they do.
 abbrev start : tie.Else1 → tie.Start
 start c = c .before .before .before .before .before .before .before .before
 
--- the numbers pass
 numbers : (c : tie.Else1) → NumbersPass (start c .args .f .now) (spans (start c .args .starts .now) (start c .args .ends .now))
 numbers c =
     let n = c .before .before in
-    numbers-pass _ _ (n .before .before .u32-in .ensures) (n .before .u64-in .ensures) (n .u32-in2 .ensures)
-    (c .before .number-fault .ensures)
-    (c .if1 .left)
+    numbers-pass _ _ (n .before .before .u32-in .ensures) (n .before .u64-in .ensures) (n .u32-in2 .ensures) (c .before .number-fault .ensures) (c .if1 .left)
 
-support-fault-requires : tie.Need-support-fault-requires
-support-fault-requires c κs = (start c .pre, few-vars _ _ _ (numbers c))
+cast-if2 : tie.Need-cast-if2
+cast-if2 c = search needs
+
+slice-aggregate-lists-fault : tie.Need-slice-aggregate-lists-fault
+slice-aggregate-lists-fault c = refl
+
+slice-aggregate-lists-fault-2 : tie.Need-slice-aggregate-lists-fault-2
+slice-aggregate-lists-fault-2 c = refl
+
+lists-fault-requires : tie.Need-lists-fault-requires
+lists-fault-requires c κs =
+    let e = c .before .before .before in
+    let room = room-in 256 (e .before .before .u32-in2 .ensures) (c .before .before .if2 .taken) in
+    (start e .pre, (numbers e, (room, room)))
 
 returns-2 : tie.Need-returns-2
-returns-2 c = support-refused _ _ (numbers (c .before .before)) (c .before .support-fault .ensures) (c .if2 .taken)
+returns-2 c = c .before .before .lists-fault .ensures
 
-name-count-fault-requires : tie.Need-name-count-fault-requires
-name-count-fault-requires c κs = search needs
+slice-aggregate-lists-fault-3 : tie.Need-slice-aggregate-lists-fault-3
+slice-aggregate-lists-fault-3 c = refl
+
+slice-aggregate-lists-fault-4 : tie.Need-slice-aggregate-lists-fault-4
+slice-aggregate-lists-fault-4 c = refl
+
+lists-fault-requires-2 : tie.Need-lists-fault-requires-2
+lists-fault-requires-2 c κs =
+    let e = c .before .before .before in
+    let room = room-in 4096 refl (few-supp _ _ _ (numbers e)) in
+    (start e .pre, (numbers e, (room, room)))
 
 returns-3 : tie.Need-returns-3
-returns-3 c =
-    count-refused _ _ (numbers (c .before .before .before .before)) (c .before .before .before .support-fault .ensures)
-    (c .before .before .if2 .left) (c .before .name-count-fault .ensures)
-    (c .if3 .taken)
-
-name-fault-requires : tie.Need-name-fault-requires
-name-fault-requires c κs =
-    let s = c .before .before in
-    (start (s .before .before) .pre, supported _ _ (sym (s .before .support-fault .ensures) ∙ s .if2 .left))
-
-returns-4 : tie.Need-returns-4
-returns-4 c =
-    name-refused _ _ (numbers (c .before .before .before .before .before .before))
-    (c .before .before .before .before .before .support-fault .ensures) (c .before .before .before .before .if2 .left)
-    (c .before .before .before .name-count-fault .ensures)
-    (c .before .before .if3 .left) (c .before .name-fault .ensures) (c .if4 .taken)
-
-root-fault-requires : tie.Need-root-fault-requires
-root-fault-requires c κs = search needs
-
-returns-5 : tie.Need-returns-5
-returns-5 c =
-    names-passed _ _ (numbers (c .before .before .before .before .before .before .before))
-    (c .before .before .before .before .before .before .support-fault .ensures) (c .before .before .before .before .before .if2 .left)
-    (c .before .before .before .before .name-count-fault .ensures)
-    (c .before .before .before .if3 .left) (c .before .before .name-fault .ensures) (c .before .if4 .left) (c .root-fault .ensures)
+returns-3 c = c .before .before .lists-fault2 .ensures
 
 pub whole-fault-spec : {M : Type 1} → statement M
 whole-fault-spec =
@@ -85,11 +77,12 @@ whole-fault-spec =
     u32-in-requires-2
     number-fault-requires
     returns
-    support-fault-requires
+    cast-if2
+    slice-aggregate-lists-fault
+    slice-aggregate-lists-fault-2
+    lists-fault-requires
     returns-2
-    name-count-fault-requires
-    returns-3
-    name-fault-requires
-    returns-4
-    root-fault-requires
-    returns-5)
+    slice-aggregate-lists-fault-3
+    slice-aggregate-lists-fault-4
+    lists-fault-requires-2
+    returns-3)

@@ -46,7 +46,7 @@ slice-aggregate-gather-names : tie.Need-slice-aggregate-gather-names
 slice-aggregate-gather-names c = ordered-long _ _ (c .before .before .before .before .before .before .before .before .before .before .before .before .before .before .before .before .before .before .before .before .pre .1) (c .before .before .before .before .before .before .u32-in .ensures) (c .before .before .ordered-in .ensures)
 
 gather-names-requires : tie.Need-gather-names-requires
-gather-names-requires c κs = (c .before .before .before .before .before .before .before .before .before .before .before .before .before .before .before .before .before .before .before .before .before .before .pre .0, omega arith)
+gather-names-requires c κs = ((c .before .before .before .before .before .before .before .before .before .before .before .before .before .before .before .before .before .before .before .before .before .before .pre .0, omega arith), c .before .before .before .before .before .before .before .count-names .ensures)
 
 same-length-3 : tie.Need-same-length-3
 same-length-3 c = search needs
@@ -83,7 +83,7 @@ slice-aggregate-gather-names-2 : tie.Need-slice-aggregate-gather-names-2
 slice-aggregate-gather-names-2 c = supp-long _ _ (c .before .before .before .before .before .before .before .before .before .before .before .before .before .before .before .before .before .before .before .before .before .before .pre .1) (c .before .before .before .before .before .before .before .before .u32-in .ensures) (c .before .before .supp-in .ensures)
 
 gather-names-requires-2 : tie.Need-gather-names-requires-2
-gather-names-requires-2 c κs = (c .before .before .before .before .before .before .before .before .before .before .before .before .before .before .before .before .before .before .before .before .before .before .before .before .pre .0, omega arith)
+gather-names-requires-2 c κs = ((c .before .before .before .before .before .before .before .before .before .before .before .before .before .before .before .before .before .before .before .before .before .before .before .before .pre .0, omega arith), c .before .before .before .before .before .before .before .count-names2 .ensures)
 
 same-length-5 : tie.Need-same-length-5
 same-length-5 c = search needs

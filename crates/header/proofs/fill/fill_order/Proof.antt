@@ -1,7 +1,9 @@
 -- `fill_order` meets its contract: the ids and the permids are the fronts of the lists that they were read into.
+use native.Mathlib.Omega.{arith}
 use borrow.Author.Needs.{needs}
 use lib.ListN.{length}
 use Rattle.fields.specs.declared.keys.Key.the-variants.{Ids, Permids}
+use Rattle.checks.proofs.Free.{zeros-whole}
 use Rattle.values.proofs.Fronts.{numbers-fit, numbers-long, numbers-short}
 use Rattle.header.proofs.Filling.{order-laid}
 use Rattle.header.proofs.fill.fill_order.Statement.{statement}
@@ -10,43 +12,43 @@ use Rattle.header.proofs.fill.fill_order.Tie as tie
 u32-in-requires : tie.Need-u32-in-requires
 u32-in-requires c κs = search needs
 
-slice-aggregate-u32s-in : tie.Need-slice-aggregate-u32s-in
-slice-aggregate-u32s-in c = search needs
+slice-aggregate-read-u32s : tie.Need-slice-aggregate-read-u32s
+slice-aggregate-read-u32s c = search needs
 
-u32s-in-requires : tie.Need-u32s-in-requires
-u32s-in-requires c κs = search needs
+read-u32s-requires : tie.Need-read-u32s-requires
+read-u32s-requires c κs = ((c .before .before .before .before .before .before .pre .0, omega arith), zeros-whole 4096)
 
-slice-aggregate-u32s-in-2 : tie.Need-slice-aggregate-u32s-in-2
-slice-aggregate-u32s-in-2 c = search needs
+slice-aggregate-read-u32s-2 : tie.Need-slice-aggregate-read-u32s-2
+slice-aggregate-read-u32s-2 c = search needs
 
-u32s-in-requires-2 : tie.Need-u32s-in-requires-2
-u32s-in-requires-2 c κs = search needs
+read-u32s-requires-2 : tie.Need-read-u32s-requires-2
+read-u32s-requires-2 c κs = ((c .before .before .before .before .before .before .before .before .before .pre .0, omega arith), zeros-whole 4096)
 
 clear-requires : tie.Need-clear-requires
 clear-requires c κs = search needs
 
 array-share-prefix-ids : tie.Need-array-share-prefix-ids
-array-share-prefix-ids c = numbers-fit _ _ Ids (c .before .before .before .before .before .before .before .before .u32s-in .ensures)
+array-share-prefix-ids c = numbers-fit _ _ Ids (c .before .before .before .before .before .before .before .before .read-u32s .ensures)
 
 slice-aggregate-arrange : tie.Need-slice-aggregate-arrange
-slice-aggregate-arrange c = numbers-long _ _ Ids (c .before .before .before .before .before .before .before .before .before .u32s-in .ensures)
+slice-aggregate-arrange c = numbers-long _ _ Ids (c .before .before .before .before .before .before .before .before .before .read-u32s .ensures)
 
 array-share-prefix-permids : tie.Need-array-share-prefix-permids
-array-share-prefix-permids c = numbers-fit _ _ Permids (c .before .before .before .before .before .before .u32s-in2 .ensures)
+array-share-prefix-permids c = numbers-fit _ _ Permids (c .before .before .before .before .before .before .read-u32s2 .ensures)
 
 slice-aggregate-arrange-2 : tie.Need-slice-aggregate-arrange-2
-slice-aggregate-arrange-2 c = numbers-long _ _ Permids (c .before .before .before .before .before .before .before .u32s-in2 .ensures)
+slice-aggregate-arrange-2 c = numbers-long _ _ Permids (c .before .before .before .before .before .before .before .read-u32s2 .ensures)
 
 arrange-requires : tie.Need-arrange-requires
-arrange-requires c κs = (rw (c .before .before .before .before .before .before .before .before .before .before .before .before .before .u32-in .ensures) (c .before .before .before .before .before .before .before .before .before .before .before .before .before .before .before .before .before .before .pre .1 .few), numbers-short _ _ Permids (c .before .before .before .before .before .before .before .before .u32s-in2 .ensures))
+arrange-requires c κs = (rw (c .before .before .before .before .before .before .before .before .before .before .before .before .before .u32-in .ensures) (c .before .before .before .before .before .before .before .before .before .before .before .before .before .before .before .before .before .before .pre .1 .few), numbers-short _ _ Permids (c .before .before .before .before .before .before .before .before .read-u32s2 .ensures))
 
 same-length : tie.Need-same-length
 same-length c = search needs
 
 returns : tie.Need-returns
 returns c =
-    let i = c .before .before .before .before .before .before .before .before .before .before .before .before .before .before .u32s-in .ensures in
-    let p = c .before .before .before .before .before .before .before .before .before .before .before .u32s-in2 .ensures in
+    let i = c .before .before .before .before .before .before .before .before .before .before .before .before .before .before .read-u32s .ensures in
+    let p = c .before .before .before .before .before .before .before .before .before .before .before .read-u32s2 .ensures in
     order-laid _ _ (c .before .before .before .before .before .before .before .before .before .before .before .before .before .before .before .before .u32-in .ensures) i p (length (c .before .before .before .before .before .before .before .before .before .before .before .before .before .before .before .before .before .before .before .before .before .args .dst .now)) (c .before .before .before .before .before .before .before .before .clear .ensures) (c .before .before .arrange .ensures)
 
 pub fill-order-spec : {M : Type 1} → statement M
@@ -54,10 +56,10 @@ fill-order-spec =
     tie.close
     (tie.spec
     u32-in-requires
-    slice-aggregate-u32s-in
-    u32s-in-requires
-    slice-aggregate-u32s-in-2
-    u32s-in-requires-2
+    slice-aggregate-read-u32s
+    read-u32s-requires
+    slice-aggregate-read-u32s-2
+    read-u32s-requires-2
     clear-requires
     array-share-prefix-ids
     slice-aggregate-arrange

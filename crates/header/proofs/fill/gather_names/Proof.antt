@@ -1,63 +1,62 @@
--- `gather_names` meets its contract: the starts and the lengths of the names are the fronts of the lists that they were read into.
-use borrow.Author.Needs.{needs}
-use Rattle.values.proofs.Fronts.{starts-fit, lens-fit, starts-long, lens-long}
-use Rattle.header.proofs.Filling.{starts-laid, lens-laid}
+-- `gather_names` meets its contract: the local lists have room for the names.
+use mathlib.Core.Path.{refl}
+use Rattle.whole.proofs.Agreeing.{names-room, few-names}
 use Rattle.header.proofs.fill.gather_names.Statement.{statement}
 use Rattle.header.proofs.fill.gather_names.Tie as tie
 
-slice-aggregate-names-in : tie.Need-slice-aggregate-names-in
-slice-aggregate-names-in c = search needs
+slice-aggregate-gather-in : tie.Need-slice-aggregate-gather-in
+slice-aggregate-gather-in c = refl
 
-slice-aggregate-names-in-2 : tie.Need-slice-aggregate-names-in-2
-slice-aggregate-names-in-2 c = search needs
+slice-aggregate-gather-in-2 : tie.Need-slice-aggregate-gather-in-2
+slice-aggregate-gather-in-2 c = refl
 
-names-in-requires : tie.Need-names-in-requires
-names-in-requires c κs = search needs
-
-array-share-prefix-from : tie.Need-array-share-prefix-from
-array-share-prefix-from c = starts-fit _ _ _ (c .before .before .names-in .ensures)
-
-slice-aggregate-gather : tie.Need-slice-aggregate-gather
-slice-aggregate-gather c = starts-long _ _ _ (c .before .before .before .names-in .ensures)
-
-gather-requires : tie.Need-gather-requires
-gather-requires c κs = search needs
-
-array-share-prefix-from-lens : tie.Need-array-share-prefix-from-lens
-array-share-prefix-from-lens c = lens-fit _ _ _ (c .before .before .before .before .before .before .before .names-in .ensures)
-
-slice-aggregate-gather-2 : tie.Need-slice-aggregate-gather-2
-slice-aggregate-gather-2 c = lens-long _ _ _ (c .before .before .before .before .before .before .before .before .names-in .ensures)
-
-gather-requires-2 : tie.Need-gather-requires-2
-gather-requires-2 c κs = search needs
+gather-in-requires : tie.Need-gather-in-requires
+gather-in-requires c κs =
+    let p = c .before .before .before .before .before .before .before .before .before .before .before .pre in
+    (p .0, names-room _ _ _ 256 (p .1) (c .before .before .before .before .if1 .taken))
 
 same-length : tie.Need-same-length
-same-length c = search needs
+same-length c = c .before .before .before .before .before .before .gather-in .kept .1 .1 .1 .1 .1 .0
 
 same-length-2 : tie.Need-same-length-2
-same-length-2 c = search needs
+same-length-2 c = c .before .before .before .before .before .before .gather-in .kept .1 .1 .1 .1 .1 .1 .0
 
 returns : tie.Need-returns
-returns c =
-    let n = c .before .before .before .before .before .before .before .before .before .before .before .before .names-in .ensures in (
-      starts-laid _ _ _ n (c .before .before .before .before .before .before .before .before .before .before .before .before .before .before .before .before .before .before .before .before .before .args .seats .now) _ (c .before .before .before .before .before .before .before .gather .ensures),
-      lens-laid _ _ _ n (c .before .before .before .before .before .before .before .before .before .before .before .before .before .before .before .before .before .before .before .before .before .args .seats .now) _ (c .before .before .gather2 .ensures),
-    )
+returns c = c .before .before .before .before .before .before .gather-in .ensures
+
+slice-aggregate-gather-in-3 : tie.Need-slice-aggregate-gather-in-3
+slice-aggregate-gather-in-3 c = refl
+
+slice-aggregate-gather-in-4 : tie.Need-slice-aggregate-gather-in-4
+slice-aggregate-gather-in-4 c = refl
+
+gather-in-requires-2 : tie.Need-gather-in-requires-2
+gather-in-requires-2 c κs =
+    let p = c .before .before .before .before .before .before .before .before .before .before .before .pre in
+    (p .0, names-room _ _ _ 4096 (p .1) (few-names _ _ _ (p .1)))
+
+same-length-3 : tie.Need-same-length-3
+same-length-3 c = c .before .before .before .before .before .before .gather-in2 .kept .1 .1 .1 .1 .1 .0
+
+same-length-4 : tie.Need-same-length-4
+same-length-4 c = c .before .before .before .before .before .before .gather-in2 .kept .1 .1 .1 .1 .1 .1 .0
+
+returns-2 : tie.Need-returns-2
+returns-2 c = c .before .before .before .before .before .before .gather-in2 .ensures
 
 pub gather-names-spec : {M : Type 1} → statement M
 gather-names-spec =
     tie.close
     (tie.spec
-    slice-aggregate-names-in
-    slice-aggregate-names-in-2
-    names-in-requires
-    array-share-prefix-from
-    slice-aggregate-gather
-    gather-requires
-    array-share-prefix-from-lens
-    slice-aggregate-gather-2
-    gather-requires-2
+    slice-aggregate-gather-in
+    slice-aggregate-gather-in-2
+    gather-in-requires
     same-length
     same-length-2
-    returns)
+    returns
+    slice-aggregate-gather-in-3
+    slice-aggregate-gather-in-4
+    gather-in-requires-2
+    same-length-3
+    same-length-4
+    returns-2)

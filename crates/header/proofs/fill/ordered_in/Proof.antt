@@ -1,6 +1,8 @@
 -- `ordered_in` meets its contract: the ids and the permids are the fronts of the lists that they were read into.
+use native.Mathlib.Omega.{arith}
 use borrow.Author.Needs.{needs}
 use Rattle.fields.specs.declared.keys.Key.the-variants.{Ids, Permids}
+use Rattle.checks.proofs.Free.{zeros-whole}
 use Rattle.values.proofs.Fronts.{numbers-fit, numbers-long, numbers-short}
 use Rattle.header.proofs.Filling.{permids-below, ordered-laid}
 use Rattle.header.proofs.fill.ordered_in.Statement.{statement}
@@ -9,34 +11,34 @@ use Rattle.header.proofs.fill.ordered_in.Tie as tie
 u32-in-requires : tie.Need-u32-in-requires
 u32-in-requires c κs = search needs
 
-slice-aggregate-u32s-in : tie.Need-slice-aggregate-u32s-in
-slice-aggregate-u32s-in c = search needs
+slice-aggregate-read-u32s : tie.Need-slice-aggregate-read-u32s
+slice-aggregate-read-u32s c = search needs
 
-u32s-in-requires : tie.Need-u32s-in-requires
-u32s-in-requires c κs = search needs
+read-u32s-requires : tie.Need-read-u32s-requires
+read-u32s-requires c κs = ((c .before .before .before .before .before .before .pre .0, omega arith), zeros-whole 4096)
 
-slice-aggregate-u32s-in-2 : tie.Need-slice-aggregate-u32s-in-2
-slice-aggregate-u32s-in-2 c = search needs
+slice-aggregate-read-u32s-2 : tie.Need-slice-aggregate-read-u32s-2
+slice-aggregate-read-u32s-2 c = search needs
 
-u32s-in-requires-2 : tie.Need-u32s-in-requires-2
-u32s-in-requires-2 c κs = search needs
+read-u32s-requires-2 : tie.Need-read-u32s-requires-2
+read-u32s-requires-2 c κs = ((c .before .before .before .before .before .before .before .before .before .pre .0, omega arith), zeros-whole 4096)
 
 array-share-prefix-ids : tie.Need-array-share-prefix-ids
-array-share-prefix-ids c = numbers-fit _ _ Ids (c .before .before .before .before .u32s-in .ensures)
+array-share-prefix-ids c = numbers-fit _ _ Ids (c .before .before .before .before .read-u32s .ensures)
 
 slice-aggregate-ordered-seats : tie.Need-slice-aggregate-ordered-seats
-slice-aggregate-ordered-seats c = numbers-long _ _ Ids (c .before .before .before .before .before .u32s-in .ensures)
+slice-aggregate-ordered-seats c = numbers-long _ _ Ids (c .before .before .before .before .before .read-u32s .ensures)
 
 array-share-prefix-permids : tie.Need-array-share-prefix-permids
-array-share-prefix-permids c = numbers-fit _ _ Permids (c .before .before .u32s-in2 .ensures)
+array-share-prefix-permids c = numbers-fit _ _ Permids (c .before .before .read-u32s2 .ensures)
 
 slice-aggregate-ordered-seats-2 : tie.Need-slice-aggregate-ordered-seats-2
-slice-aggregate-ordered-seats-2 c = numbers-long _ _ Permids (c .before .before .before .u32s-in2 .ensures)
+slice-aggregate-ordered-seats-2 c = numbers-long _ _ Permids (c .before .before .before .read-u32s2 .ensures)
 
 ordered-seats-requires : tie.Need-ordered-seats-requires
 ordered-seats-requires c κs =
-    let i = c .before .before .before .before .before .before .before .u32s-in .ensures in
-    let p = c .before .before .before .before .u32s-in2 .ensures in
+    let i = c .before .before .before .before .before .before .before .read-u32s .ensures in
+    let p = c .before .before .before .before .read-u32s2 .ensures in
     let s = c .before .before .before .before .before .before .before .before .before .before .before .before .before .before .pre .1 in
     ((rw (c .before .before .before .before .before .before .before .before .before .u32-in .ensures) (s .few), numbers-short _ _ Ids i, numbers-short _ _ Permids p), permids-below _ _ s p)
 
@@ -45,8 +47,8 @@ same-length c = search needs
 
 returns : tie.Need-returns
 returns c =
-    let i = c .before .before .before .before .before .before .before .before .before .before .u32s-in .ensures in
-    let p = c .before .before .before .before .before .before .before .u32s-in2 .ensures in
+    let i = c .before .before .before .before .before .before .before .before .before .before .read-u32s .ensures in
+    let p = c .before .before .before .before .before .before .before .read-u32s2 .ensures in
     ordered-laid _ _ (c .before .before .before .before .before .before .before .before .before .before .before .before .u32-in .ensures) i p _ (c .before .before .ordered-seats .ensures)
 
 pub ordered-in-spec : {M : Type 1} → statement M
@@ -54,10 +56,10 @@ ordered-in-spec =
     tie.close
     (tie.spec
     u32-in-requires
-    slice-aggregate-u32s-in
-    u32s-in-requires
-    slice-aggregate-u32s-in-2
-    u32s-in-requires-2
+    slice-aggregate-read-u32s
+    read-u32s-requires
+    slice-aggregate-read-u32s-2
+    read-u32s-requires-2
     array-share-prefix-ids
     slice-aggregate-ordered-seats
     array-share-prefix-permids

@@ -33,18 +33,17 @@ module _ (file list : List ℕ) (p : Parts) (σ : Store) where
   this = loadInto file list p
 
   -- what is found before the header: the lists, then the store, then the input's length
-  module _ (lists found before : ℕ) (of-lists : lists ≡ listsFault (lengthsOf p)) (of-store : found ≡ storeAfter lists σ)
-      (of-length : before ≡ head.lengthAfter found (length file)) where
-    before-is : before ≡ beforeHeader this σ
-    unfolding beforeHeader storeAfter head.lengthAfter
-    before-is =
-        of-length
-        ∙ ap (λ n. firstFault (n ∷ lengthFault file ∷ [])) (of-store ∙ ap (λ n. firstFault (n ∷ storeFault σ ∷ [])) of-lists)
-        ∙ three-first (listsFault (lengthsOf p)) (storeFault σ) (lengthFault file)
+  pub before-is : (lists found before : ℕ) → lists ≡ listsFault (lengthsOf p) → found ≡ storeAfter lists σ
+      → before ≡ head.lengthAfter found (length file) → before ≡ beforeHeader this σ
+  unfolding beforeHeader storeAfter head.lengthAfter
+  before-is lists found before l s e =
+      e ∙ ap (λ n. firstFault (n ∷ lengthFault file ∷ [])) (s ∙ ap (λ n. firstFault (n ∷ storeFault σ ∷ [])) l)
+      ∙ three-first (listsFault (lengthsOf p)) (storeFault σ) (lengthFault file)
 
+  module _ (before : ℕ) (s : before ≡ beforeHeader this σ) where
     head-after : head.loadOf before file ≡ headerOf this σ
     unfolding headerOf
-    head-after = ap (λ n. head.loadOf n file) before-is
+    head-after = ap (λ n. head.loadOf n file) s
 
     -- the answers after the header, after scratch, and after the level list
     module _ (a m b : Answer) (q : a ≡ head.loadOf before file .answer) (t : m ≡ scratched (length (p .edges)) (length (p .seats)) a)

@@ -1,36 +1,26 @@
-use mathlib.Core.Path.{_≡_, refl, sym, ap, _∙_}
-use Prim.Native.Nat.{ℕ, zero, suc, _+_, _-_, _*_, _≤_, _<_, _^_}
-use native.Mathlib.Omega.{arith}
-use lib.ListN.{length, getD, drop, take, set}
+-- `check_scratch` meets its contract.
+use Rattle.dddmp.proofs.StageLaws.{few-edges, few-seats, enough-scratch, scratch-handed}
 use borrow.Author.Needs.{needs}
 use Rattle.dddmp.proofs.stages.check_scratch.Statement.{statement}
 use Rattle.dddmp.proofs.stages.check_scratch.Tie as tie
-use Rattle.dddmp.proofs.stages.check_scratch.Reads as reads
-use Rattle.dddmp.proofs.stages.check_scratch.Lts as lts
 
--- src/stages.rt:71:24
 enum-known-read : tie.Need-enum-known-read
 enum-known-read c = search needs
 
--- src/stages.rt:73:17
 returns : tie.Need-returns
-returns c = ?
+returns c = few-edges _ _ _ _ (c .before .before .before .read .given .1) (c .if1 .taken)
 
--- src/stages.rt:76:17
 returns-2 : tie.Need-returns-2
-returns-2 c = ?
+returns-2 c = few-seats _ _ _ _ (c .before .before .before .before .before .read .given .1) (c .before .before .if1 .left) (c .if2 .taken)
 
--- src/stages.rt:80:25
 enum-known-read-2 : tie.Need-enum-known-read-2
 enum-known-read-2 c = search needs
 
--- src/stages.rt:67:1
 returns-3 : tie.Need-returns-3
-returns-3 c = ?
+returns-3 c = enough-scratch _ _ _ _ (c .before .before .before .before .before .read .given .1) (c .before .before .if1 .left) (c .if2 .left)
 
--- src/stages.rt:67:1
 returns-4 : tie.Need-returns-4
-returns-4 c = ?
+returns-4 c = scratch-handed _ _ _ _ _ (c .before .read2 .given .1)
 
 pub check-scratch-spec : {M : Type 1} → statement M
 check-scratch-spec =

@@ -1,7 +1,6 @@
 // The call on lent lists. They are filled beforehand, so that what the call left as it was is seen.
 ghost use Prim.Native.Nat.{_+_, _≤_};
-ghost use mathlib.Core.Path.{_≡_};
-ghost use Rattle.codes.specs.Limits.{inputLimit};
+ghost use Rattle.header.specs.Header.{MayRead};
 use crate::answer;
 use edges::Edge;
 use header::before;
@@ -55,14 +54,14 @@ fn after_edges(stored: &[u8], from: usize, list: &[Edge]) -> usize {
 }
 
 // What is found before the header is read: lists that are too short, then what the case says, then the length of the input.
-fn found_before(vars: &[usize], roots: &[usize], found: u8, len: usize) -> u8
-    ensures { λ r. ⌜ r ≡ 0 → len ≤ inputLimit ⌝ }
+fn found_before(vars: &[usize], roots: &[usize], found: u8, f: &[u8]) -> u8
+    ensures { λ r. ⌜ MayRead r (now (f .entry)) ⌝ }
 {
     let lists = before::lists_fault(vars, roots);
     if lists != 0 {
         return lists;
     }
-    before::length_fault(found, len)
+    before::length_fault(found, f.len())
 }
 
 // Whether the call gives the stored answer, and leaves the stored lists.
@@ -91,7 +90,7 @@ fn leaves(
         ],
         &[roots.len(), rootnames.len(), rootlens.len()],
         found,
-        f.len(),
+        f,
     );
     let loaded = DumpHeader::load(
         f,

@@ -35,7 +35,7 @@ use Rattle.store.specs.Keeps.{keeps, says-no, is-keeps, rules-keeps}
 use Rattle.store.specs.Empty.{empty}
 use Rattle.store.proofs.Empty.{empty-keeps}
 use Rattle.header.specs.Header as head
-use Rattle.header.specs.Header.{tableOf, answerOf, atLeast, beforeReading}
+use Rattle.header.specs.Header.{tableOf, readOf, atLeast}
 use Rattle.header.specs.Examples.{bytesFrom, exampleLoaded}
 use Rattle.lines.specs.Line.{terminal, inner, deeper, childFault}
 use Rattle.lines.specs.Decode.{decodeFrom}
@@ -43,8 +43,8 @@ use Rattle.lines.specs.Says.{saysBy, says}
 use Rattle.import_ascii.specs.Text.{wordFrom, numbered, afterExtra, variableWord, textLine, textLineAt}
 use Rattle.import.specs.Build.{edgeFor, addLine, buildOn, build}
 use Rattle.import.specs.Import.{lineBy, linesIn, linesAnswer, blankAll, endsWell, importOf}
-use Rattle.import.specs.List.{listFits, beforeNodes}
-use Rattle.calls.specs.Load.{Load, refusedAt, variableLists, rootLists, headerOf, setupOf, nodesOf, withHeader, loadOf}
+use Rattle.import.specs.List.{listFits}
+use Rattle.calls.specs.Load.{Load, refusedAt, listsFault, lengthFault, beforeHeader, scratchFault, listFault, beforeNodes, headerOf, setupOf, nodesOf, withHeader, loadOf}
 use Rattle.calls.specs.Roots.{fileSays}
 use Rattle.calls.specs.Examples.{bare, bareHeader, example, exampleHeader}
 use Rattle.calls.proofs.HeaderStands.{answer-roots}
@@ -53,10 +53,10 @@ use Rattle.calls.proofs.RootsAnswer.{roots-answer}
 
 -- the header of a load, by whether the store keeps the rules
 abbrev pub headerBy : Load → Bool → head.Loaded
-headerBy c kept = head.loadOf (variableLists (c .lent)) (rootLists (c .lent)) (unless kept 3) (c .file)
+headerBy c kept = head.loadOf (firstFault (listsFault (c .lent) ∷ unless kept 3 ∷ lengthFault (c .file) ∷ [])) (c .file)
 
 pub header-by : (c : Load) (σ : Store) {b : Bool} → keeps limits σ ≡ b → headerOf c σ ≡ headerBy c b
-unfolding headerOf
+unfolding headerOf beforeHeader
 header-by c σ q = ap (headerBy c) q
 
 -- an empty store breaks the rules without a slot, and keeps them with one
@@ -68,20 +68,20 @@ kept levels slots h k = rules-keeps limits (empty levels slots) (empty-keeps lev
 
 -- without a slot a file is refused with 3
 pub bare-breaks : loadOf bare (empty 0 0) ≡ refusedAt bare (empty 0 0) 3 0
-unfolding loadOf head.loadOf beforeReading firstFault atLeast
+unfolding loadOf head.loadOf head.listsFault firstFault atLeast
 bare-breaks =
     load-refused bare (empty 0 0) 3 0 (ap (λ r. withHeader bare (empty 0 0) (r .answer) .answer) (header-by bare (empty 0 0) (breaks 0)))
 
 -- with one it is accepted
 bare-header : headerBy bare true .answer ≡ head.header bareHeader
-unfolding run isBlank isLineEnd isOf seek trim feedAt lineOf keyEnd fieldOf single judge u32List wordsFrom words edgeEnd edgeList isUtf8 nameList textAt alike lookup keyOf linesFrom linesOf endFrom endOf allOf lastFrom lastOf lasts ascending lastBelow idsFit allBelow distinct permidsFit rootsFault numberIn asciiIn varinfoIn ddIn u32sIn namesIn rootsIn agree firstFault numberFaults supportFaults nameCountFaults nameFaults rootFaults wholeFault tableOf answerOf atLeast beforeReading head.loadOf bytesFrom
+unfolding run isBlank isLineEnd isOf seek trim feedAt lineOf keyEnd fieldOf single judge u32List wordsFrom words edgeEnd edgeList isUtf8 nameList textAt alike lookup keyOf linesFrom linesOf endFrom endOf allOf lastFrom lastOf lasts ascending lastBelow idsFit allBelow distinct permidsFit rootsFault numberIn asciiIn varinfoIn ddIn u32sIn namesIn rootsIn agree firstFault numberFaults supportFaults nameCountFaults nameFaults rootFaults wholeFault tableOf readOf head.lengthFault atLeast head.listsFault head.loadOf bytesFrom
 bare-header = refl
 
 bare-passes : Passes bare (empty 0 1) bareHeader
-unfolding isBlank isLineEnd isWhitespace alike ascending lastBelow idsFit decodeFrom buildOn build linesIn linesAnswer blankAll endsWell importOf listFits beforeNodes bytesFrom
+unfolding isBlank isLineEnd isWhitespace alike ascending lastBelow idsFit decodeFrom buildOn build linesIn linesAnswer blankAll endsWell importOf listFits beforeNodes scratchFault listFault firstFault bytesFrom
 bare-passes = record {
   header-read = ap (λ r. r .answer) (header-by bare (empty 0 1) (kept 0 1 (omega arith) (omega arith))) ∙ bare-header;
-  none-between = refl;
+  unrefused = refl;
   at = 7;
   nodes-read = refl;
 }
@@ -91,7 +91,7 @@ bare-loads = ap (λ r. r .answer) (passes-load bare (empty 0 1) bareHeader bare-
 
 -- the header of document 01's example
 example-header : headerBy example true ≡ exampleLoaded
-unfolding run isBlank isDigit isLineEnd isOf seek trim feedAt lineOf keyEnd valueStart valueEnd fieldOf digit number single judge u32List wordsFrom words entryStep edgeAt edgeEnd edgeList utf8Next isUtf8 nameList textAt alike lookup keyOf versionFault modeFault varinfoFault textFault singleFault u32ListFault rootListFault nameListFault faultOf linesFrom linesOf endFrom endOf allOf lastFrom lastOf lasts seatOf ascending lastBelow idsFit allBelow distinct permidsFit orderFrom supportOrder places sameBytes sameName sameNames chosen freeFrom orderedFrom orderedSeats suppFrom suppSeats variableNames rootsFault spans numberIn asciiIn varinfoIn ddIn u32sIn namesIn rootsIn upFrom agree variableNamesIn firstFault numberFaults supportFaults nameCountFaults nameFaults rootFaults wholeFault tableOf answerOf atLeast beforeReading head.loadOf bytesFrom
+unfolding run isBlank isDigit isLineEnd isOf seek trim feedAt lineOf keyEnd valueStart valueEnd fieldOf digit number single judge u32List wordsFrom words entryStep edgeAt edgeEnd edgeList utf8Next isUtf8 nameList textAt alike lookup keyOf versionFault modeFault varinfoFault textFault singleFault u32ListFault rootListFault nameListFault faultOf linesFrom linesOf endFrom endOf allOf lastFrom lastOf lasts seatOf ascending lastBelow idsFit allBelow distinct permidsFit orderFrom supportOrder places sameBytes sameName sameNames chosen freeFrom orderedFrom orderedSeats suppFrom suppSeats variableNames rootsFault spans numberIn asciiIn varinfoIn ddIn u32sIn namesIn rootsIn upFrom agree variableNamesIn firstFault numberFaults supportFaults nameCountFaults nameFaults rootFaults wholeFault tableOf readOf head.lengthFault atLeast head.listsFault head.loadOf bytesFrom
 example-header = refl
 
 example-read : (σ : Store) → keeps limits σ ≡ true → headerOf example σ ≡ exampleLoaded
@@ -99,10 +99,10 @@ example-read σ q = header-by example σ q ∙ example-header
 
 -- it is accepted where there is a slot for each of its nodes
 example-passes : Passes example (empty 2 3) exampleHeader
-unfolding run isBlank isDigit isLineEnd isWhitespace isOf seek trim feedAt lineOf digit number single first wordsFrom words entryStep edgeAt edgeEnd edgeList children alike ascending lastBelow idsFit deeper childFault decodeFrom wordFrom numbered afterExtra variableWord textLine textLineAt minus eqZ empty findUpTo find added insert make edgeFor addLine buildOn build lineBy linesIn linesAnswer blankAll endsWell importOf listFits beforeNodes bytesFrom
+unfolding run isBlank isDigit isLineEnd isWhitespace isOf seek trim feedAt lineOf digit number single first wordsFrom words entryStep edgeAt edgeEnd edgeList children alike ascending lastBelow idsFit deeper childFault decodeFrom wordFrom numbered afterExtra variableWord textLine textLineAt minus eqZ empty findUpTo find added insert make edgeFor addLine buildOn build lineBy linesIn linesAnswer blankAll endsWell importOf listFits beforeNodes scratchFault listFault firstFault bytesFrom
 example-passes = record {
   header-read = ap (λ r. r .answer) (example-read (empty 2 3) (kept 2 3 (omega arith) (omega arith)));
-  none-between = refl;
+  unrefused = refl;
   at = 218;
   nodes-read = refl;
 }
@@ -112,7 +112,7 @@ example-loads = ap (λ r. r .answer) (passes-load example (empty 2 3) exampleHea
 
 -- its roots, in an empty store, are 3 and -3
 pub example-roots : loadOf example (empty 2 3) .roots ≡ pos 3 ∷ negsuc 2 ∷ replicate 1022 (pos 0)
-unfolding run isBlank isDigit isLineEnd isWhitespace isOf seek trim feedAt lineOf digit number single first wordsFrom words entryStep edgeAt edgeEnd edgeList children alike ascending lastBelow idsFit deeper childFault decodeFrom wordFrom numbered afterExtra variableWord textLine textLineAt minus eqZ empty findUpTo find added insert make edgeFor addLine buildOn build lineBy linesIn linesAnswer blankAll endsWell importOf listFits beforeNodes bytesFrom laid
+unfolding run isBlank isDigit isLineEnd isWhitespace isOf seek trim feedAt lineOf digit number single first wordsFrom words entryStep edgeAt edgeEnd edgeList children alike ascending lastBelow idsFit deeper childFault decodeFrom wordFrom numbered afterExtra variableWord textLine textLineAt minus eqZ empty findUpTo find added insert make edgeFor addLine buildOn build lineBy linesIn linesAnswer blankAll endsWell importOf listFits beforeNodes scratchFault listFault firstFault bytesFrom laid
 example-roots =
     ap (λ r. r .roots) (passes-load example (empty 2 3) exampleHeader example-passes)
     ∙ ap (λ r. importOf (setupOf example 2 exampleHeader) (empty 2 3) (example .file) 192 (laid (r .roots) (replicate 1024 (pos 0))) .roots)
@@ -126,7 +126,7 @@ example-lines = refl
 
 example-ids : rootsIn (example .file) (tableOf (example .file)) ≡ pos 3 ∷ negsuc 2 ∷ []
 example-ids =
-    sym (answer-roots _ _ _ (example .file) exampleHeader (ap (λ r. r .answer) example-header)) ∙ ap (λ r. r .roots) example-header
+    sym (answer-roots _ (example .file) exampleHeader (ap (λ r. r .answer) example-header)) ∙ ap (λ r. r .roots) example-header
 
 -- its first root says yes just where both levels are yes
 pub example-says : (a b : Bool) → fileSays example 2 exampleHeader 0 (settings.chosen (a ∷ b ∷ [])) ≡ (a && b)
@@ -141,7 +141,7 @@ example-says a b = rw (example-lines, example-ids) (go a b)
 
 -- with a slot less it is refused with 40
 pub example-crowded : loadOf example (empty 2 2) ≡ refusedAt example (empty 2 2) 40 0
-unfolding run isBlank isDigit isLineEnd isWhitespace isOf seek trim feedAt lineOf digit number single first wordsFrom words entryStep edgeAt edgeEnd edgeList children alike ascending lastBelow idsFit deeper childFault decodeFrom wordFrom numbered afterExtra variableWord textLine textLineAt minus eqZ empty findUpTo find added insert make edgeFor addLine buildOn build lineBy linesIn linesAnswer blankAll endsWell importOf listFits beforeNodes bytesFrom loadOf
+unfolding run isBlank isDigit isLineEnd isWhitespace isOf seek trim feedAt lineOf digit number single first wordsFrom words entryStep edgeAt edgeEnd edgeList children alike ascending lastBelow idsFit deeper childFault decodeFrom wordFrom numbered afterExtra variableWord textLine textLineAt minus eqZ empty findUpTo find added insert make edgeFor addLine buildOn build lineBy linesIn linesAnswer blankAll endsWell importOf listFits beforeNodes scratchFault listFault firstFault bytesFrom loadOf
 example-crowded =
     load-refused example (empty 2 2) 40 0
     (ap (λ a. withHeader example (empty 2 2) a .answer)
@@ -158,10 +158,10 @@ filled-kept : keeps limits filled ≡ true
 filled-kept = rules-keeps limits filled (subst (Rules limits) after-filled (roots-answer example (empty 2 3) exampleHeader example-loads .rules))
 
 again-passes : Passes example filled exampleHeader
-unfolding run isBlank isDigit isLineEnd isWhitespace isOf seek trim feedAt lineOf digit number single first wordsFrom words entryStep edgeAt edgeEnd edgeList children alike ascending lastBelow idsFit deeper childFault decodeFrom wordFrom numbered afterExtra variableWord textLine textLineAt minus eqZ empty findUpTo find added insert make edgeFor addLine buildOn build lineBy linesIn linesAnswer blankAll endsWell importOf listFits beforeNodes bytesFrom
+unfolding run isBlank isDigit isLineEnd isWhitespace isOf seek trim feedAt lineOf digit number single first wordsFrom words entryStep edgeAt edgeEnd edgeList children alike ascending lastBelow idsFit deeper childFault decodeFrom wordFrom numbered afterExtra variableWord textLine textLineAt minus eqZ empty findUpTo find added insert make edgeFor addLine buildOn build lineBy linesIn linesAnswer blankAll endsWell importOf listFits beforeNodes scratchFault listFault firstFault bytesFrom
 again-passes = record {
   header-read = ap (λ r. r .answer) (example-read filled filled-kept);
-  none-between = refl;
+  unrefused = refl;
   at = 218;
   nodes-read = refl;
 }

@@ -1,22 +1,25 @@
--- When the header of a file stands: exactly where the lent lists are long enough, nothing was found before, the input isn't too long, no
+-- When the header of a load stands: exactly where the lent lists are long enough, the store keeps its rules, the input isn't too long, no
 -- line up to `.nodes` has a fault, and the header as a whole has none.
 use mathlib.Core.Path.{_≡_, refl, sym, ap, _∙_}
-use mathlib.Core.Bool.{Bool, true, false, cond}
+use mathlib.Core.Bool.{true}
 use mathlib.Core.List.{List, []}
 use Prim.Native.Nat.{ℕ, zero, suc, _≤_}
 use native.Mathlib.Omega.{arith}
-use lib.Dec.{ltb}
 use lib.ListN.{length}
-use borrow.Author.Tests.{ltb-false, le-ltb}
 use Rattle.codes.specs.Limits.{varLimit, rootLimit, inputLimit}
 use Rattle.codes.proofs.Bytes.{both}
 use Rattle.fields.specs.Sweep.{End, atNodes, refusedAt, linesOf, endOf}
 use Rattle.values.specs.Values.{rootsIn}
 use Rattle.whole.specs.Whole.{firstFault, wholeFault}
-use Rattle.whole.proofs.FirstFault.{first-none, rest-none}
+use Rattle.whole.proofs.FirstFault.{first-none, rest-none, last-check}
 use Rattle.whole.proofs.Refusals.{unless-none}
-use Rattle.header.specs.Header.{Header, Answer, header, refusal, headerIn, tableOf, settled, judged, answerOf, after, atLeast, beforeReading}
-use Rattle.header.specs.Header.{listsBy, loadOf}
+use Rattle.store.specs.Store.{Store}
+use Rattle.store.specs.Rules.{limits}
+use Rattle.store.specs.Keeps.{keeps}
+use Rattle.header.specs.Header as head
+use Rattle.header.specs.Header.{Header, Answer, header, refusal, headerIn, tableOf, settled, judged, readOf, after, atLeast, listsBy}
+use Rattle.header.proofs.Lengths.{length-none, none-length}
+use Rattle.calls.specs.Load.{Lengths, Load, variableLists, rootLists, listsFault, lengthFault, beforeHeader, headerOf}
 
 -- the lines up to `.nodes`, and the header as a whole
 pub record Sound (f : List ℕ) (h : Header) : Type 0 where
@@ -26,13 +29,13 @@ pub record Sound (f : List ℕ) (h : Header) : Type 0 where
   pub whole : wholeFault f (tableOf f) ≡ 0
   pub is : h ≡ headerIn f (tableOf f) next lines
 
--- all that a header needs
-pub record Stands (vars roots : List ℕ) (found : ℕ) (f : List ℕ) (h : Header) : Type 0 where
-  pub vars-long : atLeast varLimit vars ≡ true
-  pub roots-long : atLeast rootLimit roots ≡ true
-  pub nothing : found ≡ 0
-  pub short : length f ≤ inputLimit
-  pub sound : Sound f h
+-- all that the header of a load needs
+pub record Stands (c : Load) (σ : Store) (h : Header) : Type 0 where
+  pub vars-long : atLeast varLimit (variableLists (c .lent)) ≡ true
+  pub roots-long : atLeast rootLimit (rootLists (c .lent)) ≡ true
+  pub kept : keeps limits σ ≡ true
+  pub short : length (c .file) ≤ inputLimit
+  pub sound : Sound (c .file) h
 
 -- a refusal is no header
 pub no-header : {n line : ℕ} {h : Header} {B : Type 0} → refusal n line ≡ header h → B
@@ -54,23 +57,17 @@ module _ (f : List ℕ) (h : Header) where
   judged-sound (atNodes next lines) e q = settled-sound next lines e (wholeFault f (tableOf f)) refl q
   judged-sound (refusedAt n line) e q = no-header q
 
-  -- the input isn't too long
-  short-sound : (b : Bool) → ltb inputLimit (length f) ≡ b → cond b (refusal 19 0) (judged f (endOf f (linesOf f))) ≡ header h
-      → (length f ≤ inputLimit) × Sound f h
-  short-sound true e q = no-header q
-  short-sound false e q = (ltb-false inputLimit (length f) e, judged-sound (endOf f (linesOf f)) refl q)
-
-  -- nothing was refused before
-  after-sound : (n : ℕ) → after n f ≡ header h → (n ≡ 0) × ((length f ≤ inputLimit) × Sound f h)
-  unfolding answerOf
-  after-sound zero q = (refl, short-sound (ltb inputLimit (length f)) refl q)
+  -- nothing was found before
+  after-sound : (n : ℕ) → after n f ≡ header h → (n ≡ 0) × Sound f h
+  unfolding readOf
+  after-sound zero q = (refl, judged-sound (endOf f (linesOf f)) refl q)
   after-sound (suc n) q = no-header q
 
   -- and the other way
-  sound-after : length f ≤ inputLimit → Sound f h → after 0 f ≡ header h
-  unfolding answerOf
-  sound-after l s =
-      ap (λ b. cond b (refusal 19 0) (judged f (endOf f (linesOf f)))) (le-ltb inputLimit (length f) l)
+  sound-after : (n : ℕ) → n ≡ 0 → Sound f h → after n f ≡ header h
+  unfolding readOf
+  sound-after n z s =
+      ap (λ k. after k f) z
       ∙ ap (judged f) (s .ends)
       ∙ ap (settled f (tableOf f) (s .next) (s .lines)) (s .whole)
       ∙ ap header (sym (s .is))
@@ -80,48 +77,63 @@ pub lists-answer : (f : List ℕ) (a : Answer) → listsBy f a .answer ≡ a
 lists-answer f (header h) = refl
 lists-answer f (refusal n line) = refl
 
-module _ (vars roots : List ℕ) (found : ℕ) where
-  -- nothing is refused before reading: the lists are long enough, and nothing was found
-  before-none : beforeReading vars roots found ≡ 0
-      → (atLeast varLimit vars ≡ true) × ((atLeast rootLimit roots ≡ true) × (found ≡ 0))
-  unfolding beforeReading
-  before-none q =
-      let p = both _ _ (unless-none _ 0 (first-none _ _ q)) in
-      (p .0, (p .1, first-none found [] (rest-none _ _ q)))
+module _ (found : ℕ) (f : List ℕ) where
+  -- a header that is the answer is sound, and nothing was found before
+  pub answer-sound : (h : Header) → head.loadOf found f .answer ≡ header h → (found ≡ 0) × Sound f h
+  unfolding head.loadOf
+  answer-sound h q = after-sound f h found (sym (lists-answer f (after found f)) ∙ q)
 
   -- and the other way
-  none-before : atLeast varLimit vars ≡ true → atLeast rootLimit roots ≡ true → found ≡ 0 → beforeReading vars roots found ≡ 0
-  unfolding beforeReading firstFault
-  none-before v r z = rw (v, r, z)
+  sound-answer : (h : Header) → found ≡ 0 → Sound f h → head.loadOf found f .answer ≡ header h
+  unfolding head.loadOf
+  sound-answer h z s = lists-answer f (after found f) ∙ sound-after f h found z s
 
-  module _ (f : List ℕ) where
-    -- so what is read is what the file says
-    pub nothing-found : atLeast varLimit vars ≡ true → atLeast rootLimit roots ≡ true → found ≡ 0
-        → loadOf vars roots found f ≡ listsBy f (answerOf f)
-    unfolding loadOf
-    nothing-found v r z = ap (λ n. listsBy f (after n f)) (none-before v r z)
+  -- where a header is the answer the roots are those of the file
+  roots-by : (a : Answer) (h : Header) → listsBy f a .answer ≡ header h → listsBy f a .roots ≡ rootsIn f (tableOf f)
+  roots-by (header g) h q = refl
+  roots-by (refusal n line) h q = no-header q
 
-    -- A header that is the answer stands.
-    pub answer-stands : (h : Header) → loadOf vars roots found f .answer ≡ header h → Stands vars roots found f h
-    unfolding loadOf
-    answer-stands h q =
-        let w = after-sound f h (beforeReading vars roots found) (sym (lists-answer f (after (beforeReading vars roots found) f)) ∙ q) in
-        let b = before-none (w .0) in
-        record { vars-long = b .0; roots-long = b .1 .0; nothing = b .1 .1; short = w .1 .0; sound = w .1 .1 }
+  pub answer-roots : (h : Header) → head.loadOf found f .answer ≡ header h → head.loadOf found f .roots ≡ rootsIn f (tableOf f)
+  unfolding head.loadOf
+  answer-roots h q = roots-by (after found f) h q
 
-    -- A header that stands is the answer.
-    pub stands-answer : (h : Header) → Stands vars roots found f h → loadOf vars roots found f .answer ≡ header h
-    unfolding loadOf
-    stands-answer h s =
-        lists-answer f (after (beforeReading vars roots found) f)
-        ∙ ap (λ n. after n f) (none-before (s .vars-long) (s .roots-long) (s .nothing))
-        ∙ sound-after f h (s .short) (s .sound)
+-- lists that are long enough are refused nothing
+none-lists : (l : Lengths) → atLeast varLimit (variableLists l) ≡ true → atLeast rootLimit (rootLists l) ≡ true → listsFault l ≡ 0
+unfolding head.listsFault
+none-lists l v r = rw (v, r)
 
-    -- where a header is the answer the roots are those of the file
-    roots-by : (a : Answer) (h : Header) → listsBy f a .answer ≡ header h → listsBy f a .roots ≡ rootsIn f (tableOf f)
-    roots-by (header g) h q = refl
-    roots-by (refusal n line) h q = no-header q
+-- and the other way
+lists-none : (l : Lengths) → listsFault l ≡ 0
+    → (atLeast varLimit (variableLists l) ≡ true) × (atLeast rootLimit (rootLists l) ≡ true)
+unfolding head.listsFault
+lists-none l q = both (atLeast varLimit (variableLists l)) (atLeast rootLimit (rootLists l)) (unless-none _ 0 q)
 
-    pub answer-roots : (h : Header) → loadOf vars roots found f .answer ≡ header h → loadOf vars roots found f .roots ≡ rootsIn f (tableOf f)
-    unfolding loadOf
-    answer-roots h q = roots-by (after (beforeReading vars roots found) f) h q
+module _ (c : Load) (σ : Store) where
+  -- where neither lists nor store are refused, the input's length is left
+  pub length-left : atLeast varLimit (variableLists (c .lent)) ≡ true → atLeast rootLimit (rootLists (c .lent)) ≡ true
+      → keeps limits σ ≡ true → beforeHeader c σ ≡ lengthFault (c .file)
+  unfolding beforeHeader firstFault
+  length-left v r k = rw (none-lists (c .lent) v r, k) (sym (last-check (lengthFault (c .file))))
+
+  -- A header that is the answer stands.
+  pub answer-stands : (h : Header) → headerOf c σ .answer ≡ header h → Stands c σ h
+  unfolding headerOf beforeHeader
+  answer-stands h q =
+      let w = answer-sound (beforeHeader c σ) (c .file) h q in
+      let l = lists-none (c .lent) (first-none _ _ (w .0)) in
+      let s = rest-none _ _ (w .0) in
+      record {
+        vars-long = l .0;
+        roots-long = l .1;
+        kept = unless-none (keeps limits σ) 2 (first-none _ _ s);
+        short = length-none (length (c .file)) (first-none _ [] (rest-none _ _ s));
+        sound = w .1;
+      }
+
+  -- A header that stands is the answer.
+  pub stands-answer : (h : Header) → Stands c σ h → headerOf c σ .answer ≡ header h
+  unfolding headerOf
+  stands-answer h s =
+      sound-answer (beforeHeader c σ) (c .file) h
+      (length-left (s .vars-long) (s .roots-long) (s .kept) ∙ none-length (length (c .file)) (s .short))
+      (s .sound)

@@ -14,11 +14,10 @@ use Rattle.codes.proofs.Bytes.{both}
 use Rattle.store.specs.Store.{Store}
 use Rattle.store.specs.Rules.{limits, Rules}
 use Rattle.store.specs.Keeps.{rules-keeps}
-use Rattle.whole.proofs.Refusals.{unless-holds}
+use Rattle.header.specs.Header as head
 use Rattle.header.specs.Header.{Header, header, answerOf, atLeast}
 use Rattle.numbering.specs.Support.{supportOf}
 use Rattle.import.specs.Import.{nodes}
-use Rattle.import.proofs.LevelLists.{nothing-before}
 use Rattle.export_header.specs.Tables.{Lent}
 use Rattle.exporter.specs.Settings.{Settings}
 use Rattle.exporter.specs.Export.{exportFault, headingOf}
@@ -30,10 +29,10 @@ use Rattle.reading_back.specs.ReadsBack.{ReadsBack, importBy, GivesBack}
 use Rattle.reading_back.proofs.ReadsBack.{accepted-back}
 use Rattle.reading_back.proofs.ImportedAlike.{led-back}
 use Rattle.reading_back.proofs.OutputBack.{written-file}
-use Rattle.calls.specs.Load.{Lengths, Load, variableLists, rootLists, headerOf, nodesOf, loadOf}
+use Rattle.calls.specs.Load.{Lengths, Load, rootLists, headerOf, nodesOf, loadOf}
 use Rattle.calls.specs.LoadsBack.{ownLoad, LongEnough, LoadsBack, OutputLoads}
-use Rattle.calls.proofs.HeaderStands.{nothing-found, lists-answer}
-use Rattle.calls.proofs.Passes.{Passes, passes-load}
+use Rattle.calls.proofs.HeaderStands.{length-left, lists-answer}
+use Rattle.calls.proofs.Passes.{none-between, Passes, passes-load}
 
 -- lists of roots that are long enough have room for every root that an export takes
 roots-room : (l : Lengths) → atLeast rootLimit (rootLists l) ≡ true → rootLimit ≤ l .roots
@@ -48,11 +47,10 @@ module _ {s : Settings} {σ : Store} {roots : List ℤ} {order : List ℕ} {p : 
   abbrev h : Header
   h = headerFor (headingOf s σ roots order p ns) (b .header-back .dd)
 
-  -- nothing is refused before the header is read
+  -- neither lists nor store are refused: what is read is the file's header by itself
   header-lists : headerOf c σ ≡ loadedFrom f
-  unfolding headerOf
-  header-lists =
-      nothing-found (variableLists l) (rootLists l) _ f (long .variables) (long .roots) (unless-holds 3 (rules-keeps limits σ R))
+  unfolding headerOf head.loadOf answerOf
+  header-lists = ap (λ n. head.loadOf n f) (length-left c σ (long .variables) (long .roots) (rules-keeps limits σ R))
 
   header-read : headerOf c σ .answer ≡ header h
   header-read = ap (λ r. r .answer) header-lists ∙ lists-answer f (answerOf f) ∙ b .header-back .answer
@@ -72,7 +70,7 @@ module _ {s : Settings} {σ : Store} {roots : List ℤ} {order : List ℕ} {p : 
       let seats : length ns ≤ l .seats = omega (arith, b .few-lines, long .seats) in
       record {
         header-read = header-read;
-        none-between = sym (nothing-before _ _ _ _ _ (supportOf σ ns) edges seats (b .levels-fit));
+        unrefused = none-between c σ h edges seats (b .levels-fit);
         at = import-given .end;
         nodes-read = nodes-read;
       }

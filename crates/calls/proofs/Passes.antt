@@ -1,22 +1,40 @@
 -- The stages of a load, in their order: header; scratch and level list; nodes. One of them refuses, and the load is that refusal; or all
 -- pass, and the load is what they leave.
 use mathlib.Core.Path.{_≡_, refl, sym, ap, subst, _∙_}
-use Prim.Native.Nat.{ℕ, zero, suc}
+use mathlib.Core.Bool.{true}
+use mathlib.Core.List.{[]}
+use Prim.Native.Nat.{ℕ, zero, suc, _≤_}
+use lib.Dec.{leb}
+use borrow.Author.Tests.{leb-true, le-leb}
+use Rattle.codes.proofs.Bytes.{both}
+use Rattle.whole.specs.Whole.{firstFault}
+use Rattle.whole.proofs.FirstFault.{first-none, rest-none}
+use Rattle.whole.proofs.Refusals.{unless-none}
 use Rattle.store.specs.Store.{Store}
 use Rattle.header.specs.Header.{Header, Answer, header, refusal}
-use Rattle.import.specs.List.{beforeNodes}
+use Rattle.import.specs.List.{listFits}
 use Rattle.import.specs.Import as nodes
-use Rattle.calls.specs.Load.{Load, refusedAt, headerOf, nodesOf, withNodes, withList, withHeader, loadOf}
+use Rattle.calls.specs.Load.{Load, refusedAt, scratchFault, listFault, beforeNodes, headerOf, nodesOf, withNodes, withList, withHeader, loadOf}
 use Rattle.calls.proofs.HeaderStands.{one-header, no-header}
 
--- the refusal of scratch or level list, 0 of none
-abbrev pub between : Load → Store → Header → ℕ
-between c σ h = beforeNodes (h .nnodes) (c .lent .edges) (c .lent .seats) (h .nsuppvars) (σ .levels) (c .list)
+-- scratch and level list are refused nothing where they are long enough and fit
+module _ (c : Load) (σ : Store) (h : Header) where
+  pub between-none : beforeNodes c σ h ≡ 0
+      → (h .nnodes ≤ c .lent .edges) × ((h .nnodes ≤ c .lent .seats) × (listFits (h .nsuppvars) (σ .levels) (c .list) ≡ true))
+  unfolding beforeNodes scratchFault listFault
+  between-none q =
+      let w = both (leb (h .nnodes) (c .lent .edges)) (leb (h .nnodes) (c .lent .seats)) (unless-none _ 0 (first-none _ _ q)) in
+      (leb-true _ _ (w .0), (leb-true _ _ (w .1), unless-none _ 1 (first-none _ [] (rest-none _ _ q))))
+
+  pub none-between : h .nnodes ≤ c .lent .edges → h .nnodes ≤ c .lent .seats
+      → listFits (h .nsuppvars) (σ .levels) (c .list) ≡ true → beforeNodes c σ h ≡ 0
+  unfolding beforeNodes scratchFault listFault firstFault
+  none-between e s l = rw (le-leb (h .nnodes) (c .lent .edges) e, le-leb (h .nnodes) (c .lent .seats) s, l)
 
 -- all stages pass
 pub record Passes (c : Load) (σ : Store) (h : Header) : Type 0 where
   pub header-read : headerOf c σ .answer ≡ header h
-  pub none-between : between c σ h ≡ 0
+  pub unrefused : beforeNodes c σ h ≡ 0
   pub at : ℕ
   pub nodes-read : nodesOf c σ h .answer ≡ nodes.nodes at
 
@@ -40,7 +58,7 @@ module _ (c : Load) (σ : Store) where
     list-refused h (suc k) q = refused-alike c σ q
 
     header-refused : (a : Answer) → withHeader c σ a .answer ≡ refusal n line → withHeader c σ a ≡ refusedAt c σ n line
-    header-refused (header h) q = list-refused h (between c σ h) q
+    header-refused (header h) q = list-refused h (beforeNodes c σ h) q
     header-refused (refusal k at) q = refused-alike c σ q
 
     pub load-refused : loadOf c σ .answer ≡ refusal n line → loadOf c σ ≡ refusedAt c σ n line
@@ -54,15 +72,15 @@ module _ (c : Load) (σ : Store) where
     nodes-pass g r (nodes.refusal k at) q = no-header q
     nodes-pass g r (nodes.nodes at) q = (one-header q, (at, refl))
 
-    list-passes : (g : Header) → headerOf c σ .answer ≡ header g → (k : ℕ) → between c σ g ≡ k → withList c σ g k .answer ≡ header h
+    list-passes : (g : Header) → headerOf c σ .answer ≡ header g → (k : ℕ) → beforeNodes c σ g ≡ k → withList c σ g k .answer ≡ header h
         → Passes c σ h
     list-passes g e zero b q =
         let w = nodes-pass g (nodesOf c σ g) (nodesOf c σ g .answer) q in
-        subst (Passes c σ) (w .0) (record { header-read = e; none-between = b; at = w .1 .0; nodes-read = w .1 .1 })
+        subst (Passes c σ) (w .0) (record { header-read = e; unrefused = b; at = w .1 .0; nodes-read = w .1 .1 })
     list-passes g e (suc k) b q = no-header q
 
     header-passes : (a : Answer) → headerOf c σ .answer ≡ a → withHeader c σ a .answer ≡ header h → Passes c σ h
-    header-passes (header g) e q = list-passes g e (between c σ g) refl q
+    header-passes (header g) e q = list-passes g e (beforeNodes c σ g) refl q
     header-passes (refusal k at) e q = no-header q
 
     pub load-passes : loadOf c σ .answer ≡ header h → Passes c σ h
@@ -74,5 +92,5 @@ module _ (c : Load) (σ : Store) where
     unfolding loadOf
     passes-load p =
         ap (withHeader c σ) (p .header-read)
-        ∙ ap (withList c σ h) (p .none-between)
+        ∙ ap (withList c σ h) (p .unrefused)
         ∙ ap (withNodes c σ h (nodesOf c σ h)) (p .nodes-read)

@@ -45,7 +45,7 @@ module _ (c : Load) (σ : Store) where
   -- the header of an accepted load gives those of the file
   header-roots : (h : Header) → headerOf c σ .answer ≡ header h → headerOf c σ .roots ≡ ids
   unfolding headerOf
-  header-roots h q = answer-roots _ _ _ (c .file) h q
+  header-roots h q = answer-roots _ (c .file) h q
 
   module _ (A : Accepts c σ) where
     -- so that each stands at its entry

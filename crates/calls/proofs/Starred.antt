@@ -29,7 +29,7 @@ use Rattle.whole.specs.Whole.{firstFault, numberFaults, supportFaults, nameCoun
 use Rattle.store.specs.Make.{findUpTo, find, added, insert, make}
 use Rattle.store.specs.Empty.{empty}
 use Rattle.header.specs.Header as head
-use Rattle.header.specs.Header.{tableOf, answerOf, atLeast, beforeReading}
+use Rattle.header.specs.Header.{tableOf, readOf, atLeast}
 use Rattle.header.specs.Examples.{bytesFrom}
 use Rattle.lines.specs.Line.{Line, terminal, inner, deeper, childFault}
 use Rattle.lines.specs.Decode.{decodeFrom}
@@ -37,13 +37,13 @@ use Rattle.import_ascii.specs.Text.{wordFrom, numbered, afterExtra, variableWor
 use Rattle.import_bin.specs.Bin.{idAt, childAt, variableAt, binLineAt}
 use Rattle.import.specs.Build.{edgeFor, addLine, buildOn, build}
 use Rattle.import.specs.Import.{lineBy, linesIn, linesAnswer, blankAll, endsWell, importOf}
-use Rattle.import.specs.List.{listFits, beforeNodes}
+use Rattle.import.specs.List.{listFits}
 use Rattle.numbering.specs.Walk.{meetBy, meet, meetAll}
 use Rattle.numbering.specs.Numbering.{atDepth, deepestFirst, numbering}
 use Rattle.numbering.specs.Support.{supportFrom}
 use Rattle.export_nodes.specs.Lines.{renumbered, lineFor, linesFor}
 use Rattle.export_nodes.specs.Encoded.{childCode, variableCode, innerBytes, binBytes, encodeFrom, nodeBytes}
-use Rattle.calls.specs.Load.{headerOf, nodesOf, withHeader, loadOf}
+use Rattle.calls.specs.Load.{scratchFault, listFault, beforeNodes, headerOf, nodesOf, withHeader, loadOf}
 use Rattle.calls.specs.Examples.{example, exampleHeader}
 use Rattle.calls.specs.Starred.{exampleLeft, exampleRoots, ThoseNodes, threeVariables, twoVariables, threeHeader, All, starred}
 use Rattle.calls.proofs.Passes.{Passes, load-refused, load-passes, passes-load}
@@ -78,7 +78,7 @@ those-nodes = record { accepted = example-loads; of-text = refl; of-store = line
 -- the headers of the files with the ids 0 and 2
 headers : (headerBy threeVariables true .answer ≡ head.header threeHeader)
     × ((headerBy threeVariables true .ids ≡ 0 ∷ 2 ∷ []) × (headerBy twoVariables true .answer ≡ head.refusal 22 0))
-unfolding run isBlank isDigit isLineEnd isOf seek trim feedAt lineOf keyEnd valueStart valueEnd fieldOf digit number single judge u32List wordsFrom words edgeEnd edgeList isUtf8 nameList textAt alike lookup keyOf singleFault u32ListFault faultOf linesFrom linesOf endFrom endOf allOf lastFrom lastOf lasts seatOf ascending lastBelow idsFit allBelow distinct permidsFit rootsFault spans numberIn asciiIn varinfoIn ddIn u32sIn namesIn rootsIn agree firstFault numberFaults supportFaults nameCountFaults nameFaults rootFaults wholeFault tableOf answerOf atLeast beforeReading head.loadOf bytesFrom
+unfolding run isBlank isDigit isLineEnd isOf seek trim feedAt lineOf keyEnd valueStart valueEnd fieldOf digit number single judge u32List wordsFrom words edgeEnd edgeList isUtf8 nameList textAt alike lookup keyOf singleFault u32ListFault faultOf linesFrom linesOf endFrom endOf allOf lastFrom lastOf lasts seatOf ascending lastBelow idsFit allBelow distinct permidsFit rootsFault spans numberIn asciiIn varinfoIn ddIn u32sIn namesIn rootsIn agree firstFault numberFaults supportFaults nameCountFaults nameFaults rootFaults wholeFault tableOf readOf head.lengthFault atLeast head.listsFault head.loadOf bytesFrom
 headers = (refl, (refl, refl))
 
 -- each in an empty store with one slot, which keeps the rules
@@ -90,10 +90,10 @@ two-kept = header-by twoVariables (empty 2 1) (kept 2 1 (omega arith) (omega ari
 
 -- three variables: the load passes all stages
 three-passes : Passes threeVariables (empty 3 1) threeHeader
-unfolding isBlank isLineEnd isWhitespace alike ascending lastBelow idsFit decodeFrom buildOn build linesIn linesAnswer blankAll endsWell importOf listFits beforeNodes bytesFrom empty
+unfolding isBlank isLineEnd isWhitespace alike ascending lastBelow idsFit decodeFrom buildOn build linesIn linesAnswer blankAll endsWell importOf listFits beforeNodes scratchFault listFault firstFault bytesFrom empty
 three-passes = record {
   header-read = ap (λ r. r .answer) three-kept ∙ headers .0;
-  none-between = refl;
+  unrefused = refl;
   at = 51;
   nodes-read = refl;
 }

@@ -1,8 +1,8 @@
 -- The call load, as a whole. Document 01: 'load gives 1 (lists), 3, 19 for the input's length, header, 1 (scratch), 2, nodes, 39.'
 use Prim.Native.Nat.{ℕ, zero, suc}
-use mathlib.Core.Bool.{not}
+use mathlib.Core.Bool.{not, _&&_}
 use mathlib.Core.List.{List, [], _∷_, map}
-use lib.Dec.{eqb}
+use lib.Dec.{eqb, leb}
 use lib.ListN.{length, replicate}
 use lib.IntN.{ℤ, pos}
 use Rattle.codes.specs.Lent.{laid}
@@ -11,9 +11,9 @@ use Rattle.store.specs.Store.{Store}
 use Rattle.store.specs.Rules.{limits}
 use Rattle.store.specs.Keeps.{keeps}
 use Rattle.values.specs.Values.{pad}
-use Rattle.whole.specs.Whole.{unless}
+use Rattle.whole.specs.Whole.{firstFault, unless}
 use Rattle.header.specs.Header as head
-use Rattle.import.specs.List.{beforeNodes}
+use Rattle.import.specs.List.{listFits}
 use Rattle.import.specs.Import as nodes
 
 -- the lengths of the lists that a load is lent: those of variables, those of roots, and the node scratch
@@ -69,13 +69,42 @@ refusedAt c σ n line = record {
   rootnames = [];
 }
 
--- '3 the store breaks its rules'; 0 where it keeps them
+-- '1 (lists)': '1 a lent part too short: 4,096 entries for each variable list, 1,024 for each root list'. Of each check 0 stands for no
+-- refusal.
+abbrev pub listsFault : Lengths → ℕ
+listsFault l = head.listsFault (variableLists l) (rootLists l)
+
+-- '3 the store breaks its rules'
 abbrev pub storeFault : Store → ℕ
 storeFault σ = unless (keeps limits σ) 3
 
--- '1 (lists), 3, 19 for the input's length, header'
+-- '19 for the input's length': 'input 16,777,216 bytes (19, line 0, before all reading)'
+abbrev pub lengthFault : List ℕ → ℕ
+lengthFault f = head.lengthFault (length f)
+
+-- '1 (lists), 3, 19 for the input's length': the first of them
+unfoldable pub beforeHeader : Load → Store → ℕ
+beforeHeader c σ = firstFault (listsFault (c .lent) ∷ storeFault σ ∷ lengthFault (c .file) ∷ [])
+
+-- 'header'
 unfoldable pub headerOf : Load → Store → head.Loaded
-headerOf c σ = head.loadOf (variableLists (c .lent)) (rootLists (c .lent)) (storeFault σ) (c .file)
+headerOf c σ = head.loadOf (beforeHeader c σ) (c .file)
+
+-- '1 (scratch)': '1 a lent part too short: .. `.nnodes` for node scratch', by the lengths of its two lists
+unfoldable pub scratchFault : ℕ → ℕ → ℕ → ℕ
+scratchFault nnodes edges seats = unless (leb nnodes edges && leb nnodes seats) 1
+
+-- '2 the level list isn't one level per support variable, strictly ascending, below the store's level count'
+unfoldable pub listFault : ℕ → ℕ → List ℕ → ℕ
+listFault nsuppvars levels list = unless (listFits nsuppvars levels list) 2
+
+-- '1 (scratch), 2': the first of them
+unfoldable pub beforeNodes : Load → Store → head.Header → ℕ
+beforeNodes c σ h =
+    firstFault
+    (scratchFault (h .nnodes) (c .lent .edges) (c .lent .seats)
+    ∷ listFault (h .nsuppvars) (σ .levels) (c .list)
+    ∷ [])
 
 -- how the nodes of a header are read, by a level list and in a store of so many levels: varinfo 4 stands for no extra word
 abbrev pub setupFor : List ℕ → ℕ → head.Header → nodes.Setup
@@ -103,16 +132,17 @@ withNodes c σ h r (nodes.nodes at) = record {
   rootnames = headerOf c σ .rootnames;
 }
 
--- '1 (scratch), 2'
+-- after scratch and level list
 abbrev pub withList : Load → Store → head.Header → ℕ → Loaded
 withList c σ h (suc k) = refusedAt c σ (suc k) 0
 withList c σ h zero = withNodes c σ h (nodesOf c σ h) (nodesOf c σ h .answer)
 
+-- after the header
 abbrev pub withHeader : Load → Store → head.Answer → Loaded
 withHeader c σ (head.refusal n line) = refusedAt c σ n line
-withHeader c σ (head.header h) =
-    withList c σ h (beforeNodes (h .nnodes) (c .lent .edges) (c .lent .seats) (h .nsuppvars) (σ .levels) (c .list))
+withHeader c σ (head.header h) = withList c σ h (beforeNodes c σ h)
 
+-- 'load gives 1 (lists), 3, 19 for the input's length, header, 1 (scratch), 2, nodes, 39'
 unfoldable pub loadOf : Load → Store → Loaded
 loadOf c σ = withHeader c σ (headerOf c σ .answer)
 

@@ -1,5 +1,5 @@
 pub mod StageLaws
 pub mod Nodes
-pub mod Readable
 pub mod Staged
+pub mod Readable
 pub mod Loading

@@ -1,18 +1,26 @@
 -- What the functions of the stages promise, put together over plain variables: the promise of `load`.
 use mathlib.Core.Path.{_≡_, refl, sym, ap, subst, _∙_}
-use mathlib.Core.List.{List, []}
-use Prim.Native.Nat.{ℕ}
+use mathlib.Core.List.{List, [], _∷_}
+use Prim.Native.Nat.{ℕ, zero, suc}
 use lib.ListN.{length, replicate}
 use lib.IntN.{ℤ, pos}
 use Rattle.codes.specs.Lent.{laid}
 use Rattle.values.specs.Values.{pad}
+use Rattle.whole.specs.Whole.{firstFault}
 use Rattle.store.specs.Store.{Store}
 use Rattle.header.specs.Header as head
 use Rattle.header.specs.Header.{Answer}
-use Rattle.calls.specs.Load.{variableLists, rootLists, storeFault, headerOf, Parts, parts, lengthsOf, loadInto, partsOf, Load, Loaded, loadOf}
-use Rattle.dddmp.specs.Stages.{checked, Readable, nodesAfter, isRefusal, clearedIf}
+use Rattle.calls.specs.Load.{listsFault, storeFault, lengthFault, beforeHeader, headerOf, Parts, parts, lengthsOf, loadInto, partsOf, Load, Loaded, loadOf}
+use Rattle.dddmp.specs.Stages.{storeAfter, scratched, listed, Readable, nodesAfter, isRefusal, clearedIf}
 use Rattle.dddmp.proofs.Readable.{readable}
-use Rattle.dddmp.proofs.Staged.{nodesLeft, left-load, Entries, loadEntries, headEntries, noEntries, cleared-list}
+use Rattle.dddmp.proofs.Staged.{ready, nodesLeft, left-load, Entries, loadEntries, headEntries, noEntries, cleared-list}
+
+-- the first of two refusals, and then a third
+three-first : (a b c : ℕ) → firstFault (firstFault (a ∷ b ∷ []) ∷ c ∷ []) ≡ firstFault (a ∷ b ∷ c ∷ [])
+unfolding firstFault
+three-first zero zero c = refl
+three-first zero (suc b) c = refl
+three-first (suc a) b c = refl
 
 -- parts that are equal list by list
 pub parts-alike : {a a' b b' c c' d d' e e' f f' : List ℕ} {g g' : List ℤ} {h h' i i' : List ℕ} {j j' : List ℤ} {k k' : List ℕ}
@@ -24,22 +32,27 @@ module _ (file list : List ℕ) (p : Parts) (σ : Store) where
   abbrev this : Load
   this = loadInto file list p
 
-  -- the header, after what was found of the store
-  abbrev headAfter : ℕ → head.Loaded
-  headAfter found = head.loadOf (variableLists (lengthsOf p)) (rootLists (lengthsOf p)) found file
+  -- what is found before the header: the lists, then the store, then the input's length
+  pub before-is : (lists found before : ℕ) → lists ≡ listsFault (lengthsOf p) → found ≡ storeAfter lists σ
+      → before ≡ head.lengthAfter found (length file) → before ≡ beforeHeader this σ
+  unfolding beforeHeader storeAfter head.lengthAfter
+  before-is lists found before l s e =
+      e ∙ ap (λ n. firstFault (n ∷ lengthFault file ∷ [])) (s ∙ ap (λ n. firstFault (n ∷ storeFault σ ∷ [])) l)
+      ∙ three-first (listsFault (lengthsOf p)) (storeFault σ) (lengthFault file)
 
-  module _ (found : ℕ) (s : found ≡ storeFault σ) where
-    head-after : headAfter found ≡ headerOf this σ
+  module _ (before : ℕ) (s : before ≡ beforeHeader this σ) where
+    head-after : head.loadOf before file ≡ headerOf this σ
     unfolding headerOf
-    head-after = ap headAfter s
+    head-after = ap (λ n. head.loadOf n file) s
 
-    -- the answers after the header, and after scratch and level list
-    module _ (a b : Answer) (q : a ≡ headAfter found .answer) (r : b ≡ checked (length (p .edges)) (length (p .seats)) (σ .levels) list a) where
+    -- the answers after the header, after scratch, and after the level list
+    module _ (a m b : Answer) (q : a ≡ head.loadOf before file .answer) (t : m ≡ scratched (length (p .edges)) (length (p .seats)) a)
+        (r : b ≡ listed (σ .levels) list m) where
       head-answer : a ≡ headerOf this σ .answer
       head-answer = q ∙ ap (λ x. x .answer) head-after
 
-      ready-is : checked (length (p .edges)) (length (p .seats)) (σ .levels) list (headerOf this σ .answer) ≡ b
-      ready-is = ap (checked (length (p .edges)) (length (p .seats)) (σ .levels) list) (sym head-answer) ∙ sym r
+      ready-is : ready this σ (headerOf this σ .answer) ≡ b
+      ready-is = ap (ready this σ) (sym head-answer) ∙ ap (listed (σ .levels) list) (sym t) ∙ sym r
 
       -- the nodes can be read
       pub ready-readable : Readable b σ list (length (p .edges)) (length (p .seats))
@@ -47,7 +60,7 @@ module _ (file list : List ℕ) (p : Parts) (σ : Store) where
           subst (λ x. Readable x σ list (length (p .edges)) (length (p .seats))) ready-is (readable this σ (headerOf this σ .answer) refl)
 
       -- the roots' numbers as the header leaves them
-      module _ (n : List ℤ) (w : n ≡ laid (headAfter found .roots) (replicate (length (p .roots)) (pos 0))) where
+      module _ (n : List ℤ) (w : n ≡ laid (head.loadOf before file .roots) (replicate (length (p .roots)) (pos 0))) where
         numbers-are : n ≡ laid (headerOf this σ .roots) (replicate (length (p .roots)) (pos 0))
         numbers-are = w ∙ ap (λ x. laid (x .roots) (replicate (length (p .roots)) (pos 0))) head-after
 
@@ -69,7 +82,7 @@ module _ (file list : List ℕ) (p : Parts) (σ : Store) where
 
     -- a list as the header left it, cleared on a refusal, is what the load says
     pub list-left : (d : Answer) → d ≡ loadOf this σ .answer → (n : ℕ) (g : Entries → List ℕ) → g noEntries ≡ []
-        → (l : List ℕ) → l ≡ pad n (g (headEntries (headAfter found))) → (out : List ℕ) → out ≡ clearedIf (isRefusal d) l
+        → (l : List ℕ) → l ≡ pad n (g (headEntries (head.loadOf before file))) → (out : List ℕ) → out ≡ clearedIf (isRefusal d) l
         → out ≡ pad n (g (loadEntries (loadOf this σ)))
     list-left d e n g z l v out o =
         o ∙ ap (λ x. clearedIf (isRefusal x) l) e

@@ -21,14 +21,16 @@ use Rattle.whole.proofs.Refusals.{within-none}
 use Rattle.whole.proofs.Accepted as whole
 use Rattle.store.specs.Store.{Store}
 use Rattle.header.specs.Header.{Header, Answer, header, refusal, tableOf, headerIn}
-use Rattle.import.specs.List.{listFits, beforeNodes}
+use Rattle.import.specs.List.{listFits}
 use Rattle.import.specs.Import.{Bounded}
 use Rattle.import.proofs.LevelLists.{list-levels}
 use Rattle.checks.specs.Support.{idsFit}
-use Rattle.calls.specs.Load.{Load, headerOf, setupFor}
-use Rattle.dddmp.specs.Stages.{unlessRefused, checked, Readable}
-use Rattle.calls.proofs.HeaderStands.{Sound, Stands}
-use Rattle.calls.proofs.Accepted.{HeaderOf, header-stands, stands-rules, between-none}
+use Rattle.calls.specs.Load.{Load, headerOf, beforeNodes, setupFor}
+use Rattle.dddmp.specs.Stages.{unlessRefused, Readable}
+use Rattle.calls.proofs.HeaderStands.{Sound, Stands, answer-stands}
+use Rattle.calls.proofs.Passes.{between-none}
+use Rattle.calls.proofs.Accepted.{stands-rules}
+use Rattle.dddmp.proofs.Staged.{ready, ready-header}
 
 -- a refusal is no end at `.nodes`
 no-nodes : {n at next lines : ℕ} {B : Type 0} → refusedAt n at ≡ atNodes next lines → B
@@ -91,7 +93,7 @@ list-counted n m l q = eqb-true _ _ (both (eqb (length l) n) (idsFit m l) q .0)
 
 module _ (c : Load) (σ : Store) where
   -- what passes scratch and level list
-  bounded : (h : Header) → HeaderOf c σ h → h .nnodes ≤ c .lent .edges → h .nnodes ≤ c .lent .seats
+  bounded : (h : Header) → Stands c σ h → h .nnodes ≤ c .lent .edges → h .nnodes ≤ c .lent .seats
       → listFits (h .nsuppvars) (σ .levels) (c .list) ≡ true → Bounded (setupFor (c .list) (σ .levels) h) (c .lent .edges) (c .lent .seats)
   bounded h S e s l =
       let w = S .sound in
@@ -107,16 +109,16 @@ module _ (c : Load) (σ : Store) where
       let i = S .short in
       record { nodes = omega arith; edges-long = e; seats-long = s; few-levels = omega arith; few-lines = omega arith }
 
-  checked-readable : (h : Header) → HeaderOf c σ h → (k : ℕ)
-      → beforeNodes (h .nnodes) (c .lent .edges) (c .lent .seats) (h .nsuppvars) (σ .levels) (c .list) ≡ k
+  checked-readable : (h : Header) → Stands c σ h → (k : ℕ) → beforeNodes c σ h ≡ k
       → Readable (unlessRefused h k) σ (c .list) (c .lent .edges) (c .lent .seats)
   checked-readable h S zero q =
-      let b = between-none _ _ _ _ _ (c .list) q in
+      let b = between-none c σ h q in
       (stands-rules c σ h S, (list-levels _ _ (c .list) (b .1 .1), bounded h S (b .0) (b .1 .0) (b .1 .1)))
   checked-readable h S (suc k) q = tt
 
   -- What scratch and level list let pass, the nodes can lean on.
-  pub readable : (a : Answer) → headerOf c σ .answer ≡ a
-      → Readable (checked (c .lent .edges) (c .lent .seats) (σ .levels) (c .list) a) σ (c .list) (c .lent .edges) (c .lent .seats)
-  readable (header h) q = checked-readable h (header-stands c σ h q) _ refl
+  pub readable : (a : Answer) → headerOf c σ .answer ≡ a → Readable (ready c σ a) σ (c .list) (c .lent .edges) (c .lent .seats)
+  readable (header h) q =
+      subst (λ a. Readable a σ (c .list) (c .lent .edges) (c .lent .seats)) (sym (ready-header c σ h))
+      (checked-readable h (answer-stands c σ h q) _ refl)
   readable (refusal n at) q = tt

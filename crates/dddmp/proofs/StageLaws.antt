@@ -1,9 +1,12 @@
 -- Laws of the stages of a load, case by case, as the functions that carry them out find them.
 use mathlib.Core.Path.{_≡_, refl}
-use mathlib.Core.Bool.{Bool, true, false}
+use mathlib.Core.Bool.{Bool, true, false, not}
 use mathlib.Core.List.{List}
-use Prim.Native.Nat.{ℕ, zero, suc}
+use Prim.Native.Nat.{ℕ, _≤_, _<_}
 use lib.ListN.{length, replicate}
+use borrow.Author.Tests.{le-leb, lt-leb, not-true, not-false}
+use Rattle.whole.specs.Whole.{firstFault}
+use Rattle.whole.proofs.FirstFault.{refuses}
 use Rattle.store.specs.Store.{Store}
 use Rattle.store.specs.Rules.{limits}
 use Rattle.store.specs.Keeps.{keeps}
@@ -12,44 +15,67 @@ use Rattle.header.specs.Kinds.{ofHeader, ofLoaded}
 use Rattle.header.specs.declared.load.DumpHeader.{DumpHeader}
 use Rattle.header.specs.declared.load.Loaded.{Loaded}
 use Rattle.header.specs.declared.load.Loaded.the-variants as loaded
-use Rattle.import.specs.List.{beforeNodes}
+use Rattle.import.specs.List.{listFits}
 use Rattle.import.specs.Kinds.{ofImported}
 use Rattle.import.specs.declared.Imported.{Imported}
 use Rattle.import.specs.declared.Imported.the-variants as imported
-use Rattle.calls.specs.Load.{storeFault}
-use Rattle.dddmp.specs.Stages.{unlessRefused, checked, withNodes, clearedIf}
+use Rattle.calls.specs.Load.{scratchFault, listFault}
+use Rattle.dddmp.specs.Stages.{storeAfter, scratched, listed, withNodes, clearedIf}
 
-module _ (σ : Store) {b : Bool} (e : b ≡ keeps limits σ) where
-  -- a store that keeps its rules has no fault
-  pub keeps-none : b ≡ true → 0 ≡ storeFault σ
-  keeps-none p = rw (← e, p)
+module _ (found : ℕ) (σ : Store) where
+  -- what was found before stays
+  pub store-found : (found ≡ 0 → ⊥) → found ≡ storeAfter found σ
+  unfolding storeAfter
+  store-found h = refuses _ refl h
 
-  -- one that breaks them has fault 3
-  pub breaks-some : b ≡ false → 3 ≡ storeFault σ
-  breaks-some p = rw (← e, p)
+  module _ (z : found ≡ 0) {b : Bool} (e : b ≡ keeps limits σ) where
+    -- a store that keeps its rules has no fault
+    pub keeps-none : b ≡ true → 0 ≡ storeAfter found σ
+    unfolding storeAfter firstFault
+    keeps-none p = rw (z, ← e, p)
 
--- a header stands where nothing is refused of it
-stands : (h : Header) (k : ℕ) → k ≡ 0 → header h ≡ unlessRefused h k
-stands h k e = rw e
+    -- one that breaks them has fault 3
+    pub breaks-some : b ≡ false → 3 ≡ storeAfter found σ
+    unfolding storeAfter firstFault
+    breaks-some p = rw (z, ← e, p)
 
--- and is refused by what is
-falls : (h : Header) (k : ℕ) → (k ≡ 0 → ⊥) → refusal k 0 ≡ unlessRefused h k
-falls h zero n = absurd (n refl)
-falls h (suc k) n = refl
+module _ (edges seats : ℕ) (r : Loaded) where
+  module _ (h : DumpHeader) (q : r ≡ loaded.Header h) where
+    -- scratch for edges that is too short
+    pub few-edges : edges < h .nnodes → refusal 1 0 ≡ scratched edges seats (ofLoaded r)
+    unfolding scratchFault
+    few-edges p = rw (q, lt-leb (h .nnodes) edges p)
 
-module _ (edges seats levels : ℕ) (list : List ℕ) (r : Loaded) where
-  module _ (h : DumpHeader) (q : r ≡ loaded.Header h) {k : ℕ} (e : k ≡ beforeNodes (h .nnodes) edges seats (h .nsuppvars) levels list) where
-    -- scratch or level list are refused
-    pub check-refused : (k ≡ 0 → ⊥) → refusal k 0 ≡ checked edges seats levels list (ofLoaded r)
-    check-refused n = rw (q, ← e) (falls (ofHeader h) k n)
+    module _ (e : h .nnodes ≤ edges) where
+      -- scratch for seats that is
+      pub few-seats : seats < h .nnodes → refusal 1 0 ≡ scratched edges seats (ofLoaded r)
+      unfolding scratchFault
+      few-seats p = rw (q, le-leb (h .nnodes) edges e, lt-leb (h .nnodes) seats p)
 
-    -- neither is
-    pub check-passed : k ≡ 0 → header (ofHeader h) ≡ checked edges seats levels list (ofLoaded r)
-    check-passed p = rw (q, ← e) (stands (ofHeader h) k p)
+      -- both are long enough
+      pub enough-scratch : h .nnodes ≤ seats → header (ofHeader h) ≡ scratched edges seats (ofLoaded r)
+      unfolding scratchFault
+      enough-scratch p = rw (q, le-leb (h .nnodes) edges e, le-leb (h .nnodes) seats p)
 
   -- a refusal goes on
-  pub check-handed : (n line : ℕ) → r ≡ loaded.Refused n line → refusal n line ≡ checked edges seats levels list (ofLoaded r)
-  check-handed n line q = rw q
+  pub scratch-handed : (n line : ℕ) → r ≡ loaded.Refused n line → refusal n line ≡ scratched edges seats (ofLoaded r)
+  scratch-handed n line q = rw q
+
+module _ (levels : ℕ) (list : List ℕ) (r : Loaded) where
+  module _ (h : DumpHeader) (q : r ≡ loaded.Header h) {b : Bool} (e : b ≡ listFits (h .nsuppvars) levels list) where
+    -- a level list that doesn't fit
+    pub list-refused : not b ≡ true → refusal 2 0 ≡ listed levels list (ofLoaded r)
+    unfolding listFault
+    list-refused p = rw (q, ← e, not-true b p)
+
+    -- one that does
+    pub list-passed : not b ≡ false → header (ofHeader h) ≡ listed levels list (ofLoaded r)
+    unfolding listFault
+    list-passed p = rw (q, ← e, not-false b p)
+
+  -- a refusal goes on
+  pub list-handed : (n line : ℕ) → r ≡ loaded.Refused n line → refusal n line ≡ listed levels list (ofLoaded r)
+  list-handed n line q = rw q
 
 module _ (h : Header) (r : Imported) where
   -- nodes that are read leave the header

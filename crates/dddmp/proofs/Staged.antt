@@ -10,18 +10,26 @@ use Rattle.codes.specs.Lent.{laid}
 use Rattle.codes.proofs.Lent.{length-laid}
 use Rattle.readers.specs.Text.{Place}
 use Rattle.values.specs.Values.{pad}
+use Rattle.whole.specs.Whole.{firstFault}
+use Rattle.whole.proofs.FirstFault.{last-check}
 use Rattle.store.specs.Store.{Store}
 use Rattle.header.specs.Header as head
 use Rattle.header.specs.Header.{Header, Answer, header, refusal}
-use Rattle.import.specs.List.{beforeNodes}
 use Rattle.import.specs.Build.{Built}
 use Rattle.import.specs.Import as nodes
-use Rattle.calls.specs.Load.{Load, Loaded, refusedAt, headerOf, setupFor, nodesOf, withNodes, withList, withHeader, loadOf}
-use Rattle.dddmp.specs.Stages.{unlessRefused, checked, Noded, noded, nodesAfter, isRefusal, clearedIf}
+use Rattle.calls.specs.Load.{Load, Loaded, refusedAt, scratchFault, listFault, beforeNodes, headerOf, setupFor, nodesOf, withNodes, withList, withHeader, loadOf}
+use Rattle.dddmp.specs.Stages.{unlessRefused, scratched, listed, Noded, noded, nodesAfter, isRefusal, clearedIf}
 
 -- what a load leaves of the nodes
 abbrev pub nodesLeft : Loaded → Noded
 nodesLeft r = record { answer = r .answer; after = r .after; roots = r .roots }
+
+-- the level list after the scratch: the first of their refusals
+list-after : (h : Header) (k levels : ℕ) (list : List ℕ)
+    → listed levels list (unlessRefused h k) ≡ unlessRefused h (firstFault (k ∷ listFault (h .nsuppvars) levels list ∷ []))
+unfolding firstFault
+list-after h zero levels list = ap (unlessRefused h) (last-check (listFault (h .nsuppvars) levels list))
+list-after h (suc k) levels list = refl
 
 -- a list with every entry taken for 0
 zeros-of : (l : List ℤ) → map (λ r. pos 0) l ≡ replicate (length l) (pos 0)
@@ -39,7 +47,12 @@ module _ (c : Load) (σ : Store) where
 
   -- the answer after scratch and level list
   abbrev pub ready : Answer → Answer
-  ready a = checked (c .lent .edges) (c .lent .seats) (σ .levels) (c .list) a
+  ready a = listed (σ .levels) (c .list) (scratched (c .lent .edges) (c .lent .seats) a)
+
+  -- of a header
+  pub ready-header : (h : Header) → ready (header h) ≡ unlessRefused h (beforeNodes c σ h)
+  unfolding beforeNodes
+  ready-header h = list-after h (scratchFault (h .nnodes) (c .lent .edges) (c .lent .seats)) (σ .levels) (c .list)
 
   -- zeros of the numbers are zeros of the lent list
   numbers-zero : replicate (c .lent .roots) (pos 0) ≡ replicate (length numbersRead) (pos 0)
@@ -72,7 +85,8 @@ module _ (c : Load) (σ : Store) where
 
   -- after the header
   left-header : (a : Answer) → nodesLeft (withHeader c σ a) ≡ nodesAfter (ready a) σ (c .file) (c .list) numbersRead
-  left-header (header h) = left-checked h (beforeNodes (h .nnodes) (c .lent .edges) (c .lent .seats) (h .nsuppvars) (σ .levels) (c .list))
+  left-header (header h) =
+      left-checked h (beforeNodes c σ h) ∙ ap (λ a. nodesAfter a σ (c .file) (c .list) numbersRead) (sym (ready-header h))
   left-header (refusal n line) = left-refused n line
 
   -- The nodes' stage leaves the answer, the store and the roots of the load.
@@ -130,8 +144,7 @@ module _ (c : Load) (σ : Store) where
   cleared-checked h (suc k) = refl
 
   cleared-header : (a : Answer) → Cleared (withHeader c σ a)
-  cleared-header (header h) =
-      cleared-checked h (beforeNodes (h .nnodes) (c .lent .edges) (c .lent .seats) (h .nsuppvars) (σ .levels) (c .list))
+  cleared-header (header h) = cleared-checked h (beforeNodes c σ h)
   cleared-header (refusal n line) = refl
 
   -- the entries of a load are those of its header, or none on a refusal

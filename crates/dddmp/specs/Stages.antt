@@ -2,26 +2,35 @@
 -- `loadOf`. Document 01: 'load gives 1 (lists), 3, 19 for the input's length, header, 1 (scratch), 2, nodes, 39.'
 use Prim.Native.Nat.{ℕ, zero, suc}
 use mathlib.Core.Bool.{Bool, true, false}
-use mathlib.Core.List.{List}
+use mathlib.Core.List.{List, [], _∷_}
 use lib.ListN.{length, replicate}
 use lib.IntN.{ℤ, pos}
+use Rattle.whole.specs.Whole.{firstFault}
 use Rattle.store.specs.Store.{Store}
 use Rattle.store.specs.Rules.{limits, Rules}
 use Rattle.header.specs.Header.{Header, Answer, header, refusal}
 use Rattle.import.specs.Build.{LevelsOf}
-use Rattle.import.specs.List.{beforeNodes}
 use Rattle.import.specs.Import as nodes
-use Rattle.calls.specs.Load.{setupFor}
+use Rattle.calls.specs.Load.{storeFault, scratchFault, listFault, setupFor}
+
+-- '3 the store breaks its rules', after what was found before, 0 of nothing
+unfoldable pub storeAfter : ℕ → Store → ℕ
+storeAfter found σ = firstFault (found ∷ storeFault σ ∷ [])
 
 -- a header, where nothing is refused of it
 abbrev pub unlessRefused : Header → ℕ → Answer
 unlessRefused h zero = header h
 unlessRefused h (suc k) = refusal (suc k) 0
 
--- '1 (scratch), 2': the lengths of the two scratch lists and the level list, after the header's answer
-abbrev pub checked : ℕ → ℕ → ℕ → List ℕ → Answer → Answer
-checked edges seats levels list (header h) = unlessRefused h (beforeNodes (h .nnodes) edges seats (h .nsuppvars) levels list)
-checked edges seats levels list (refusal n line) = refusal n line
+-- '1 (scratch)': the lengths of the two scratch lists, after the answer so far
+abbrev pub scratched : ℕ → ℕ → Answer → Answer
+scratched edges seats (header h) = unlessRefused h (scratchFault (h .nnodes) edges seats)
+scratched edges seats (refusal n line) = refusal n line
+
+-- '2': the level list, after the answer so far
+abbrev pub listed : ℕ → List ℕ → Answer → Answer
+listed levels list (header h) = unlessRefused h (listFault (h .nsuppvars) levels list)
+listed levels list (refusal n line) = refusal n line
 
 -- what the nodes lean on, where there is a header: the store's rules, the level list, and limits that were judged before
 abbrev pub Readable : Answer → Store → List ℕ → ℕ → ℕ → Type 0

@@ -47,10 +47,22 @@ pub fn load(
     ensures { λ _. ⌜ (store levels (now (count .exit)) (now (level .exit)) (now (then .exit)) (now (els .exit)) (now (next .exit)) (now (heads .exit))) ≡ loadOf (loadInto (now (f .entry)) (now (list .entry)) (parts (now (ids .entry)) (now (order .entry)) (now (permids .entry)) (now (auxids .entry)) (now (names .entry)) (now (lens .entry)) (now (roots .entry)) (now (rootnames .entry)) (now (rootlens .entry)) (now (edges .entry)) (now (seats .entry)))) (store levels (now (count .entry)) (now (level .entry)) (now (then .entry)) (now (els .entry)) (now (next .entry)) (now (heads .entry))) .after ⌝ }
     ensures { λ _. ⌜ (parts (now (ids .exit)) (now (order .exit)) (now (permids .exit)) (now (auxids .exit)) (now (names .exit)) (now (lens .exit)) (now (roots .exit)) (now (rootnames .exit)) (now (rootlens .exit)) (now (edges .exit)) (now (seats .exit))) ≡ partsOf (lengthsOf (parts (now (ids .entry)) (now (order .entry)) (now (permids .entry)) (now (auxids .entry)) (now (names .entry)) (now (lens .entry)) (now (roots .entry)) (now (rootnames .entry)) (now (rootlens .entry)) (now (edges .entry)) (now (seats .entry)))) (loadOf (loadInto (now (f .entry)) (now (list .entry)) (parts (now (ids .entry)) (now (order .entry)) (now (permids .entry)) (now (auxids .entry)) (now (names .entry)) (now (lens .entry)) (now (roots .entry)) (now (rootnames .entry)) (now (rootlens .entry)) (now (edges .entry)) (now (seats .entry)))) (store levels (now (count .entry)) (now (level .entry)) (now (then .entry)) (now (els .entry)) (now (next .entry)) (now (heads .entry)))) ⌝ }
 {
-    let found = stages::store_fault(levels, *count, level, then, els, next, heads);
+    let lists = stages::lists_fault(
+        ids.len(),
+        order.len(),
+        permids.len(),
+        auxids.len(),
+        names.len(),
+        lens.len(),
+        roots.len(),
+        rootnames.len(),
+        rootlens.len(),
+    );
+    let found = stages::store_fault(lists, levels, *count, level, then, els, next, heads);
+    let before = header::before::length_fault(found, f.len());
     let read = DumpHeader::load(
         f,
-        found,
+        before,
         ids,
         order,
         permids,
@@ -61,7 +73,8 @@ pub fn load(
         rootnames,
         rootlens,
     );
-    let ready = stages::check_levels(read, edges.len(), seats.len(), levels, list);
+    let room = stages::check_scratch(read, edges.len(), seats.len());
+    let ready = stages::check_list(room, levels, list);
     let answer = stages::load_nodes(
         ready,
         f,

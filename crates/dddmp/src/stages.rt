@@ -1,16 +1,18 @@
-// The stages of a load after the lists that it is lent, in document 01's order. Each takes the answer so far and hands a refusal on, so
-// that a further check is a further stage. `DumpHeader::load` has the first ones: lists, the store's fault, length, header.
+// The stages of a load, in document 01's order: lists, store, length, header, scratch, level list, nodes, end. Each has a promise of its own,
+// takes what was found so far and hands a refusal on, so that a further check is a further stage. Two of them are functions of `header`:
+// the length, `before::length_fault`, and the header itself, `DumpHeader::load`.
 ghost use mathlib.Core.Path.{_≡_};
 ghost use mathlib.Core.Bool.{not};
+ghost use mathlib.Core.List.{[], _∷_};
 ghost use lib.Dec.{eqb};
 ghost use lib.IntN.{pos};
 ghost use lib.ListN.{length, replicate};
 ghost use Rattle.store.specs.Store.{store};
 ghost use Rattle.values.specs.Kinds.{ofVarInfo};
+ghost use Rattle.header.specs.Header.{listsFault};
 ghost use Rattle.header.specs.Kinds.{ofHeader, ofLoaded};
 ghost use Rattle.import.specs.Kinds.{ofImported};
-ghost use Rattle.calls.specs.Load.{storeFault};
-ghost use Rattle.dddmp.specs.Stages.{checked, Readable, withNodes, nodesAfter, isRefusal, clearedIf};
+ghost use Rattle.dddmp.specs.Stages.{storeAfter, scratched, listed, Readable, withNodes, nodesAfter, isRefusal, clearedIf};
 use codes::VarInfo;
 use codes::refusal;
 use edges::Edge;
@@ -19,8 +21,29 @@ use header::load::DumpHeader;
 use header::load::Loaded;
 use import::Imported;
 
-// The store: 3 where it breaks its rules, else 0.
+// The lent lists, by their lengths: 1 where one is too short, else 0.
+pub(crate) fn lists_fault(
+    ids: usize,
+    order: usize,
+    permids: usize,
+    auxids: usize,
+    names: usize,
+    lens: usize,
+    roots: usize,
+    rootnames: usize,
+    rootlens: usize,
+) -> u8
+    ensures { λ r. ⌜ r ≡ listsFault (ids ∷ order ∷ permids ∷ auxids ∷ names ∷ lens ∷ []) (roots ∷ rootnames ∷ rootlens ∷ []) ⌝ }
+{
+    header::before::lists_fault(
+        &[ids, order, permids, auxids, names, lens],
+        &[roots, rootnames, rootlens],
+    )
+}
+
+// The store: what was found before, 0 for nothing; else 3 where it breaks its rules, else 0.
 pub(crate) fn store_fault(
+    found: u8,
     levels: u16,
     count: Index,
     level: &[u16],
@@ -29,36 +52,43 @@ pub(crate) fn store_fault(
     next: &[Index],
     heads: &[Index],
 ) -> u8
-    ensures { λ r. ⌜ r ≡ storeFault (store levels count (now (level .entry)) (now (then .entry)) (now (els .entry)) (now (next .entry)) (now (heads .entry))) ⌝ }
+    ensures { λ r. ⌜ r ≡ storeAfter found (store levels count (now (level .entry)) (now (then .entry)) (now (els .entry)) (now (next .entry)) (now (heads .entry))) ⌝ }
 {
+    if found != 0 {
+        return found;
+    }
     if rules::keeps_rules(levels, count, level, then, els, next, heads) {
         return 0;
     }
     refusal::BROKEN_STORE
 }
 
-// Scratch, by the lengths of its two lists, and the level list.
-pub(crate) fn check_levels(
-    read: Loaded,
-    edges: usize,
-    seats: usize,
-    levels: u16,
-    list: &[u16],
-) -> Loaded
-    ensures { λ r. ⌜ ofLoaded r ≡ checked edges seats levels (now (list .entry)) (ofLoaded read) ⌝ }
+// Scratch, by the lengths of its two lists: 1 where one is too short for the nodes.
+pub(crate) fn check_scratch(read: Loaded, edges: usize, seats: usize) -> Loaded
+    ensures { λ r. ⌜ ofLoaded r ≡ scratched edges seats (ofLoaded read) ⌝ }
 {
     match read {
         Loaded::Header(h) => {
-            let refused = import::list::before_nodes(
-                h.nnodes,
-                edges,
-                seats,
-                list,
-                h.nsuppvars,
-                levels,
-            );
-            if refused != 0 {
-                return Loaded::Refused(refused, 0);
+            if (edges as u64) < h.nnodes {
+                return Loaded::Refused(refusal::TOO_SHORT, 0);
+            }
+            if (seats as u64) < h.nnodes {
+                return Loaded::Refused(refusal::TOO_SHORT, 0);
+            }
+            Loaded::Header(h)
+        }
+        Loaded::Refused(n, line) => Loaded::Refused(n, line),
+    }
+}
+
+// The level list: 2 where it doesn't fit.
+pub(crate) fn check_list(ready: Loaded, levels: u16, list: &[u16]) -> Loaded
+    ensures { λ r. ⌜ ofLoaded r ≡ listed levels (now (list .entry)) (ofLoaded ready) ⌝ }
+{
+    match ready {
+        Loaded::Header(h) => {
+            if !import::list::list_fits(list, h.nsuppvars, levels) {
+                return Loaded::Refused(refusal::BAD_LEVELS, 0);
             }
             Loaded::Header(h)
         }

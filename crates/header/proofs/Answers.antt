@@ -2,11 +2,9 @@
 use mathlib.Core.Path.{_≡_, refl, sym, ap, _∙_}
 use mathlib.Core.Bool.{Bool}
 use mathlib.Core.List.{List, map}
-use Prim.Native.Nat.{ℕ, zero, suc, _≤_, _<_}
+use Prim.Native.Nat.{ℕ, zero, suc, _≤_}
 use lib.ListN.{length, replicate}
-use borrow.Author.Tests.{lt-ltb, le-ltb}
 use Rattle.codes.specs.declared.VarInfo.{VarInfo}
-use Rattle.codes.specs.Limits.{inputLimit}
 use Rattle.fields.specs.Sweep.{Span, keys, spanStart, spanEnd, Table, EndWithin, atNodes, refusedAt, linesOf, endOf, sound, lasts}
 use Rattle.fields.specs.declared.sweep.Swept.{Swept}
 use Rattle.fields.specs.declared.sweep.Swept.the-variants as swept
@@ -19,7 +17,7 @@ use Rattle.values.specs.Values.{spans, nnodesIn, nvarsIn, nsuppvarsIn, nrootsIn
 use Rattle.values.proofs.Spanned.{spans-parts}
 use Rattle.whole.specs.Whole.{wholeFault}
 use Rattle.header.specs.Kinds.{ofHeader}
-use Rattle.header.specs.Header.{Header, Answer, header, refusal, headerIn, tableOf, settled, judged, answerOf, after, tableBy, Settled, NextWithin}
+use Rattle.header.specs.Header.{Header, Answer, header, refusal, headerIn, tableOf, settled, judged, readOf, after, tableBy, Settled, NextWithin}
 use Rattle.header.proofs.NoValues.{none-settled}
 use Rattle.header.proofs.Faultless.{faultless-settled}
 
@@ -62,11 +60,6 @@ module _ (n : ℕ) (f : List ℕ) {starts ends : List ℕ} (p : starts ≡ repli
       go zero k = absurd (k refl)
       go (suc m) k = refl
 
-  -- then the length of the input
-  pub refused-long : n ≡ 0 → inputLimit < length f → Promised n f (refusal 19 0) starts ends
-  unfolding answerOf
-  refused-long z h = refused n f 19 0 (rw (z, lt-ltb inputLimit (length f) h)) p q
-
 -- a list of as many entries as there are keys, when it is cleared
 cleared : {n : ℕ} {l : List ℕ} → l ≡ replicate n 0 → n ≡ keys → l ≡ replicate keys 0
 cleared e k = e ∙ ap (λ i. replicate i 0) k
@@ -83,18 +76,18 @@ SweptBy f s starts ends =
     × ((ends ≡ map spanEnd (lasts (sound f (linesOf f))))
     × (EndWithin f (ofSwept s) × Table f starts ends)))
 
--- an input that isn't too long: the lines decide
-judged-short : (n : ℕ) (f : List ℕ) → n ≡ 0 → length f ≤ inputLimit → after n f ≡ judged f (endOf f (linesOf f))
-unfolding answerOf
-judged-short n f z h = rw (z, le-ltb inputLimit (length f) h)
+-- nothing was found before: the lines decide
+judged-first : (n : ℕ) (f : List ℕ) → n ≡ 0 → after n f ≡ judged f (endOf f (linesOf f))
+unfolding readOf
+judged-first n f z = rw z
 
-module _ (n : ℕ) (f : List ℕ) (z : n ≡ 0) (h : length f ≤ inputLimit) {s : Swept} {ss es : List ℕ} (w : SweptBy f s ss es) where
+module _ (n : ℕ) (f : List ℕ) (z : n ≡ 0) {s : Swept} {ss es : List ℕ} (w : SweptBy f s ss es) where
   -- a line is refused
   pub refused-line : {k line : ℕ} {starts ends : List ℕ} → s ≡ swept.Refused k line
       → starts ≡ replicate (length ss) 0 → ends ≡ replicate (length es) 0 → Promised n f (refusal k line) starts ends
   refused-line {k} {line} q a b =
       let e : endOf f (linesOf f) ≡ refusedAt k line = sym (w .0) ∙ ap ofSwept q in
-      refused n f k line (sym (judged-short n f z h ∙ ap (judged f) e))
+      refused n f k line (sym (judged-first n f z ∙ ap (judged f) e))
       (cleared a (w .1 .1 .1 .1 .starts-long))
       (cleared b (w .1 .1 .1 .1 .ends-long))
 
@@ -105,7 +98,7 @@ module _ (n : ℕ) (f : List ℕ) (z : n ≡ 0) (h : length f ≤ inputLimit) {s
 
     -- the header as a whole decides
     decided : after n f ≡ settled f (tableOf f) next lines (wholeFault f (tableOf f))
-    decided = judged-short n f z h ∙ ap (judged f) ended
+    decided = judged-first n f z ∙ ap (judged f) ended
 
     -- the lines before `.nodes` are all sound, so that the table is that of the file
     table-all : lasts (sound f (linesOf f)) ≡ tableOf f

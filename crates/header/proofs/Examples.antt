@@ -18,18 +18,18 @@ use Rattle.checks.specs.Roots.{rootsFault, edgeOf}
 use Rattle.values.specs.Values.{spans, numberIn, asciiIn, varinfoIn, ddIn, u32sIn, namesIn, rootsIn}
 use Rattle.whole.specs.Names.{upFrom, agree, variableNamesIn}
 use Rattle.whole.specs.Whole.{firstFault, numberFaults, supportFaults, nameCountFaults, nameFaults, rootFaults, wholeFault}
-use Rattle.header.specs.Header.{tableOf, answerOf, atLeast, beforeReading, loadOf}
+use Rattle.header.specs.Header.{tableOf, readOf, lengthFault, loadOf}
 use Rattle.header.specs.Examples.{bytesFrom, loaded, example, exampleLoaded, starred, starredLoaded, All, refusals}
 
 pub example-loads : loaded example ≡ exampleLoaded
-unfolding run isBlank isDigit isLineEnd isOf seek trim feedAt lineOf keyEnd valueStart valueEnd fieldOf digit number single judge u32List wordsFrom words entryStep edgeAt edgeEnd edgeList utf8Next isUtf8 nameList textAt alike lookup keyOf versionFault modeFault varinfoFault textFault singleFault u32ListFault rootListFault nameListFault faultOf linesFrom linesOf endFrom endOf allOf sound lastFrom lastOf lasts stepAt seatOf ascending lastBelow idsFit allBelow distinct permidsFit orderFrom supportOrder places sameBytes sameName sameNames chosen freeFrom orderedFrom orderedSeats suppFrom suppSeats variableNames rootsFault edgeOf spans numberIn asciiIn varinfoIn ddIn u32sIn namesIn rootsIn upFrom agree variableNamesIn firstFault numberFaults supportFaults nameCountFaults nameFaults rootFaults wholeFault tableOf answerOf atLeast beforeReading loadOf bytesFrom
+unfolding run isBlank isDigit isLineEnd isOf seek trim feedAt lineOf keyEnd valueStart valueEnd fieldOf digit number single judge u32List wordsFrom words entryStep edgeAt edgeEnd edgeList utf8Next isUtf8 nameList textAt alike lookup keyOf versionFault modeFault varinfoFault textFault singleFault u32ListFault rootListFault nameListFault faultOf linesFrom linesOf endFrom endOf allOf sound lastFrom lastOf lasts stepAt seatOf ascending lastBelow idsFit allBelow distinct permidsFit orderFrom supportOrder places sameBytes sameName sameNames chosen freeFrom orderedFrom orderedSeats suppFrom suppSeats variableNames rootsFault edgeOf spans numberIn asciiIn varinfoIn ddIn u32sIn namesIn rootsIn upFrom agree variableNamesIn firstFault numberFaults supportFaults nameCountFaults nameFaults rootFaults wholeFault tableOf readOf lengthFault loadOf bytesFrom
 example-loads = refl
 
 pub starred-loads : loaded starred ≡ starredLoaded
-unfolding run isBlank isDigit isLineEnd isOf seek trim feedAt lineOf keyEnd valueStart valueEnd fieldOf digit number single judge u32List wordsFrom words entryStep edgeAt edgeEnd edgeList utf8Next isUtf8 nameList textAt alike lookup keyOf versionFault modeFault varinfoFault textFault singleFault u32ListFault rootListFault nameListFault faultOf linesFrom linesOf endFrom endOf allOf sound lastFrom lastOf lasts stepAt seatOf ascending lastBelow idsFit allBelow distinct permidsFit orderFrom supportOrder places sameBytes sameName sameNames chosen freeFrom orderedFrom orderedSeats suppFrom suppSeats variableNames rootsFault edgeOf spans numberIn asciiIn varinfoIn ddIn u32sIn namesIn rootsIn upFrom agree variableNamesIn firstFault numberFaults supportFaults nameCountFaults nameFaults rootFaults wholeFault tableOf answerOf atLeast beforeReading loadOf bytesFrom
+unfolding run isBlank isDigit isLineEnd isOf seek trim feedAt lineOf keyEnd valueStart valueEnd fieldOf digit number single judge u32List wordsFrom words entryStep edgeAt edgeEnd edgeList utf8Next isUtf8 nameList textAt alike lookup keyOf versionFault modeFault varinfoFault textFault singleFault u32ListFault rootListFault nameListFault faultOf linesFrom linesOf endFrom endOf allOf sound lastFrom lastOf lasts stepAt seatOf ascending lastBelow idsFit allBelow distinct permidsFit orderFrom supportOrder places sameBytes sameName sameNames chosen freeFrom orderedFrom orderedSeats suppFrom suppSeats variableNames rootsFault edgeOf spans numberIn asciiIn varinfoIn ddIn u32sIn namesIn rootsIn upFrom agree variableNamesIn firstFault numberFaults supportFaults nameCountFaults nameFaults rootFaults wholeFault tableOf readOf lengthFault loadOf bytesFrom
 starred-loads = refl
 
 -- every row of the table holds
 pub refusals-hold : All refusals
-unfolding run isBlank isDigit isLineEnd isOf seek trim feedAt lineOf keyEnd valueStart valueEnd fieldOf digit number single judge u32List wordsFrom words entryStep edgeAt edgeEnd edgeList utf8Next isUtf8 nameList textAt alike lookup keyOf versionFault modeFault varinfoFault textFault singleFault u32ListFault rootListFault nameListFault faultOf linesFrom linesOf endFrom endOf allOf sound lastFrom lastOf lasts stepAt seatOf ascending lastBelow idsFit allBelow distinct permidsFit orderFrom supportOrder places sameBytes sameName sameNames chosen freeFrom orderedFrom orderedSeats suppFrom suppSeats variableNames rootsFault edgeOf spans numberIn asciiIn varinfoIn ddIn u32sIn namesIn rootsIn upFrom agree variableNamesIn firstFault numberFaults supportFaults nameCountFaults nameFaults rootFaults wholeFault tableOf answerOf atLeast beforeReading loadOf bytesFrom
+unfolding run isBlank isDigit isLineEnd isOf seek trim feedAt lineOf keyEnd valueStart valueEnd fieldOf digit number single judge u32List wordsFrom words entryStep edgeAt edgeEnd edgeList utf8Next isUtf8 nameList textAt alike lookup keyOf versionFault modeFault varinfoFault textFault singleFault u32ListFault rootListFault nameListFault faultOf linesFrom linesOf endFrom endOf allOf sound lastFrom lastOf lasts stepAt seatOf ascending lastBelow idsFit allBelow distinct permidsFit orderFrom supportOrder places sameBytes sameName sameNames chosen freeFrom orderedFrom orderedSeats suppFrom suppSeats variableNames rootsFault edgeOf spans numberIn asciiIn varinfoIn ddIn u32sIn namesIn rootsIn upFrom agree variableNamesIn firstFault numberFaults supportFaults nameCountFaults nameFaults rootFaults wholeFault tableOf readOf lengthFault loadOf bytesFrom
 refusals-hold = (refl, (refl, (refl, (refl, (refl, (refl, (refl, (refl, (refl, (refl, (refl, (refl, (refl, (refl, (refl, (refl, (refl, (refl, (refl, (refl, (refl, (refl, (refl, (refl, (refl, (refl, (refl, (refl, (refl, (refl, tt))))))))))))))))))))))))))))))

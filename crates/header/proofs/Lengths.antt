@@ -1,16 +1,17 @@
--- Laws of the lengths of lent lists: whether each is enough, and what is refused before anything is read.
-use mathlib.Core.Path.{_≡_, sym, _∙_}
+-- Laws of what is judged before anything is read: the lengths of the lent lists, and the input's.
+use mathlib.Core.Path.{_≡_, refl, sym, _∙_}
 use mathlib.Core.Bool.{Bool, true, false, not}
-use mathlib.Core.List.{List}
+use mathlib.Core.List.{List, []}
 use Prim.Native.Nat.{ℕ, _+_, _≤_, _<_}
 use native.Mathlib.Numerals.{add-one}
 use lib.ListN.{length, getD, drop, drop-of-length-le}
 use lib.Seq.{drop-cons}
 use borrow.Author.Tests.{le-leb, lt-leb, not-true, not-false}
-use Rattle.codes.specs.Limits.{varLimit, rootLimit}
+use Rattle.codes.specs.Limits.{varLimit, rootLimit, inputLimit}
 use Rattle.whole.specs.Whole.{firstFault}
-use Rattle.whole.proofs.FirstFault.{last-check}
-use Rattle.header.specs.Header.{atLeast, beforeReading}
+use Rattle.whole.proofs.FirstFault.{refuses, first-none, rest-none}
+use Rattle.whole.proofs.Refusals.{over-refuses, within-passes, within-none}
+use Rattle.header.specs.Header.{atLeast, listsFault, lengthFault, lengthAfter, MayRead}
 
 -- The first i lengths are enough, so that the others decide.
 module _ (least : ℕ) (l : List ℕ) (i : ℕ) (s : atLeast least l ≡ atLeast least (drop i l)) where
@@ -30,19 +31,51 @@ module _ (least : ℕ) (l : List ℕ) (i : ℕ) (s : atLeast least l ≡ atLeast
     unfolding atLeast
     lengths-more k = rw add-one (s ∙ rw (drop-cons l i 0 h, le-leb least (getD l i 0) k))
 
-module _ (vars roots : List ℕ) (found : ℕ) {a : Bool} (p : a ≡ atLeast varLimit vars) where
+module _ (vars roots : List ℕ) {a : Bool} (p : a ≡ atLeast varLimit vars) where
   -- a list of variables is too short
-  pub short-vars : not a ≡ true → beforeReading vars roots found ≡ 1
-  unfolding beforeReading firstFault
+  pub short-vars : not a ≡ true → 1 ≡ listsFault vars roots
+  unfolding listsFault
   short-vars h = rw (← p, not-true a h)
 
   module _ (h : not a ≡ false) {b : Bool} (q : b ≡ atLeast rootLimit roots) where
     -- a list of roots is too short
-    pub short-roots : not b ≡ true → beforeReading vars roots found ≡ 1
-    unfolding beforeReading firstFault
+    pub short-roots : not b ≡ true → 1 ≡ listsFault vars roots
+    unfolding listsFault
     short-roots k = rw (← p, ← q, not-false a h, not-true b k)
 
-    -- all are long enough: what the caller found decides
-    pub long-enough : not b ≡ false → beforeReading vars roots found ≡ found
-    unfolding beforeReading firstFault
-    long-enough k = rw (← p, ← q, not-false a h, not-false b k) (sym (last-check found))
+    -- all are long enough
+    pub long-enough : not b ≡ false → 0 ≡ listsFault vars roots
+    unfolding listsFault
+    long-enough k = rw (← p, ← q, not-false a h, not-false b k)
+
+module _ (found n : ℕ) where
+  -- what was found before stays
+  pub length-found : (found ≡ 0 → ⊥) → found ≡ lengthAfter found n
+  unfolding lengthAfter
+  length-found h = refuses _ refl h
+
+  module _ (z : found ≡ 0) where
+    -- an input that is too long
+    pub length-over : inputLimit < n → 19 ≡ lengthAfter found n
+    unfolding lengthAfter lengthFault firstFault
+    length-over h = rw (z, over-refuses inputLimit n 19 h)
+
+    -- one that isn't
+    pub length-within : n ≤ inputLimit → 0 ≡ lengthAfter found n
+    unfolding lengthAfter lengthFault firstFault
+    length-within h = rw (z, within-passes inputLimit n 19 h)
+
+-- where nothing is found the input isn't too long
+pub length-none : (n : ℕ) → lengthFault n ≡ 0 → n ≤ inputLimit
+unfolding lengthFault
+length-none n h = within-none inputLimit n 18 h
+
+-- an input that isn't too long has no fault
+pub none-length : (n : ℕ) → n ≤ inputLimit → lengthFault n ≡ 0
+unfolding lengthFault
+none-length n h = within-passes inputLimit n 19 h
+
+-- so that what is found before the header lets it be read
+pub length-may : (found : ℕ) (f : List ℕ) {n : ℕ} → n ≡ lengthAfter found (length f) → MayRead n f
+unfolding lengthAfter
+length-may found f e = λ z. length-none (length f) (first-none _ [] (rest-none found _ (sym e ∙ z)))

@@ -1,14 +1,12 @@
 -- What a load leaves: its answer, and each lent list.
 use mathlib.Core.Path.{_≡_, refl, ap, _∙_}
-use mathlib.Core.Bool.{Bool, true, false, cond}
-use mathlib.Core.List.{List, [], _∷_, map}
+use mathlib.Core.List.{List, map}
 use Prim.Native.Nat.{ℕ, zero, suc}
 use native.Mathlib.Omega.{arith}
-use lib.Dec.{ltb}
 use lib.IntN.{ℤ, pos}
 use lib.ListN.{length, replicate}
 use Rattle.codes.specs.Lent.{laid}
-use Rattle.codes.specs.Limits.{rootLimit, inputLimit}
+use Rattle.codes.specs.Limits.{rootLimit}
 use Rattle.readers.specs.Text.{startOf, lenOf}
 use Rattle.fields.specs.Sweep.{Span, End, atNodes, refusedAt, endOf, linesOf}
 use Rattle.fields.specs.declared.keys.Key.the-variants.{Ids, Permids, Auxids, Rootnames}
@@ -17,7 +15,7 @@ use Rattle.checks.specs.Support.{supportOrder}
 use Rattle.values.specs.Values.{spans, pad, nvarsIn, u32sIn, namesIn, rootsIn}
 use Rattle.whole.specs.Names.{variableNamesIn}
 use Rattle.whole.specs.Whole.{wholeFault}
-use Rattle.header.specs.Header.{Header, Answer, header, refusal, tableOf, settled, judged, answerOf, after, beforeReading, Loaded, listsIn, listsBy, loadOf, loadInto, tableBy, Settled, NextWithin}
+use Rattle.header.specs.Header.{Header, Answer, header, refusal, tableOf, settled, judged, readOf, after, Loaded, listsIn, listsBy, loadOf, tableBy, Settled, NextWithin}
 use Rattle.header.proofs.NoValues.{no-lists}
 use Rattle.header.proofs.Faultless.{faultless-roots}
 use Rattle.header.proofs.Answers.{Promised, spans-of}
@@ -32,16 +30,10 @@ judged-clean : (f : List ℕ) (h : Header) (e : End) → header h ≡ judged f e
 judged-clean f h (refusedAt n line) e = let z : _≡_ {A = ℕ} 0 1 = cc in absurd (omega arith)
 judged-clean f h (atNodes next lines) e = stands-clean f h (tableOf f) next lines (wholeFault f (tableOf f)) e
 
--- so has one that stands after the length of the input
-short-clean : (f : List ℕ) (h : Header) (b : Bool) → header h ≡ cond b (refusal 19 0) (judged f (endOf f (linesOf f)))
-    → wholeFault f (tableOf f) ≡ 0
-short-clean f h true e = let z : _≡_ {A = ℕ} 0 1 = cc in absurd (omega arith)
-short-clean f h false e = judged-clean f h (endOf f (linesOf f)) e
-
 -- so has one that is the answer
 after-clean : (n : ℕ) (f : List ℕ) (h : Header) → header h ≡ after n f → wholeFault f (tableOf f) ≡ 0
-unfolding answerOf
-after-clean zero f h e = short-clean f h (ltb inputLimit (length f)) e
+unfolding readOf
+after-clean zero f h e = judged-clean f h (endOf f (linesOf f)) e
 after-clean (suc n) f h e = let z : _≡_ {A = ℕ} 0 1 = cc in absurd (omega arith)
 
 -- the roots of the table that the last phase reads are themselves as edges
@@ -68,21 +60,17 @@ module _ (n : ℕ) (f : List ℕ) (a : Answer) {starts ends : List ℕ} (w : Pro
   held-edges = rw held-spans (edges-by n f a (w .0))
 
   -- the lists that are read are those of the load
-  all-loaded : (vars roots : List ℕ) (found : ℕ) → n ≡ beforeReading vars roots found
-      → listsIn f (spans starts ends) a ≡ loadOf vars roots found f
+  all-loaded : listsIn f (spans starts ends) a ≡ loadOf n f
   unfolding loadOf
-  all-loaded vars roots found q = ap (λ t. listsIn f t a) held-spans ∙ lists-by f a ∙ ap (listsBy f) (w .0 ∙ ap (λ k. after k f) q)
+  all-loaded = ap (λ t. listsIn f t a) held-spans ∙ lists-by f a ∙ ap (listsBy f) (w .0)
 
--- What a load leaves in its nine lists, whose length at entry decides what is refused before reading.
-module _ (f : List ℕ) (found : ℕ) (ids order permids auxids names lens : List ℕ) (roots : List ℤ) (rootnames rootlens : List ℕ) where
+-- What a load leaves in its nine lists.
+module _ (f : List ℕ) (n : ℕ) (ids order permids auxids names lens : List ℕ) (roots : List ℤ) (rootnames rootlens : List ℕ) where
   -- the load
   abbrev here : Loaded
-  here = loadInto ids order permids auxids names lens roots rootnames rootlens found f
+  here = loadOf n f
 
-  module _ (n : ℕ) (a : Answer) {starts ends : List ℕ} (w : Promised n f a starts ends)
-      (q : n ≡ beforeReading
-      (length ids ∷ length order ∷ length permids ∷ length auxids ∷ length names ∷ length lens ∷ [])
-      (length roots ∷ length rootnames ∷ length rootlens ∷ []) found) where
+  module _ (a : Answer) {starts ends : List ℕ} (w : Promised n f a starts ends) where
     -- the table that the last phase reads
     abbrev table : List Span
     table = spans starts ends
@@ -110,5 +98,5 @@ module _ (f : List ℕ) (found : ℕ) (ids order permids auxids names lens : Lis
         × ((rootnames' ≡ pad (length rootnames) (map startOf (here .rootnames)))
         × (rootlens' ≡ pad (length rootlens) (map lenOf (here .rootnames))))))))))))
     load-leaves e0 e1 e2 e3 e4 e5 e6 e7 e8 =
-        rw (← (all-loaded n f a w _ _ found q))
+        rw (← (all-loaded n f a w))
         (refl, (w .1 .1 .1 .1 .1, (e0, (e1, (e2, (e3, (e4, (e5, (e6 ∙ rw (held-edges n f a w), (e7, e8))))))))))

@@ -5,10 +5,10 @@ use Prim.Native.Char.{code}
 use Prim.Native.String.{String, len, charAt}
 use mathlib.Core.List.{List, [], _∷_, _++_}
 use mathlib.Core.Bool.{true}
-use lib.ListN.{replicate}
+use lib.ListN.{length}
 use lib.IntN.{pos, negsuc}
 use Rattle.readers.specs.Text.{place}
-use Rattle.header.specs.Header.{Loaded, header, refusal, nothing, loadOf}
+use Rattle.header.specs.Header.{Loaded, header, refusal, nothing, lengthFault, loadOf}
 
 -- the bytes of a text in ASCII
 unfoldable pub bytesFrom : ℕ → ℕ → String → List ℕ
@@ -18,9 +18,9 @@ bytesFrom (suc n) i s = code (charAt s i) ∷ bytesFrom n (i + 1) s
 abbrev pub bytes : String → List ℕ
 bytes s = bytesFrom (len s) 0 s
 
--- a load with all lists long enough
+-- a load of a file's header, where nothing is found before the input's length
 abbrev pub loaded : List ℕ → Loaded
-loaded f = loadOf (replicate 6 4096) (replicate 3 1024) 0 f
+loaded f = loadOf (lengthFault (length f)) f
 
 -- the header of document 01's example file
 abbrev pub example : List ℕ

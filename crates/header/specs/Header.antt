@@ -1,7 +1,8 @@
 -- The header of a file: what it says, or its refusal.
 use Prim.Native.Nat.{ℕ, zero, suc, _≤_}
+use mathlib.Core.Path.{_≡_}
 use mathlib.Core.List.{List, [], _∷_}
-use mathlib.Core.Bool.{Bool, true, false, cond, _&&_}
+use mathlib.Core.Bool.{Bool, true, _&&_}
 use lib.ListN.{length, replicate}
 use lib.IntN.{ℤ}
 use lib.Dec.{leb, ltb}
@@ -13,7 +14,7 @@ use Rattle.checks.specs.Support.{supportOrder}
 use Rattle.checks.specs.Seats.{Below}
 use Rattle.values.specs.Values.{nnodesIn, nvarsIn, nsuppvarsIn, nrootsIn, asciiIn, varinfoIn, ddIn, u32sIn, namesIn, rootsIn}
 use Rattle.whole.specs.Names.{variableNamesIn}
-use Rattle.whole.specs.Whole.{firstFault, unless, wholeFault}
+use Rattle.whole.specs.Whole.{firstFault, when, unless, wholeFault}
 
 -- the numbers of a header: mode A or not, varinfo, the place of the diagram's name, the counts, the position after `.nodes`' line, and the
 -- number of lines
@@ -60,13 +61,13 @@ abbrev pub judged : List ℕ → End → Answer
 judged f (refusedAt n line) = refusal n line
 judged f (atNodes next lines) = settled f (tableOf f) next lines (wholeFault f (tableOf f))
 
--- 'input 16,777,216 bytes (19, line 0, before all reading)'
-unfoldable pub answerOf : List ℕ → Answer
-answerOf f = cond (ltb inputLimit (length f)) (refusal 19 0) (judged f (endOf f (linesOf f)))
+-- 'header': its lines, then the header as a whole
+unfoldable pub readOf : List ℕ → Answer
+readOf f = judged f (endOf f (linesOf f))
 
--- a refusal that was there before, 0 of none, comes first
+-- The header is read where nothing was found before, which is 0; what was found is a refusal with line 0.
 abbrev pub after : ℕ → List ℕ → Answer
-after zero f = answerOf f
+after zero f = readOf f
 after (suc n) f = refusal (suc n) 0
 
 -- each of the lengths is enough
@@ -74,10 +75,26 @@ unfoldable pub atLeast : ℕ → List ℕ → Bool
 atLeast least [] = true
 atLeast least (n ∷ l) = leb least n && atLeast least l
 
--- '1 a lent part too short: 4,096 entries for each variable list, 1,024 for each root list', by the lengths of the lent lists; then what
--- the caller found, 0 of nothing. 'Order: load gives 1 (lists), 3, 19 for the input's length, header'.
-unfoldable pub beforeReading : List ℕ → List ℕ → ℕ → ℕ
-beforeReading vars roots found = firstFault (unless (atLeast varLimit vars && atLeast rootLimit roots) 1 ∷ found ∷ [])
+-- '1 a lent part too short: 4,096 entries for each variable list, 1,024 for each root list', by the lengths of the lent lists; 0 where none
+-- is too short
+unfoldable pub listsFault : List ℕ → List ℕ → ℕ
+listsFault vars roots = unless (atLeast varLimit vars && atLeast rootLimit roots) 1
+
+-- 'input 16,777,216 bytes (19, line 0, before all reading)', by the input's length; 0 where it isn't too long
+unfoldable pub lengthFault : ℕ → ℕ
+lengthFault n = when (ltb inputLimit n) 19
+
+-- the same after what was found before, 0 of nothing
+unfoldable pub lengthAfter : ℕ → ℕ → ℕ
+lengthAfter found n = firstFault (found ∷ lengthFault n ∷ [])
+
+-- what reading leans on: where nothing was found before, the input isn't too long
+abbrev pub MayRead : ℕ → List ℕ → Type 0
+MayRead found f = found ≡ 0 → length f ≤ inputLimit
+
+-- a file's header by itself: '19 for the input's length, header'
+unfoldable pub answerOf : List ℕ → Answer
+answerOf f = after (lengthFault (length f)) f
 
 -- What a load of the header leaves: its answer, and the entries of each lent list, which are followed by zeros.
 pub record Loaded : Type 0 where
@@ -111,17 +128,9 @@ abbrev pub listsBy : List ℕ → Answer → Loaded
 listsBy f (header h) = listsIn f (tableOf f) (header h)
 listsBy f (refusal n line) = nothing (refusal n line)
 
--- The header of a file, lent lists of these lengths, after what the caller found.
-unfoldable pub loadOf : List ℕ → List ℕ → ℕ → List ℕ → Loaded
-loadOf vars roots found f = listsBy f (after (beforeReading vars roots found) f)
-
--- the same, by the nine lists that are lent
-abbrev pub loadInto : List ℕ → List ℕ → List ℕ → List ℕ → List ℕ → List ℕ → List ℤ → List ℕ → List ℕ → ℕ → List ℕ → Loaded
-loadInto ids order permids auxids names lens roots rootnames rootlens found f =
-    loadOf
-    (length ids ∷ length order ∷ length permids ∷ length auxids ∷ length names ∷ length lens ∷ [])
-    (length roots ∷ length rootnames ∷ length rootlens ∷ [])
-    found f
+-- A load of a file's header, after what was found before.
+unfoldable pub loadOf : ℕ → List ℕ → Loaded
+loadOf found f = listsBy f (after found f)
 
 -- the table that the last phase reads: none on a refusal
 abbrev pub tableBy : List ℕ → Answer → List Span

@@ -3,13 +3,13 @@ use mathlib.Core.Path.{_≡_}
 use mathlib.Core.List.{List, _++_}
 use Prim.Native.Nat.{ℕ, _-_, _≤_}
 use lib.ListN.{length}
-use borrow.Author.Tests.{le-ltb}
 use Rattle.codes.specs.Limits.{inputLimit}
 use Rattle.fields.specs.Sweep.{Span}
 use Rattle.fields.specs.declared.keys.Key.the-variants.{Dd}
 use Rattle.values.specs.Values.{spanIn, valueIn, asciiIn, varinfoIn, ddIn}
 use Rattle.names.specs.Names.{nameAt}
-use Rattle.header.specs.Header.{header, tableOf, answerOf}
+use Rattle.header.specs.Header.{header, tableOf, readOf, answerOf}
+use Rattle.header.proofs.Lengths.{none-length}
 use Rattle.export_header.specs.Heading.{Heading, headText}
 use Rattle.reading_header.specs.Joined.{trimmed}
 use Rattle.reading_header.specs.HeaderBack.{Fit, headerFor, HeaderBack}
@@ -51,9 +51,9 @@ module _ (h : Heading) (f r : List ℕ) (fit : Fit h) (short : length f ≤ inpu
 
   -- The header is accepted,
   accepted : answerOf f ≡ header (headerFor h (ddIn f t))
-  unfolding answerOf
+  unfolding answerOf readOf
   accepted =
-      rw (le-ltb inputLimit (length f) short, head-end fit f r e, whole-back fit read, ascii-read, varinfo-read)
+      rw (none-length (length f) short, head-end fit f r e, whole-back fit read, ascii-read, varinfo-read)
       (rw (read .nnodes, read .nvars, read .nsuppvars, read .nroots))
 
   -- and gives back what was written.

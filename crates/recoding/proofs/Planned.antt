@@ -8,14 +8,15 @@ use Rattle.codes.specs.Lent.{laid}
 use Rattle.codes.specs.Limits.{varLimit}
 use Rattle.values.specs.Values.{pad}
 use Rattle.values.proofs.Fronts.{front-fits, front-is, front-long}
+use Rattle.whole.specs.Whole.{firstFault}
+use Rattle.whole.proofs.FirstFault.{last-check}
 use Rattle.header.specs.Header as head
 use Rattle.header.specs.Kinds.{ofHeader, ofLoaded}
 use Rattle.header.specs.declared.load.DumpHeader.{DumpHeader}
 use Rattle.header.specs.declared.load.Loaded.{Loaded}
 use Rattle.header.specs.declared.load.Loaded.the-variants as loaded
-use Rattle.calls.specs.Load.{variableLists, rootLists}
 use Rattle.recoding.specs.Levels.{levelList}
-use Rattle.recoding.specs.Recode.{lists, headOf}
+use Rattle.recoding.specs.Recode.{headOf}
 use Rattle.recoding.specs.Kinds.{planBy, listBy}
 use Rattle.recoding.specs.declared.Plan.{Plan}
 use Rattle.recoding.specs.declared.Plan.the-variants as plan
@@ -25,16 +26,16 @@ use Rattle.recoding.proofs.Said.{Says, header-says}
 abbrev pub Plans : List ℕ → Plan → List ℕ → List ℕ → Type 0
 Plans f p out old = (p ≡ planBy (headOf f) (headOf f .answer)) × (out ≡ laid (listBy (headOf f) (headOf f .answer)) old)
 
--- the load of the header, lent lists of the lengths that the definition names
-module _ (f vars roots : List ℕ) (v : vars ≡ variableLists lists) (w : roots ≡ rootLists lists) where
+-- the load of the header, after the input's length
+module _ (f : List ℕ) (found : ℕ) (e : found ≡ head.lengthAfter 0 (length f)) where
   -- what the load leaves
   abbrev r : head.Loaded
-  r = head.loadOf vars roots 0 f
+  r = head.loadOf found f
 
   -- it is the one that the definition names
   head-is : r ≡ headOf f
-  unfolding headOf
-  head-is = rw (v, w)
+  unfolding headOf head.lengthAfter firstFault
+  head-is = ap (λ n. head.loadOf n f) (e ∙ sym (last-check (head.lengthFault (length f))))
 
   module _ (a : Loaded) (q : ofLoaded a ≡ r .answer) where
     -- after a header: its permids are in a lent list
@@ -45,7 +46,7 @@ module _ (f vars roots : List ℕ) (v : vars ≡ variableLists lists) (w : roots
 
       -- so this holds of it
       says : Says (ofHeader h) (r .ids) (r .permids)
-      says = header-says vars roots 0 f (ofHeader h) read
+      says = header-says found f (ofHeader h) read
 
       -- the lent list has room for the permids
       short : length (r .permids) ≤ m

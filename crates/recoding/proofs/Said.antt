@@ -10,10 +10,10 @@ use Rattle.values.specs.Values.{u32sIn}
 use Rattle.values.proofs.Counted.{u32s-most, roots-most}
 use Rattle.whole.proofs.Accepted as whole
 use Rattle.store.specs.Store.{Store}
-use Rattle.header.specs.Header.{Header, Answer, header, refusal, tableOf, listsBy, after, beforeReading, loadOf}
+use Rattle.header.specs.Header.{Header, Answer, header, refusal, tableOf, listsBy, after, loadOf}
 use Rattle.header.proofs.Faultless.{faultless-settled}
 use Rattle.calls.specs.Load as calls
-use Rattle.calls.proofs.HeaderStands.{Sound, no-header, answer-stands}
+use Rattle.calls.proofs.HeaderStands.{Sound, no-header, answer-sound}
 use Rattle.calls.proofs.Passes.{load-passes, passes-load}
 use Rattle.recoding.specs.Levels.{Judged}
 
@@ -44,23 +44,22 @@ table-says f h s =
       few-roots = omega arith;
     })
 
-module _ (vars roots : List ℕ) (found : ℕ) (f : List ℕ) (h : Header) where
+module _ (found : ℕ) (f : List ℕ) (h : Header) where
   -- the lists of an accepted header are the file's own
   lists-say : (a : Answer) → listsBy f a .answer ≡ header h → Sound f h → Says h (listsBy f a .ids) (listsBy f a .permids)
   lists-say (header g) q s = table-says f h s
   lists-say (refusal n line) q s = no-header q
 
   -- What an accepted header says.
-  pub header-says : loadOf vars roots found f .answer ≡ header h
-      → Says h (loadOf vars roots found f .ids) (loadOf vars roots found f .permids)
+  pub header-says : loadOf found f .answer ≡ header h → Says h (loadOf found f .ids) (loadOf found f .permids)
   unfolding loadOf
-  header-says q = lists-say (after (beforeReading vars roots found) f) q (answer-stands vars roots found f h q .sound)
+  header-says q = lists-say (after found f) q (answer-sound found f h q .1)
 
 module _ (c : calls.Load) (σ : Store) (h : Header) where
   -- a header that a load reads
   read-says : calls.headerOf c σ .answer ≡ header h → Says h (calls.headerOf c σ .ids) (calls.headerOf c σ .permids)
   unfolding calls.headerOf
-  read-says q = header-says _ _ _ (c .file) h q
+  read-says q = header-says _ (c .file) h q
 
   -- What the header of an accepted load says.
   pub load-says : calls.loadOf c σ .answer ≡ header h → Says h (calls.loadOf c σ .ids) (calls.loadOf c σ .permids)

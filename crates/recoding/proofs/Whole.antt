@@ -11,9 +11,8 @@ use Rattle.codes.proofs.Lent.{length-laid}
 use Rattle.checks.specs.Seats.{seatOf}
 use Rattle.values.proofs.Padded.{take-laid}
 use Rattle.header.specs.Header as head
-use Rattle.calls.specs.Load.{variableLists, rootLists}
 use Rattle.recoding.specs.Levels.{takenFrom, levelList}
-use Rattle.recoding.specs.Recode.{inputMost, lists, headOf, loadedAt, Recoded, refusal, Reloads, Heads, Sized, Recodes}
+use Rattle.recoding.specs.Recode.{inputMost, headOf, loadedAt, Recoded, refusal, Reloads, Heads, Sized, Recodes}
 use Rattle.recoding.specs.Kinds.{planBy, listBy}
 use Rattle.recoding.specs.declared.Plan.{Plan}
 use Rattle.recoding.specs.declared.Plan.the-variants as plan
@@ -69,7 +68,7 @@ module _ (f : List ℕ) where
   -- what the header says
   head-says : (h : head.Header) → headOf f .answer ≡ head.header h → Says h (headOf f .ids) (headOf f .permids)
   unfolding headOf
-  head-says h q = header-says (variableLists lists) (rootLists lists) 0 f h q
+  head-says h q = header-says (head.lengthFault (length f)) f h q
 
   module _ (p : Plan) (q : p ≡ planBy (headOf f) (headOf f .answer)) where
     module _ (levels n : ℕ) (k : p ≡ plan.Levels levels n) (old dst : List ℕ) (d : dst ≡ laid planned old) where

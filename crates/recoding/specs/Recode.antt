@@ -16,7 +16,7 @@ use Rattle.export_header.specs.Tables.{lent}
 use Rattle.exporter.specs.Settings.{settings}
 use Rattle.exporter.specs.Promise.{ofExported}
 use Rattle.exporter.specs.declared.Exported.{Exported}
-use Rattle.calls.specs.Load.{Lengths, Load, Loaded, variableLists, rootLists, partsOf, loadOf}
+use Rattle.calls.specs.Load.{Lengths, Load, Loaded, partsOf, loadOf}
 use Rattle.calls.specs.Calls.{Export, exportInto, Exports}
 use Rattle.recoding.specs.Levels.{levelList, variableLevels}
 
@@ -44,9 +44,9 @@ lists = record {
   seats = slots;
 }
 
--- the header, read first for the level count and the level list
+-- the header, read first for the level count and the level list: '19 for the input's length, header'
 unfoldable pub headOf : List ℕ → head.Loaded
-headOf f = head.loadOf (variableLists lists) (rootLists lists) 0 f
+headOf f = head.loadOf (head.lengthFault (length f)) f
 
 -- a load at some levels, into an empty store of so many levels
 abbrev pub loadAt : List ℕ → List ℕ → Load

@@ -54,9 +54,10 @@ fn plan_levels(f: &[u8], list: &mut [u16]) -> Plan
     let mut roots = [0 as Edge; limits::ROOT_LIMIT];
     let mut rootnames = [0u32; limits::ROOT_LIMIT];
     let mut rootlens = [0u32; limits::ROOT_LIMIT];
+    let found = header::before::length_fault(0, f.len());
     let read = DumpHeader::load(
         f,
-        0,
+        found,
         &mut ids,
         &mut order,
         &mut permids,

@@ -61,9 +61,10 @@ pub fn list_levels(file: &[u8], order: &[u16], list: &mut [u16]) -> usize
     let mut roots = [0 as Edge; ROOTS];
     let mut rootnames = [0u32; ROOTS];
     let mut rootlens = [0u32; ROOTS];
+    let found = header::before::length_fault(0, file.len());
     let loaded = DumpHeader::load(
         file,
-        0,
+        found,
         &mut ids,
         &mut support,
         &mut permids,

@@ -1,7 +1,9 @@
 // The call on lent lists. They are filled beforehand, so that what the call left as it was is seen.
 ghost use Prim.Native.Nat.{_+_, _≤_};
+ghost use Rattle.header.specs.Header.{MayRead};
 use crate::answer;
 use edges::Edge;
+use header::before;
 use header::load::DumpHeader;
 
 // What each entry of a lent list is before the call.
@@ -51,6 +53,17 @@ fn after_edges(stored: &[u8], from: usize, list: &[Edge]) -> usize {
     0
 }
 
+// What is found before the header is read: lists that are too short, then what the case says, then the length of the input.
+fn found_before(vars: &[usize], roots: &[usize], found: u8, f: &[u8]) -> u8
+    ensures { λ r. ⌜ MayRead r (now (f .entry)) ⌝ }
+{
+    let lists = before::lists_fault(vars, roots);
+    if lists != 0 {
+        return lists;
+    }
+    before::length_fault(found, f.len())
+}
+
 // Whether the call gives the stored answer, and leaves the stored lists.
 fn leaves(
     f: &[u8],
@@ -66,9 +79,22 @@ fn leaves(
     rootnames: &mut [u32],
     rootlens: &mut [u32],
 ) -> bool {
+    let before = found_before(
+        &[
+            ids.len(),
+            order.len(),
+            permids.len(),
+            auxids.len(),
+            names.len(),
+            lens.len(),
+        ],
+        &[roots.len(), rootnames.len(), rootlens.len()],
+        found,
+        f,
+    );
     let loaded = DumpHeader::load(
         f,
-        found,
+        before,
         ids,
         order,
         permids,

@@ -8,14 +8,15 @@ use Rattle.readers.specs.Text.{startOf, lenOf}
 use Rattle.store.specs.Store.{Store, store}
 use Rattle.header.specs.Kinds.{ofLoaded}
 use Rattle.header.specs.Header.{Answer}
-use Rattle.calls.specs.Load.{Parts, parts, loadInto, loadOf}
-use Rattle.dddmp.proofs.Loading.{parts-alike, ready-readable, answer-left, store-left, roots-left, list-left}
+use Rattle.header.proofs.Lengths.{length-may}
+use Rattle.calls.specs.Load.{beforeHeader, Parts, parts, loadInto, loadOf}
+use Rattle.dddmp.proofs.Loading.{parts-alike, before-is, ready-readable, answer-left, store-left, roots-left, list-left}
 use Rattle.dddmp.proofs.load.Statement.{statement}
 use Rattle.dddmp.proofs.load.Tie as tie
 
 -- the function's entry and its calls, seen from its return
 abbrev start : tie.After-slice-known32 → tie.Start
-start c = c .before .before .before .before .before .before .before .before .before .before .before .before .before .before .before .before .before .before .before .before .before .before .before .before .before .before .before .before .before .before .before .before .before .before .before .before .before .before .before .before .before .before .before .before .before .before .before .before .before .before .before .before .before .before .before .before .before .before .before .before .before .before .before .before .before .before .before .before .before .before .before .before .before .before .before .before .before .before .before .before .before .before .before .before .before .before .before .before .before .before .before .before .before .before .before .before
+start c = c .before .before .before .before .before .before .before .before .before .before .before .before .before .before .before .before .before .before .before .before .before .before .before .before .before .before .before .before .before .before .before .before .before .before .before .before .before .before .before .before .before .before .before .before .before .before .before .before .before .before .before .before .before .before .before .before .before .before .before .before .before .before .before .before .before .before .before .before .before .before .before .before .before .before .before .before .before .before .before .before .before .before .before .before .before .before .before .before .before .before .before .before .before .before .before .before .before .before .before
 
 abbrev finished : tie.After-slice-known32 → tie.After-finish
 finished c = c .before .before .before .before .before .before .before .before .before .before .before .before .before .before .before .before
@@ -23,27 +24,45 @@ finished c = c .before .before .before .before .before .before .before .before .
 abbrev noded : tie.After-slice-known32 → tie.After-load-nodes
 noded c = c .before .before .before .before .before .before .before .before .before .before .before .before .before .before .before .before .before .before .before .before .before .before .before .before .before .before .before .before .before .before .before .before .before .before .before .before .before
 
-abbrev readied : tie.After-slice-known32 → tie.After-check-levels
+abbrev readied : tie.After-slice-known32 → tie.After-check-list
 readied c = c .before .before .before .before .before .before .before .before .before .before .before .before .before .before .before .before .before .before .before .before .before .before .before .before .before .before .before .before .before .before .before .before .before .before .before .before .before .before .before .before .before .before .before .before .before .before .before
 
+abbrev roomed : tie.After-slice-known32 → tie.After-check-scratch
+roomed c = c .before .before .before .before .before .before .before .before .before .before .before .before .before .before .before .before .before .before .before .before .before .before .before .before .before .before .before .before .before .before .before .before .before .before .before .before .before .before .before .before .before .before .before .before .before .before .before .before
+
 abbrev headed : tie.After-slice-known32 → tie.After-load
-headed c = c .before .before .before .before .before .before .before .before .before .before .before .before .before .before .before .before .before .before .before .before .before .before .before .before .before .before .before .before .before .before .before .before .before .before .before .before .before .before .before .before .before .before .before .before .before .before .before .before .before .before .before .before .before .before .before .before .before .before .before .before .before .before .before .before .before
+headed c = c .before .before .before .before .before .before .before .before .before .before .before .before .before .before .before .before .before .before .before .before .before .before .before .before .before .before .before .before .before .before .before .before .before .before .before .before .before .before .before .before .before .before .before .before .before .before .before .before .before .before .before .before .before .before .before .before .before .before .before .before .before .before .before .before .before .before
+
+abbrev measured : tie.After-slice-known32 → tie.After-length-fault
+measured c = c .before .before .before .before .before .before .before .before .before .before .before .before .before .before .before .before .before .before .before .before .before .before .before .before .before .before .before .before .before .before .before .before .before .before .before .before .before .before .before .before .before .before .before .before .before .before .before .before .before .before .before .before .before .before .before .before .before .before .before .before .before .before .before .before .before .before .before .before .before .before .before .before .before .before .before .before
 
 abbrev judged : tie.After-slice-known32 → tie.After-store-fault
-judged c = c .before .before .before .before .before .before .before .before .before .before .before .before .before .before .before .before .before .before .before .before .before .before .before .before .before .before .before .before .before .before .before .before .before .before .before .before .before .before .before .before .before .before .before .before .before .before .before .before .before .before .before .before .before .before .before .before .before .before .before .before .before .before .before .before .before .before .before .before .before .before .before .before .before .before .before
+judged c = c .before .before .before .before .before .before .before .before .before .before .before .before .before .before .before .before .before .before .before .before .before .before .before .before .before .before .before .before .before .before .before .before .before .before .before .before .before .before .before .before .before .before .before .before .before .before .before .before .before .before .before .before .before .before .before .before .before .before .before .before .before .before .before .before .before .before .before .before .before .before .before .before .before .before .before .before .before
+
+abbrev counted : tie.After-slice-known32 → tie.After-lists-fault
+counted c = c .before .before .before .before .before .before .before .before .before .before .before .before .before .before .before .before .before .before .before .before .before .before .before .before .before .before .before .before .before .before .before .before .before .before .before .before .before .before .before .before .before .before .before .before .before .before .before .before .before .before .before .before .before .before .before .before .before .before .before .before .before .before .before .before .before .before .before .before .before .before .before .before .before .before .before .before .before .before .before .before .before .before .before .before
 
 -- and seen from where the nodes are read
 abbrev start-nodes : tie.After-load-nodes-arg9 → tie.Start
-start-nodes c = c .before .before .before .before .before .before .before .before .before .before .before .before .before .before .before .before .before .before .before .before .before .before .before .before .before .before .before .before .before .before .before .before .before .before .before .before .before .before .before .before .before .before .before .before .before .before .before .before .before .before .before .before .before .before .before .before .before .before
+start-nodes c = c .before .before .before .before .before .before .before .before .before .before .before .before .before .before .before .before .before .before .before .before .before .before .before .before .before .before .before .before .before .before .before .before .before .before .before .before .before .before .before .before .before .before .before .before .before .before .before .before .before .before .before .before .before .before .before .before .before .before .before .before .before
 
-abbrev readied-nodes : tie.After-load-nodes-arg9 → tie.After-check-levels
+abbrev readied-nodes : tie.After-load-nodes-arg9 → tie.After-check-list
 readied-nodes c = c .before .before .before .before .before .before .before .before .before
 
+abbrev roomed-nodes : tie.After-load-nodes-arg9 → tie.After-check-scratch
+roomed-nodes c = c .before .before .before .before .before .before .before .before .before .before
+
 abbrev headed-nodes : tie.After-load-nodes-arg9 → tie.After-load
-headed-nodes c = c .before .before .before .before .before .before .before .before .before .before .before .before .before .before .before .before .before .before .before .before .before .before .before .before .before .before .before
+headed-nodes c = c .before .before .before .before .before .before .before .before .before .before .before .before .before .before .before .before .before .before .before .before .before .before .before .before .before .before .before .before
+
+abbrev measured-nodes : tie.After-load-nodes-arg9 → tie.After-length-fault
+measured-nodes c = c .before .before .before .before .before .before .before .before .before .before .before .before .before .before .before .before .before .before .before .before .before .before .before .before .before .before .before .before .before .before .before .before .before .before .before .before .before .before
 
 abbrev judged-nodes : tie.After-load-nodes-arg9 → tie.After-store-fault
-judged-nodes c = c .before .before .before .before .before .before .before .before .before .before .before .before .before .before .before .before .before .before .before .before .before .before .before .before .before .before .before .before .before .before .before .before .before .before .before .before .before
+judged-nodes c = c .before .before .before .before .before .before .before .before .before .before .before .before .before .before .before .before .before .before .before .before .before .before .before .before .before .before .before .before .before .before .before .before .before .before .before .before .before .before .before
+
+abbrev counted-nodes : tie.After-load-nodes-arg9 → tie.After-lists-fault
+counted-nodes c = c .before .before .before .before .before .before .before .before .before .before .before .before .before .before .before .before .before .before .before .before .before .before .before .before .before .before .before .before .before .before .before .before .before .before .before .before .before .before .before .before .before .before .before .before .before .before
 
 -- what was lent
 abbrev given : tie.Start → Parts
@@ -52,21 +71,43 @@ given s = parts (s .args .ids .now) (s .args .order .now) (s .args .permids .now
 abbrev kept : tie.Start → Store
 kept s = store (s .args .levels) (s .args .count .now) (s .args .level .now) (s .args .then .now) (s .args .els .now) (s .args .next .now) (s .args .heads .now)
 
+-- what is found before the header
+found : (c : tie.After-slice-known32) → measured c .length-fault .result ≡ beforeHeader (loadInto (start c .args .f .now) (start c .args .list .now) (given (start c))) (kept (start c))
+found c =
+    before-is (start c .args .f .now) (start c .args .list .now) (given (start c)) (kept (start c))
+    (counted c .lists-fault .result) (judged c .store-fault .result) (measured c .length-fault .result)
+    (counted c .lists-fault .ensures) (judged c .store-fault .ensures) (measured c .length-fault .ensures)
+
+found-nodes : (c : tie.After-load-nodes-arg9) → measured-nodes c .length-fault .result ≡ beforeHeader (loadInto (start-nodes c .args .f .now) (start-nodes c .args .list .now) (given (start-nodes c))) (kept (start-nodes c))
+found-nodes c =
+    before-is (start-nodes c .args .f .now) (start-nodes c .args .list .now) (given (start-nodes c)) (kept (start-nodes c))
+    (counted-nodes c .lists-fault .result) (judged-nodes c .store-fault .result) (measured-nodes c .length-fault .result)
+    (counted-nodes c .lists-fault .ensures) (judged-nodes c .store-fault .ensures) (measured-nodes c .length-fault .ensures)
+
+lists-fault-requires : tie.Need-lists-fault-requires
+lists-fault-requires c κs = tt
+
 store-fault-requires : tie.Need-store-fault-requires
 store-fault-requires c κs = tt
 
-load-requires : tie.Need-load-requires
-load-requires c κs = tt
+length-fault-requires : tie.Need-length-fault-requires
+length-fault-requires c κs = tt
 
-check-levels-requires : tie.Need-check-levels-requires
-check-levels-requires c κs = tt
+load-requires : tie.Need-load-requires
+load-requires c κs = length-may _ (c .before .before .before .before .before .before .before .before .before .before .before .before .before .before .before .before .before .before .before .before .before .before .before .before .before .before .before .before .before .before .before .before .args .f .now) (c .before .before .before .before .before .before .before .before .before .length-fault .ensures)
+
+check-scratch-requires : tie.Need-check-scratch-requires
+check-scratch-requires c κs = tt
+
+check-list-requires : tie.Need-check-list-requires
+check-list-requires c κs = tt
 
 load-nodes-requires : tie.Need-load-nodes-requires
 load-nodes-requires c κs =
     ready-readable (start-nodes c .args .f .now) (start-nodes c .args .list .now) (given (start-nodes c)) (kept (start-nodes c))
-    (judged-nodes c .store-fault .result) (judged-nodes c .store-fault .ensures)
-    (ofLoaded (headed-nodes c .load .result)) (ofLoaded (readied-nodes c .check-levels .result))
-    (headed-nodes c .load .ensures .0) (readied-nodes c .check-levels .ensures)
+    (measured-nodes c .length-fault .result) (found-nodes c)
+    (ofLoaded (headed-nodes c .load .result)) (ofLoaded (roomed-nodes c .check-scratch .result)) (ofLoaded (readied-nodes c .check-list .result))
+    (headed-nodes c .load .ensures .0) (roomed-nodes c .check-scratch .ensures) (readied-nodes c .check-list .ensures)
 
 finish-requires : tie.Need-finish-requires
 finish-requires c κs = tt
@@ -123,27 +164,27 @@ same-length-16 c = noded c .load-nodes .kept .1 .1 .1 .1 .1 .1 .1 .1 .1 .1 .1 .1
 answered : (c : tie.After-slice-known32) → ofLoaded (noded c .load-nodes .result) ≡ loadOf (loadInto (start c .args .f .now) (start c .args .list .now) (given (start c))) (kept (start c)) .answer
 answered c =
     answer-left (start c .args .f .now) (start c .args .list .now) (given (start c)) (kept (start c))
-    (judged c .store-fault .result) (judged c .store-fault .ensures)
-    (ofLoaded (headed c .load .result)) (ofLoaded (readied c .check-levels .result))
-    (headed c .load .ensures .0) (readied c .check-levels .ensures)
+    (measured c .length-fault .result) (found c)
+    (ofLoaded (headed c .load .result)) (ofLoaded (roomed c .check-scratch .result)) (ofLoaded (readied c .check-list .result))
+    (headed c .load .ensures .0) (roomed c .check-scratch .ensures) (readied c .check-list .ensures)
     (headed c .load .last .1 .1 .1 .1 .1 .1 .1 .1 .0) (headed c .load .ensures .1 .1 .1 .1 .1 .1 .1 .1 .0) (ofLoaded (noded c .load-nodes .result)) (noded c .load-nodes .ensures .0)
 
 -- the store after it
 stored : (c : tie.After-slice-known32) → (store (start c .args .levels) (noded c .load-nodes .last .1 .1 .1 .1 .0) (noded c .load-nodes .last .1 .1 .1 .1 .1 .0) (noded c .load-nodes .last .1 .1 .1 .1 .1 .1 .0) (noded c .load-nodes .last .1 .1 .1 .1 .1 .1 .1 .0) (noded c .load-nodes .last .1 .1 .1 .1 .1 .1 .1 .1 .0) (noded c .load-nodes .last .1 .1 .1 .1 .1 .1 .1 .1 .1 .0)) ≡ loadOf (loadInto (start c .args .f .now) (start c .args .list .now) (given (start c))) (kept (start c)) .after
 stored c =
     store-left (start c .args .f .now) (start c .args .list .now) (given (start c)) (kept (start c))
-    (judged c .store-fault .result) (judged c .store-fault .ensures)
-    (ofLoaded (headed c .load .result)) (ofLoaded (readied c .check-levels .result))
-    (headed c .load .ensures .0) (readied c .check-levels .ensures)
+    (measured c .length-fault .result) (found c)
+    (ofLoaded (headed c .load .result)) (ofLoaded (roomed c .check-scratch .result)) (ofLoaded (readied c .check-list .result))
+    (headed c .load .ensures .0) (roomed c .check-scratch .ensures) (readied c .check-list .ensures)
     (headed c .load .last .1 .1 .1 .1 .1 .1 .1 .1 .0) (headed c .load .ensures .1 .1 .1 .1 .1 .1 .1 .1 .0) (store (start c .args .levels) (noded c .load-nodes .last .1 .1 .1 .1 .0) (noded c .load-nodes .last .1 .1 .1 .1 .1 .0) (noded c .load-nodes .last .1 .1 .1 .1 .1 .1 .0) (noded c .load-nodes .last .1 .1 .1 .1 .1 .1 .1 .0) (noded c .load-nodes .last .1 .1 .1 .1 .1 .1 .1 .1 .0) (noded c .load-nodes .last .1 .1 .1 .1 .1 .1 .1 .1 .1 .0)) (noded c .load-nodes .ensures .1 .0)
 
 -- the roots
 rooted : (c : tie.After-slice-known32) → (noded c .load-nodes .last .1 .1 .1 .1 .1 .1 .1 .1 .1 .1 .0) ≡ loadOf (loadInto (start c .args .f .now) (start c .args .list .now) (given (start c))) (kept (start c)) .roots
 rooted c =
     roots-left (start c .args .f .now) (start c .args .list .now) (given (start c)) (kept (start c))
-    (judged c .store-fault .result) (judged c .store-fault .ensures)
-    (ofLoaded (headed c .load .result)) (ofLoaded (readied c .check-levels .result))
-    (headed c .load .ensures .0) (readied c .check-levels .ensures)
+    (measured c .length-fault .result) (found c)
+    (ofLoaded (headed c .load .result)) (ofLoaded (roomed c .check-scratch .result)) (ofLoaded (readied c .check-list .result))
+    (headed c .load .ensures .0) (roomed c .check-scratch .ensures) (readied c .check-list .ensures)
     (headed c .load .last .1 .1 .1 .1 .1 .1 .1 .1 .0) (headed c .load .ensures .1 .1 .1 .1 .1 .1 .1 .1 .0) (noded c .load-nodes .last .1 .1 .1 .1 .1 .1 .1 .1 .1 .1 .0) (noded c .load-nodes .ensures .1 .1 .0)
 
 returns : tie.Need-returns
@@ -153,29 +194,29 @@ returns c = (
     stored c,
     parts-alike
         (list-left (start c .args .f .now) (start c .args .list .now) (given (start c)) (kept (start c))
-        (judged c .store-fault .result) (judged c .store-fault .ensures) (ofLoaded (noded c .load-nodes .result)) (answered c)
+        (measured c .length-fault .result) (found c) (ofLoaded (noded c .load-nodes .result)) (answered c)
         (length (start c .args .ids .now)) (λ x. x .ids) refl (headed c .load .last .1 .1 .0) (headed c .load .ensures .1 .1 .0) (finished c .finish .last .1 .0) (finished c .finish .ensures .0))
         (list-left (start c .args .f .now) (start c .args .list .now) (given (start c)) (kept (start c))
-        (judged c .store-fault .result) (judged c .store-fault .ensures) (ofLoaded (noded c .load-nodes .result)) (answered c)
+        (measured c .length-fault .result) (found c) (ofLoaded (noded c .load-nodes .result)) (answered c)
         (length (start c .args .order .now)) (λ x. x .order) refl (headed c .load .last .1 .1 .1 .0) (headed c .load .ensures .1 .1 .1 .0) (finished c .finish .last .1 .1 .0) (finished c .finish .ensures .1 .0))
         (list-left (start c .args .f .now) (start c .args .list .now) (given (start c)) (kept (start c))
-        (judged c .store-fault .result) (judged c .store-fault .ensures) (ofLoaded (noded c .load-nodes .result)) (answered c)
+        (measured c .length-fault .result) (found c) (ofLoaded (noded c .load-nodes .result)) (answered c)
         (length (start c .args .permids .now)) (λ x. x .permids) refl (headed c .load .last .1 .1 .1 .1 .0) (headed c .load .ensures .1 .1 .1 .1 .0) (finished c .finish .last .1 .1 .1 .0) (finished c .finish .ensures .1 .1 .0))
         (list-left (start c .args .f .now) (start c .args .list .now) (given (start c)) (kept (start c))
-        (judged c .store-fault .result) (judged c .store-fault .ensures) (ofLoaded (noded c .load-nodes .result)) (answered c)
+        (measured c .length-fault .result) (found c) (ofLoaded (noded c .load-nodes .result)) (answered c)
         (length (start c .args .auxids .now)) (λ x. x .auxids) refl (headed c .load .last .1 .1 .1 .1 .1 .0) (headed c .load .ensures .1 .1 .1 .1 .1 .0) (finished c .finish .last .1 .1 .1 .1 .0) (finished c .finish .ensures .1 .1 .1 .0))
         (list-left (start c .args .f .now) (start c .args .list .now) (given (start c)) (kept (start c))
-        (judged c .store-fault .result) (judged c .store-fault .ensures) (ofLoaded (noded c .load-nodes .result)) (answered c)
+        (measured c .length-fault .result) (found c) (ofLoaded (noded c .load-nodes .result)) (answered c)
         (length (start c .args .names .now)) (λ x. map startOf (x .names)) refl (headed c .load .last .1 .1 .1 .1 .1 .1 .0) (headed c .load .ensures .1 .1 .1 .1 .1 .1 .0) (finished c .finish .last .1 .1 .1 .1 .1 .0) (finished c .finish .ensures .1 .1 .1 .1 .0))
         (list-left (start c .args .f .now) (start c .args .list .now) (given (start c)) (kept (start c))
-        (judged c .store-fault .result) (judged c .store-fault .ensures) (ofLoaded (noded c .load-nodes .result)) (answered c)
+        (measured c .length-fault .result) (found c) (ofLoaded (noded c .load-nodes .result)) (answered c)
         (length (start c .args .lens .now)) (λ x. map lenOf (x .names)) refl (headed c .load .last .1 .1 .1 .1 .1 .1 .1 .0) (headed c .load .ensures .1 .1 .1 .1 .1 .1 .1 .0) (finished c .finish .last .1 .1 .1 .1 .1 .1 .0) (finished c .finish .ensures .1 .1 .1 .1 .1 .0))
         (rooted c)
         (list-left (start c .args .f .now) (start c .args .list .now) (given (start c)) (kept (start c))
-        (judged c .store-fault .result) (judged c .store-fault .ensures) (ofLoaded (noded c .load-nodes .result)) (answered c)
+        (measured c .length-fault .result) (found c) (ofLoaded (noded c .load-nodes .result)) (answered c)
         (length (start c .args .rootnames .now)) (λ x. map startOf (x .rootnames)) refl (headed c .load .last .1 .1 .1 .1 .1 .1 .1 .1 .1 .0) (headed c .load .ensures .1 .1 .1 .1 .1 .1 .1 .1 .1 .0) (finished c .finish .last .1 .1 .1 .1 .1 .1 .1 .0) (finished c .finish .ensures .1 .1 .1 .1 .1 .1 .0))
         (list-left (start c .args .f .now) (start c .args .list .now) (given (start c)) (kept (start c))
-        (judged c .store-fault .result) (judged c .store-fault .ensures) (ofLoaded (noded c .load-nodes .result)) (answered c)
+        (measured c .length-fault .result) (found c) (ofLoaded (noded c .load-nodes .result)) (answered c)
         (length (start c .args .rootlens .now)) (λ x. map lenOf (x .rootnames)) refl (headed c .load .last .1 .1 .1 .1 .1 .1 .1 .1 .1 .1 .0) (headed c .load .ensures .1 .1 .1 .1 .1 .1 .1 .1 .1 .1) (finished c .finish .last .1 .1 .1 .1 .1 .1 .1 .1 .0) (finished c .finish .ensures .1 .1 .1 .1 .1 .1 .1))
         (noded c .load-nodes .ensures .1 .1 .1 .0)
         (noded c .load-nodes .ensures .1 .1 .1 .1),
@@ -183,4 +224,4 @@ returns c = (
 )
 
 pub load-spec : {M : Type 1} → statement M
-load-spec = tie.close (tie.spec store-fault-requires load-requires check-levels-requires load-nodes-requires finish-requires same-length same-length-2 same-length-3 same-length-4 same-length-5 same-length-6 same-length-7 same-length-8 same-length-9 same-length-10 same-length-11 same-length-12 same-length-13 same-length-14 same-length-15 same-length-16 returns)
+load-spec = tie.close (tie.spec lists-fault-requires store-fault-requires length-fault-requires load-requires check-scratch-requires check-list-requires load-nodes-requires finish-requires same-length same-length-2 same-length-3 same-length-4 same-length-5 same-length-6 same-length-7 same-length-8 same-length-9 same-length-10 same-length-11 same-length-12 same-length-13 same-length-14 same-length-15 same-length-16 returns)

@@ -1,6 +1,7 @@
 -- `plan_levels` meets its contract: the header is loaded, and its permids give the level list.
 use mathlib.Core.Path.{refl}
 use borrow.Author.Needs.{needs}
+use Rattle.header.proofs.Lengths.{length-may}
 use Rattle.recoding.proofs.Planned.{permids-fit, permids-long, list-may, count-fits, plans, plans-none}
 use Rattle.recoding.proofs.plan_levels.Statement.{statement}
 use Rattle.recoding.proofs.plan_levels.Tie as tie
@@ -12,12 +13,19 @@ loaded c = c .before .before .before .before .before .before .before .before .be
 abbrev loaded-2 : tie.After-read2 → tie.After-load
 loaded-2 c = c .before .before .before .before .before .before .before .before .before .before .before
 
+-- the input's length, seen from that load
+abbrev measured : tie.After-load → tie.After-length-fault
+measured c = c .before .before .before .before .before .before .before .before .before .before
+
 -- that place, and the call that lays the list, seen from the return
 abbrev known : tie.After-struct-known2 → tie.After-read
 known c = c .before .before .before .before .before .before .before .before
 
 abbrev listed : tie.After-struct-known2 → tie.After-level-list
 listed c = c .before .before .before
+
+length-fault-requires : tie.Need-length-fault-requires
+length-fault-requires c κs = tt
 
 slice-aggregate-load : tie.Need-slice-aggregate-load
 slice-aggregate-load c = search needs
@@ -47,7 +55,7 @@ slice-aggregate-load-9 : tie.Need-slice-aggregate-load-9
 slice-aggregate-load-9 c = search needs
 
 load-requires : tie.Need-load-requires
-load-requires c κs = tt
+load-requires c κs = length-may 0 (c .before .before .before .before .before .before .before .before .before .before .before .before .args .f .now) (c .before .before .before .before .before .before .before .before .before .length-fault .ensures)
 
 enum-known-read : tie.Need-enum-known-read
 enum-known-read c = search needs
@@ -57,24 +65,24 @@ cast-permids c = search needs
 
 array-share-prefix-permids : tie.Need-array-share-prefix-permids
 array-share-prefix-permids c =
-    permids-fit _ _ _ refl refl _ (loaded (c .before .before) .load .ensures .0) _ ((c .before .before) .read .given .1) _ refl _ (loaded
+    permids-fit _ _ (measured (loaded (c .before .before)) .length-fault .ensures) _ (loaded (c .before .before) .load .ensures .0) _ ((c .before .before) .read .given .1) _ refl _ (loaded
     (c .before .before) .load .ensures .1 .1 .1 .1 .0)
 
 slice-aggregate-level-list : tie.Need-slice-aggregate-level-list
 slice-aggregate-level-list c =
-    permids-long _ _ _ refl refl _ (loaded (c .before .before .before) .load .ensures .0) _
+    permids-long _ _ (measured (loaded (c .before .before .before)) .length-fault .ensures) _ (loaded (c .before .before .before) .load .ensures .0) _
     ((c .before .before .before) .read .given .1) _ refl _ (loaded (c .before .before .before) .load .ensures .1 .1 .1 .1 .0)
 
 level-list-requires : tie.Need-level-list-requires
 level-list-requires c κs =
-    list-may _ _ _ refl refl _ (loaded (c .before .before .before .before) .load .ensures .0) _
+    list-may _ _ (measured (loaded (c .before .before .before .before)) .length-fault .ensures) _ (loaded (c .before .before .before .before) .load .ensures .0) _
     ((c .before .before .before .before) .read .given .1) _ refl _ (loaded (c .before .before .before .before) .load .ensures .1 .1 .1 .1
     .0)
 
-cast-t42 : tie.Need-cast-t42
-cast-t42 c =
+cast-t44 : tie.Need-cast-t44
+cast-t44 c =
     record {
-      fits = count-fits _ _ _ refl refl _ (loaded (known c) .load .ensures .0) _ ((known c) .read .given .1) _ refl _ (loaded
+      fits = count-fits _ _ (measured (loaded (known c)) .length-fault .ensures) _ (loaded (known c) .load .ensures .0) _ ((known c) .read .given .1) _ refl _ (loaded
           (known c) .load .ensures .1 .1 .1 .1 .0);
     }
 
@@ -86,17 +94,18 @@ same-length c = search needs
 
 returns : tie.Need-returns
 returns c =
-    plans _ _ _ refl refl _ (loaded (known c) .load .ensures .0) _ ((known c) .read .given .1) _ refl _ (loaded
+    plans _ _ (measured (loaded (known c)) .length-fault .ensures) _ (loaded (known c) .load .ensures .0) _ ((known c) .read .given .1) _ refl _ (loaded
     (known c) .load .ensures .1 .1 .1 .1 .0)
     _ _ _ (listed c .level-list .ensures .0) (listed c .level-list .ensures .1)
 
 returns-2 : tie.Need-returns-2
-returns-2 c = plans-none _ _ _ refl refl _ (loaded-2 (c .before) .load .ensures .0) _ _ (c .before .read2 .given .1) _
+returns-2 c = plans-none _ _ (measured (loaded-2 (c .before)) .length-fault .ensures) _ (loaded-2 (c .before) .load .ensures .0) _ _ (c .before .read2 .given .1) _
 
 pub plan-levels-spec : {M : Type 1} → statement M
 plan-levels-spec =
     tie.close
     (tie.spec
+    length-fault-requires
     slice-aggregate-load
     slice-aggregate-load-2
     slice-aggregate-load-3
@@ -112,7 +121,7 @@ plan-levels-spec =
     array-share-prefix-permids
     slice-aggregate-level-list
     level-list-requires
-    cast-t42
+    cast-t44
     enum-known-read-2
     same-length
     returns

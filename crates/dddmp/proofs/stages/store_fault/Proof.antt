@@ -1,17 +1,20 @@
 -- `store_fault` meets its contract.
-use Rattle.dddmp.proofs.StageLaws.{keeps-none, breaks-some}
+use Rattle.dddmp.proofs.StageLaws.{store-found, keeps-none, breaks-some}
 use borrow.Author.Needs.{needs}
 use Rattle.dddmp.proofs.stages.store_fault.Statement.{statement}
 use Rattle.dddmp.proofs.stages.store_fault.Tie as tie
 
+returns : tie.Need-returns
+returns c = store-found _ _ (c .if1 .taken)
+
 keeps-rules-requires : tie.Need-keeps-rules-requires
 keeps-rules-requires c κs = search needs
 
-returns : tie.Need-returns
-returns c = keeps-none _ (c .before .keeps-rules .ensures) (c .if1 .taken)
-
 returns-2 : tie.Need-returns-2
-returns-2 c = breaks-some _ (c .before .keeps-rules .ensures) (c .if1 .left)
+returns-2 c = keeps-none _ _ (c .before .before .if1 .left) (c .before .keeps-rules .ensures) (c .if2 .taken)
+
+returns-3 : tie.Need-returns-3
+returns-3 c = breaks-some _ _ (c .before .before .if1 .left) (c .before .keeps-rules .ensures) (c .if2 .left)
 
 pub store-fault-spec : {M : Type 1} → statement M
-store-fault-spec = tie.close (tie.spec keeps-rules-requires returns returns-2)
+store-fault-spec = tie.close (tie.spec returns keeps-rules-requires returns-2 returns-3)

@@ -1,18 +1,15 @@
 -- `judge` meets its contract.
 use mathlib.Core.Path.{_∙_}
 use borrow.Author.Needs.{needs}
-use Rattle.header.proofs.Answers.{refused-before, refused-long, refused-line, refused-whole, stands}
+use Rattle.header.proofs.Answers.{refused-before, refused-line, refused-whole, stands}
 use Rattle.header.proofs.load.judge.Statement.{statement}
 use Rattle.header.proofs.load.judge.Tie as tie
 
 returns : tie.Need-returns
-returns c = refused-before _ _ (c .before .before .before .before .pre .0) (c .before .before .before .before .pre .1) (c .if1 .taken)
-
-returns-2 : tie.Need-returns-2
-returns-2 c = refused-long _ _ (c .before .before .before .before .before .pre .0) (c .before .before .before .before .before .pre .1) (c .before .if1 .left) (c .if2 .taken)
+returns c = refused-before _ _ (c .before .before .before .before .pre .1 .0) (c .before .before .before .before .pre .1 .1) (c .if1 .taken)
 
 sweep-requires : tie.Need-sweep-requires
-sweep-requires c κs = (c .before .before .if2 .left, c .before .before .before .before .before .before .before .pre)
+sweep-requires c κs = (c .before .before .before .before .before .before .pre .0 (c .before .before .if1 .left), c .before .before .before .before .before .before .pre .1)
 
 enum-known-n : tie.Need-enum-known-n
 enum-known-n c = search needs
@@ -41,15 +38,14 @@ same-length c = c .before .before .before .before .before .before .clear3 .kept 
 same-length-2 : tie.Need-same-length-2
 same-length-2 c = c .before .before .clear4 .kept .0 ∙ c .before .before .before .before .before .before .before .before .before .before .before .before .before .before .before .before .before .before .before .sweep .kept .1 .1 .0
 
-returns-3 : tie.Need-returns-3
-returns-3 c =
+returns-2 : tie.Need-returns-2
+returns-2 c =
     refused-whole _ _
-    (c .before .before .before .before .before .before .before .before .before .before .before .before .before .before .before .before .before .before .before .before .before .before .before .if1 .left)
-    (c .before .before .before .before .before .before .before .before .before .before .before .before .before .before .before .before .before .before .before .before .before .before .if2 .left)
+    (c .before .before .before .before .before .before .before .before .before .before .before .before .before .before .before .before .before .before .before .before .before .before .if1 .left)
     (c .before .before .before .before .before .before .before .before .before .before .before .before .before .before .before .before .before .before .before .sweep .ensures)
     (c .before .before .before .before .before .before .before .before .before .before .before .before .before .next .given .1)
     (c .before .before .before .before .before .before .before .before .before .whole-fault .ensures)
-    (c .before .before .before .before .before .before .before .before .if3 .taken)
+    (c .before .before .before .before .before .before .before .before .if2 .taken)
     (c .before .before .before .before .before .before .clear3 .ensures)
     (c .before .before .clear4 .ensures)
 
@@ -62,11 +58,10 @@ same-length-3 c = c .before .before .before .before .before .before .clear .kept
 same-length-4 : tie.Need-same-length-4
 same-length-4 c = c .before .before .clear2 .kept .0 ∙ c .before .before .before .before .before .before .before .before .before .before .before .before .before .before .before .sweep .kept .1 .1 .0
 
-returns-4 : tie.Need-returns-4
-returns-4 c =
+returns-3 : tie.Need-returns-3
+returns-3 c =
     refused-line _ _
-    (c .before .before .before .before .before .before .before .before .before .before .before .before .before .before .before .before .before .before .before .if1 .left)
-    (c .before .before .before .before .before .before .before .before .before .before .before .before .before .before .before .before .before .before .if2 .left)
+    (c .before .before .before .before .before .before .before .before .before .before .before .before .before .before .before .before .before .before .if1 .left)
     (c .before .before .before .before .before .before .before .before .before .before .before .before .before .before .before .sweep .ensures)
     (c .before .before .before .before .before .before .before .before .before .n .given .1)
     (c .before .before .before .before .before .before .clear .ensures)
@@ -78,15 +73,14 @@ same-length-5 c = c .before .before .before .before .before .before .before .bef
 same-length-6 : tie.Need-same-length-6
 same-length-6 c = c .before .before .before .before .before .before .before .before .before .before .before .before .before .before .sweep .kept .1 .1 .0
 
-returns-5 : tie.Need-returns-5
-returns-5 c =
+returns-4 : tie.Need-returns-4
+returns-4 c =
     stands _ _
-    (c .before .before .before .before .before .before .before .before .before .before .before .before .before .before .before .before .before .before .if1 .left)
-    (c .before .before .before .before .before .before .before .before .before .before .before .before .before .before .before .before .before .if2 .left)
+    (c .before .before .before .before .before .before .before .before .before .before .before .before .before .before .before .before .before .if1 .left)
     (c .before .before .before .before .before .before .before .before .before .before .before .before .before .before .sweep .ensures)
     (c .before .before .before .before .before .before .before .before .next .given .1)
     (c .before .before .before .before .whole-fault .ensures)
-    (c .before .before .before .if3 .left)
+    (c .before .before .before .if2 .left)
     (c .header-in .ensures)
 
 pub judge-spec : {M : Type 1} → statement M
@@ -94,7 +88,6 @@ judge-spec =
     tie.close
     (tie.spec
     returns
-    returns-2
     sweep-requires
     enum-known-n
     clear-requires
@@ -105,11 +98,11 @@ judge-spec =
     clear-requires-4
     same-length
     same-length-2
-    returns-3
+    returns-2
     header-in-requires
     same-length-3
     same-length-4
-    returns-4
+    returns-3
     same-length-5
     same-length-6
-    returns-5)
+    returns-4)

@@ -1,8 +1,13 @@
--- `list_levels` is safe: each list keeps its length in the load of the header, and the lent one where it is filled.
+-- `list_levels` is safe: the file's length is judged before its header is read; each list keeps its length in the load of the header, and
+-- the lent one where it is filled.
 use mathlib.Core.Path.{sym}
 use borrow.Author.Needs.{needs}
+use Rattle.header.proofs.Lengths.{length-may}
 use Rattle.vectors_export.proofs.levels.list_levels.Statement.{statement}
 use Rattle.vectors_export.proofs.levels.list_levels.Tie as tie
+
+length-fault-requires : tie.Need-length-fault-requires
+length-fault-requires c κs = tt
 
 slice-aggregate-load : tie.Need-slice-aggregate-load
 slice-aggregate-load c = search needs
@@ -32,7 +37,7 @@ slice-aggregate-load-9 : tie.Need-slice-aggregate-load-9
 slice-aggregate-load-9 c = search needs
 
 load-requires : tie.Need-load-requires
-load-requires c κs = tt
+load-requires c κs = length-may 0 (c .before .before .before .before .before .before .before .before .before .before .before .before .before .args .file .now) (c .before .before .before .before .before .before .before .before .before .length-fault .ensures)
 
 slice-aggregate-fill-levels : tie.Need-slice-aggregate-fill-levels
 slice-aggregate-fill-levels c =
@@ -54,6 +59,7 @@ pub list-levels-spec : {M : Type 1} → statement M
 list-levels-spec =
     tie.close
     (tie.spec
+    length-fault-requires
     slice-aggregate-load
     slice-aggregate-load-2
     slice-aggregate-load-3

@@ -4,6 +4,7 @@ use Rattle.vectors_header.proofs.lists.leaves.Statement.{statement}
 use Rattle.vectors_header.proofs.lists.leaves.Tie as tie
 use Rattle.vectors_header.proofs.lists.leaves.Reads as reads
 use Rattle.vectors_header.proofs.lists.leaves.Lts as lts
+use Rattle.vectors_header.proofs.lists.found_before.Reads as found-before-reads
 use Rattle.header.proofs.load.DumpHeader.load.Reads as load-reads
 use Rattle.vectors_header.proofs.answer.after_list.Reads as after-list-reads
 use Rattle.vectors_header.proofs.answer.after_numbers.Reads as after-numbers-reads
@@ -12,6 +13,8 @@ use Rattle.vectors_header.proofs.lists.after_edges.Reads as after-edges
 
 abbrev claims : lts.Claims
 claims = (
+  found-before-reads.Asked,
+  found-before-reads.Learnt,
   load-reads.Asked,
   load-reads.Learnt,
   after-numbers-reads.Asked,
@@ -32,8 +35,17 @@ after-load c =
     .before .before .before .before .before .before .before .before .before .before
     .before .before .before .before .before .before .before
 
+slice-aggregate-found-before : tie.Need-slice-aggregate-found-before
+slice-aggregate-found-before c = search needs
+
+slice-aggregate-found-before-2 : tie.Need-slice-aggregate-found-before-2
+slice-aggregate-found-before-2 c = search needs
+
+found-before-requires : tie.Need-found-before-requires
+found-before-requires c κs = tt
+
 load-requires : tie.Need-load-requires
-load-requires c κs = search needs
+load-requires c κs = c .before .before .before .before .before .before .before .before .before .found-before .ensures
 
 after-numbers-requires : tie.Need-after-numbers-requires
 after-numbers-requires c κs = search needs
@@ -102,6 +114,9 @@ pub leaves-spec : {M : Type 1} → statement M
 leaves-spec =
     tie.close
     (tie.spec
+    slice-aggregate-found-before
+    slice-aggregate-found-before-2
+    found-before-requires
     load-requires
     after-numbers-requires
     after-list-requires

@@ -1,4 +1,4 @@
--- `load` meets its contract: the lengths decide what is refused before reading, then the judge, and each list is read by its table.
+-- `load` meets its contract: the judge answers, and each list is read by its table.
 use mathlib.Core.Path.{refl, sym}
 use borrow.Author.Needs.{needs}
 use Rattle.header.proofs.Loading.{held-settled, load-leaves}
@@ -7,16 +7,7 @@ use Rattle.header.proofs.load.DumpHeader.load.Tie as tie
 
 -- the function's entry, seen from its return
 abbrev start : tie.After-slice-known16 → tie.Start
-start c = c .before .before .before .before .before .before .before .before .before .before .before .before .before .before .before .before .before .before .before .before .before .before .before .before .before .before .before .before .before .before .before .before .before .before .before .before .before .before .before .before .before .before .before .before .before .before .before .before .before .before .before .before .before .before .before .before .before .before .before .before .before .before .before .before
-
-slice-aggregate-before-reading : tie.Need-slice-aggregate-before-reading
-slice-aggregate-before-reading c = refl
-
-slice-aggregate-before-reading-2 : tie.Need-slice-aggregate-before-reading-2
-slice-aggregate-before-reading-2 c = refl
-
-before-reading-requires : tie.Need-before-reading-requires
-before-reading-requires c κs = tt
+start c = c .before .before .before .before .before .before .before .before .before .before .before .before .before .before .before .before .before .before .before .before .before .before .before .before .before .before .before .before .before .before .before .before .before .before .before .before .before .before .before .before .before .before .before .before .before .before .before .before .before .before .before .before .before .before .before .before .before .before .before .before .before
 
 slice-aggregate-judge : tie.Need-slice-aggregate-judge
 slice-aggregate-judge c = refl
@@ -25,7 +16,7 @@ slice-aggregate-judge-2 : tie.Need-slice-aggregate-judge-2
 slice-aggregate-judge-2 c = refl
 
 judge-requires : tie.Need-judge-requires
-judge-requires c κs = (refl, refl)
+judge-requires c κs = (c .before .before .before .before .before .before .before .before .before .before .before .pre, (refl, refl))
 
 slice-aggregate-u32s-in : tie.Need-slice-aggregate-u32s-in
 slice-aggregate-u32s-in c = sym (c .before .before .before .judge .ensures .1 .1 .1 .0 .starts-long)
@@ -43,7 +34,7 @@ slice-aggregate-fill-order-2 : tie.Need-slice-aggregate-fill-order-2
 slice-aggregate-fill-order-2 c = sym (c .before .before .before .before .before .before .before .before .before .before .judge .ensures .1 .1 .1 .0 .ends-long)
 
 fill-order-requires : tie.Need-fill-order-requires
-fill-order-requires c κs = (c .before .before .before .before .before .before .before .before .before .before .before .judge .ensures .1 .1 .1 .0, held-settled (c .before .before .before .before .before .before .before .before .before .before .before .before .before .before .before-reading .result) _ _ (c .before .before .before .before .before .before .before .before .before .before .before .judge .ensures))
+fill-order-requires c κs = (c .before .before .before .before .before .before .before .before .before .before .before .judge .ensures .1 .1 .1 .0, held-settled (c .before .before .before .before .before .before .before .before .before .before .before .before .before .before .before .before .before .before .before .before .before .before .before .args .found) _ _ (c .before .before .before .before .before .before .before .before .before .before .before .judge .ensures))
 
 slice-aggregate-u32s-in-3 : tie.Need-slice-aggregate-u32s-in-3
 slice-aggregate-u32s-in-3 c = sym (c .before .before .before .before .before .before .before .before .before .before .before .before .before .before .before .judge .ensures .1 .1 .1 .0 .starts-long)
@@ -70,7 +61,7 @@ slice-aggregate-fill-names-2 : tie.Need-slice-aggregate-fill-names-2
 slice-aggregate-fill-names-2 c = sym (c .before .before .before .before .before .before .before .before .before .before .before .before .before .before .before .before .before .before .before .before .before .before .before .before .before .before .before .before .judge .ensures .1 .1 .1 .0 .ends-long)
 
 fill-names-requires : tie.Need-fill-names-requires
-fill-names-requires c κs = (c .before .before .before .before .before .before .before .before .before .before .before .before .before .before .before .before .before .before .before .before .before .before .before .before .before .before .before .before .before .before .judge .ensures .1 .1 .1 .0, held-settled (c .before .before .before .before .before .before .before .before .before .before .before .before .before .before .before .before .before .before .before .before .before .before .before .before .before .before .before .before .before .before .before .before .before .before-reading .result) _ _ (c .before .before .before .before .before .before .before .before .before .before .before .before .before .before .before .before .before .before .before .before .before .before .before .before .before .before .before .before .before .before .judge .ensures))
+fill-names-requires c κs = (c .before .before .before .before .before .before .before .before .before .before .before .before .before .before .before .before .before .before .before .before .before .before .before .before .before .before .before .before .before .before .judge .ensures .1 .1 .1 .0, held-settled (c .before .before .before .before .before .before .before .before .before .before .before .before .before .before .before .before .before .before .before .before .before .before .before .before .before .before .before .before .before .before .before .before .before .before .before .before .before .before .before .before .before .before .args .found) _ _ (c .before .before .before .before .before .before .before .before .before .before .before .before .before .before .before .before .before .before .before .before .before .before .before .before .before .before .before .before .before .before .judge .ensures))
 
 slice-aggregate-fill-roots : tie.Need-slice-aggregate-fill-roots
 slice-aggregate-fill-roots c = sym (c .before .before .before .before .before .before .before .before .before .before .before .before .before .before .before .before .before .before .before .before .before .before .before .before .before .before .before .before .before .before .before .before .before .before .before .before .judge .ensures .1 .1 .1 .0 .starts-long)
@@ -129,10 +120,8 @@ returns c =
     (start c .args .roots .now)
     (start c .args .rootnames .now)
     (start c .args .rootlens .now)
-    (c .before .before .before .before .before .before .before .before .before .before .before .before .before .before .before .before .before .before .before .before .before .before .before .before .before .before .before .before .before .before .before .before .before .before .before .before .before .before .before .before .before .before .before .before .before .before .before .before .before .before .before .before .before-reading .result)
     _
     (c .before .before .before .before .before .before .before .before .before .before .before .before .before .before .before .before .before .before .before .before .before .before .before .before .before .before .before .before .before .before .before .before .before .before .before .before .before .before .before .before .before .before .before .before .before .before .before .before .before .judge .ensures)
-    (c .before .before .before .before .before .before .before .before .before .before .before .before .before .before .before .before .before .before .before .before .before .before .before .before .before .before .before .before .before .before .before .before .before .before .before .before .before .before .before .before .before .before .before .before .before .before .before .before .before .before .before .before .before-reading .ensures)
     (c .before .before .before .before .before .before .before .before .before .before .before .before .before .before .before .before .before .before .before .before .before .before .before .before .before .before .before .before .before .before .before .before .before .before .before .before .before .before .before .before .before .before .before .u32s-in .ensures .1)
     (c .before .before .before .before .before .before .before .before .before .before .before .before .before .before .before .before .before .before .before .before .before .before .before .before .before .before .before .before .before .before .before .before .before .before .before .before .before .fill-order .ensures)
     (c .before .before .before .before .before .before .before .before .before .before .before .before .before .before .before .before .before .before .before .before .before .before .before .before .before .before .before .before .before .before .before .u32s-in2 .ensures .1)
@@ -147,9 +136,6 @@ pub load-spec : {M : Type 1} → statement M
 load-spec =
     tie.close
     (tie.spec
-    slice-aggregate-before-reading
-    slice-aggregate-before-reading-2
-    before-reading-requires
     slice-aggregate-judge
     slice-aggregate-judge-2
     judge-requires

@@ -6,8 +6,8 @@ use borrow.Author.Needs.{needs}
 use lib.ListN.{length, drop}
 use Rattle.header.specs.Header.{atLeast}
 use Rattle.header.proofs.Lengths.{lengths-end, lengths-short, lengths-more}
-use Rattle.header.proofs.load.at_least.Statement.{statement}
-use Rattle.header.proofs.load.at_least.Tie as tie
+use Rattle.header.proofs.before.at_least.Statement.{statement}
+use Rattle.header.proofs.before.at_least.Tie as tie
 
 abbrev Inv-loop : tie.InvT-loop
 Inv-loop least lengths i₀ i = atLeast least lengths ≡ atLeast least (drop i lengths)

@@ -1,5 +1,3 @@
-pub mod StageLaws
-pub mod Nodes
 pub mod Staged
 pub mod Readable
 pub mod Loading

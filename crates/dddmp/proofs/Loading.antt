@@ -11,7 +11,7 @@ use Rattle.store.specs.Store.{Store}
 use Rattle.header.specs.Header as head
 use Rattle.header.specs.Header.{Answer}
 use Rattle.calls.specs.Load.{listsFault, storeFault, lengthFault, beforeHeader, headerOf, Parts, parts, lengthsOf, loadInto, partsOf, Load, Loaded, loadOf}
-use Rattle.dddmp.specs.Stages.{storeAfter, scratched, listed, Readable, nodesAfter, isRefusal, clearedIf}
+use Rattle.stages.specs.Stages.{storeAfter, scratched, listed, Readable, nodesAfter, isRefusal, clearedIf}
 use Rattle.dddmp.proofs.Readable.{readable}
 use Rattle.dddmp.proofs.Staged.{ready, nodesLeft, left-load, Entries, loadEntries, headEntries, noEntries, cleared-list}
 

@@ -26,7 +26,7 @@ use Rattle.import.specs.Import.{Bounded}
 use Rattle.import.proofs.LevelLists.{list-levels}
 use Rattle.checks.specs.Support.{idsFit}
 use Rattle.calls.specs.Load.{Load, headerOf, beforeNodes, setupFor}
-use Rattle.dddmp.specs.Stages.{unlessRefused, Readable}
+use Rattle.stages.specs.Stages.{unlessRefused, Readable}
 use Rattle.calls.proofs.HeaderStands.{Sound, Stands, answer-stands}
 use Rattle.calls.proofs.Passes.{between-none}
 use Rattle.calls.proofs.Accepted.{stands-rules}

@@ -18,7 +18,7 @@ use Rattle.header.specs.Header.{Header, Answer, header, refusal}
 use Rattle.import.specs.Build.{Built}
 use Rattle.import.specs.Import as nodes
 use Rattle.calls.specs.Load.{Load, Loaded, refusedAt, scratchFault, listFault, beforeNodes, headerOf, setupFor, nodesOf, withNodes, withList, withHeader, loadOf}
-use Rattle.dddmp.specs.Stages.{unlessRefused, scratched, listed, Noded, noded, nodesAfter, isRefusal, clearedIf}
+use Rattle.stages.specs.Stages.{unlessRefused, scratched, listed, Noded, noded, nodesAfter, isRefusal, clearedIf}
 
 -- what a load leaves of the nodes
 abbrev pub nodesLeft : Loaded → Noded

@@ -1,6 +1,4 @@
 // The public calls: load, evaluate and export, on one store.
-mod stages;
-
 ghost use mathlib.Core.Path.{_≡_};
 ghost use lib.ListN.{length, replicate};
 ghost use Rattle.store.specs.Store.{store};

@@ -3,10 +3,10 @@ use mathlib.Core.Path.{ap, _∙_}
 use native.Mathlib.Omega.{arith}
 use borrow.Author.Needs.{needs}
 use Rattle.store.specs.Store.{Store, store}
-use Rattle.dddmp.specs.Stages.{withNodes}
-use Rattle.dddmp.proofs.Nodes.{few-nodes, import-may, nodes-noded, nodes-none}
-use Rattle.dddmp.proofs.stages.load_nodes.Statement.{statement}
-use Rattle.dddmp.proofs.stages.load_nodes.Tie as tie
+use Rattle.stages.specs.Stages.{withNodes}
+use Rattle.stages.proofs.Nodes.{few-nodes, import-may, nodes-noded, nodes-none}
+use Rattle.stages.proofs.load_nodes.Statement.{statement}
+use Rattle.stages.proofs.load_nodes.Tie as tie
 
 -- the store handed in
 abbrev σ : tie.Start → Store

@@ -1,8 +1,8 @@
 -- `check_list` meets its contract.
-use Rattle.dddmp.proofs.StageLaws.{list-refused, list-passed, list-handed}
+use Rattle.stages.proofs.StageLaws.{list-refused, list-passed, list-handed}
 use borrow.Author.Needs.{needs}
-use Rattle.dddmp.proofs.stages.check_list.Statement.{statement}
-use Rattle.dddmp.proofs.stages.check_list.Tie as tie
+use Rattle.stages.proofs.check_list.Statement.{statement}
+use Rattle.stages.proofs.check_list.Tie as tie
 
 enum-known-ready : tie.Need-enum-known-ready
 enum-known-ready c = search needs

@@ -1,8 +1,8 @@
 -- `with_nodes` meets its contract.
-use Rattle.dddmp.proofs.StageLaws.{with-read, with-refused}
+use Rattle.stages.proofs.StageLaws.{with-read, with-refused}
 use borrow.Author.Needs.{needs}
-use Rattle.dddmp.proofs.stages.with_nodes.Statement.{statement}
-use Rattle.dddmp.proofs.stages.with_nodes.Tie as tie
+use Rattle.stages.proofs.with_nodes.Statement.{statement}
+use Rattle.stages.proofs.with_nodes.Tie as tie
 
 enum-told : tie.Need-enum-told
 enum-told c = search needs

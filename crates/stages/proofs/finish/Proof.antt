@@ -1,7 +1,7 @@
 -- `finish` meets its contract: each list is cleared where the answer is a refusal, and its length is kept.
-use Rattle.dddmp.proofs.StageLaws.{as-told}
-use Rattle.dddmp.proofs.stages.finish.Statement.{statement}
-use Rattle.dddmp.proofs.stages.finish.Tie as tie
+use Rattle.stages.proofs.StageLaws.{as-told}
+use Rattle.stages.proofs.finish.Statement.{statement}
+use Rattle.stages.proofs.finish.Tie as tie
 
 is-refusal-requires : tie.Need-is-refusal-requires
 is-refusal-requires c κs = tt

@@ -12,7 +12,7 @@ ghost use Rattle.values.specs.Kinds.{ofVarInfo};
 ghost use Rattle.header.specs.Header.{listsFault};
 ghost use Rattle.header.specs.Kinds.{ofHeader, ofLoaded};
 ghost use Rattle.import.specs.Kinds.{ofImported};
-ghost use Rattle.dddmp.specs.Stages.{storeAfter, scratched, listed, Readable, withNodes, nodesAfter, isRefusal, clearedIf};
+ghost use Rattle.stages.specs.Stages.{storeAfter, scratched, listed, Readable, withNodes, nodesAfter, isRefusal, clearedIf};
 use codes::VarInfo;
 use codes::refusal;
 use edges::Edge;
@@ -22,7 +22,7 @@ use header::load::Loaded;
 use import::Imported;
 
 // The lent lists, by their lengths: 1 where one is too short, else 0.
-pub(crate) fn lists_fault(
+pub fn lists_fault(
     ids: usize,
     order: usize,
     permids: usize,
@@ -42,7 +42,7 @@ pub(crate) fn lists_fault(
 }
 
 // The store: what was found before, 0 for nothing; else 3 where it breaks its rules, else 0.
-pub(crate) fn store_fault(
+pub fn store_fault(
     found: u8,
     levels: u16,
     count: Index,
@@ -64,7 +64,7 @@ pub(crate) fn store_fault(
 }
 
 // Scratch, by the lengths of its two lists: 1 where one is too short for the nodes.
-pub(crate) fn check_scratch(read: Loaded, edges: usize, seats: usize) -> Loaded
+pub fn check_scratch(read: Loaded, edges: usize, seats: usize) -> Loaded
     ensures { λ r. ⌜ ofLoaded r ≡ scratched edges seats (ofLoaded read) ⌝ }
 {
     match read {
@@ -82,7 +82,7 @@ pub(crate) fn check_scratch(read: Loaded, edges: usize, seats: usize) -> Loaded
 }
 
 // The level list: 2 where it doesn't fit.
-pub(crate) fn check_list(ready: Loaded, levels: u16, list: &[u16]) -> Loaded
+pub fn check_list(ready: Loaded, levels: u16, list: &[u16]) -> Loaded
     ensures { λ r. ⌜ ofLoaded r ≡ listed levels (now (list .entry)) (ofLoaded ready) ⌝ }
 {
     match ready {
@@ -120,7 +120,7 @@ fn with_nodes(h: DumpHeader, nodes: Imported) -> Loaded
 }
 
 // The nodes and `.end`. The edges of the roots take the place of their numbers, or zeros; the scratch ends as zeros.
-pub(crate) fn load_nodes(
+pub fn load_nodes(
     ready: Loaded,
     f: &[u8],
     levels: u16,
@@ -193,7 +193,7 @@ fn clear_if(refused: bool, dst: &mut [u32])
 }
 
 // The end: zeros in the lists of a load that is refused.
-pub(crate) fn finish(
+pub fn finish(
     answer: Loaded,
     ids: &mut [u32],
     order: &mut [u32],

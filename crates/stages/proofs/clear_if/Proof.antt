@@ -1,8 +1,8 @@
 -- `clear_if` meets its contract.
-use Rattle.dddmp.proofs.StageLaws.{cleared, not-cleared}
+use Rattle.stages.proofs.StageLaws.{cleared, not-cleared}
 use borrow.Author.Needs.{needs}
-use Rattle.dddmp.proofs.stages.clear_if.Statement.{statement}
-use Rattle.dddmp.proofs.stages.clear_if.Tie as tie
+use Rattle.stages.proofs.clear_if.Statement.{statement}
+use Rattle.stages.proofs.clear_if.Tie as tie
 
 clear-requires : tie.Need-clear-requires
 clear-requires c κs = search needs

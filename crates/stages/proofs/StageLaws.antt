@@ -20,7 +20,7 @@ use Rattle.import.specs.Kinds.{ofImported}
 use Rattle.import.specs.declared.Imported.{Imported}
 use Rattle.import.specs.declared.Imported.the-variants as imported
 use Rattle.calls.specs.Load.{scratchFault, listFault}
-use Rattle.dddmp.specs.Stages.{storeAfter, scratched, listed, withNodes, clearedIf}
+use Rattle.stages.specs.Stages.{storeAfter, scratched, listed, withNodes, clearedIf}
 
 module _ (found : ℕ) (σ : Store) where
   -- what was found before stays

@@ -1,8 +1,8 @@
 -- `check_scratch` meets its contract.
-use Rattle.dddmp.proofs.StageLaws.{few-edges, few-seats, enough-scratch, scratch-handed}
+use Rattle.stages.proofs.StageLaws.{few-edges, few-seats, enough-scratch, scratch-handed}
 use borrow.Author.Needs.{needs}
-use Rattle.dddmp.proofs.stages.check_scratch.Statement.{statement}
-use Rattle.dddmp.proofs.stages.check_scratch.Tie as tie
+use Rattle.stages.proofs.check_scratch.Statement.{statement}
+use Rattle.stages.proofs.check_scratch.Tie as tie
 
 enum-known-read : tie.Need-enum-known-read
 enum-known-read c = search needs

@@ -1,7 +1,7 @@
 -- `has_extra` meets its contract, value by value.
 use borrow.Author.Needs.{needs}
-use Rattle.dddmp.proofs.stages.has_extra.Statement.{statement}
-use Rattle.dddmp.proofs.stages.has_extra.Tie as tie
+use Rattle.stages.proofs.has_extra.Statement.{statement}
+use Rattle.stages.proofs.has_extra.Tie as tie
 
 enum-told : tie.Need-enum-told
 enum-told c = search needs

@@ -1,8 +1,8 @@
 -- `store_fault` meets its contract.
-use Rattle.dddmp.proofs.StageLaws.{store-found, keeps-none, breaks-some}
+use Rattle.stages.proofs.StageLaws.{store-found, keeps-none, breaks-some}
 use borrow.Author.Needs.{needs}
-use Rattle.dddmp.proofs.stages.store_fault.Statement.{statement}
-use Rattle.dddmp.proofs.stages.store_fault.Tie as tie
+use Rattle.stages.proofs.store_fault.Statement.{statement}
+use Rattle.stages.proofs.store_fault.Tie as tie
 
 returns : tie.Need-returns
 returns c = store-found _ _ (c .if1 .taken)

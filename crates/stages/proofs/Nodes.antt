@@ -16,7 +16,7 @@ use Rattle.header.specs.declared.load.Loaded.{Loaded}
 use Rattle.header.specs.declared.load.Loaded.the-variants as loaded
 use Rattle.import.specs.Build.{LevelsOf}
 use Rattle.import.specs.Import as nodes
-use Rattle.dddmp.specs.Stages.{Readable, Noded, noded, nodesAfter}
+use Rattle.stages.specs.Stages.{Readable, Noded, noded, nodesAfter}
 
 -- what a refusal so far leaves
 abbrev pub noneNoded : ℕ → ℕ → Store → List ℤ → Noded

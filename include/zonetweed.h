@@ -39,8 +39,8 @@
  *   calls on different stores always are, and so are evaluations and exports of one store while no load changes it.
  *
  * Stack
- *   The library takes no memory but the stack's. A load takes about 420 KB of it, an evaluation about 170 KB, an export about 190 KB and 160
- *   bytes for each level that its roots lead down, up to 680 KB. These were measured on x86-64, and are not proved.
+ *   The library takes no memory but the stack's. A load takes about 420 KB of it, an evaluation about 170 KB, an export about 190 KB or, where
+ *   that is more, 25 KB and 160 bytes for each level that its roots lead down, up to 680 KB. These were measured on x86-64, and are not proved.
  */
 #ifndef ZONETWEED_H
 #define ZONETWEED_H

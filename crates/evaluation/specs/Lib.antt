@@ -1,2 +1,3 @@
 pub mod Evaluation
 pub mod Evaluated
+pub mod Promises

@@ -6,11 +6,11 @@ ghost use lib.Dec.{leb, eqb};
 ghost use lib.ListN.{length};
 ghost use lib.IntN.{pos, negℤ, natAbs};
 ghost use Rattle.edges.specs.Edge.{IsEdge};
-ghost use Rattle.store.specs.Store.{store, slots};
+ghost use Rattle.store.specs.Store.{slots};
 ghost use Rattle.store.specs.Meaning.{settingOf, node, answer};
-ghost use Rattle.store.specs.Rules.{limits};
-ghost use Rattle.evaluation.specs.Evaluation.{bits, evaluation};
-ghost use Rattle.evaluation.specs.Evaluated.{ofEvaluation, child, Walks, Leads};
+ghost use Rattle.evaluation.specs.Evaluation.{bits};
+ghost use Rattle.evaluation.specs.Evaluated.{child, Walks, Leads};
+ghost use Rattle.evaluation.specs.Promises.{EvaluatePromise};
 use codes::refusal;
 use edges::Edge;
 use edges::Index;
@@ -138,7 +138,7 @@ pub fn evaluate(
     root: Edge,
     setting: &[u8],
 ) -> Evaluation
-    ensures { λ r. ⌜ ofEvaluation r ≡ evaluation limits (store levels count (now (level .entry)) (now (then .entry)) (now (els .entry)) (now (next .entry)) (now (heads .entry))) root (now (setting .entry)) ⌝ }
+    ensures { λ r. ⌜ EvaluatePromise levels count level then els next heads root setting r ⌝ }
 {
     if !rules::keeps_rules(levels, count, level, then, els, next, heads) {
         return Evaluation::Refused(refusal::BROKEN_STORE);

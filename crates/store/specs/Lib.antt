@@ -1,4 +1,5 @@
 pub mod Store
+pub mod Lent
 pub mod Meaning
 pub mod Settings
 pub mod Rules

@@ -2,14 +2,16 @@
 ghost use mathlib.Core.Path.{_≡_};
 ghost use mathlib.Core.List.{[]};
 ghost use mathlib.Core.Bool.{cond};
-ghost use Prim.Native.Nat.{_-_, _≤_, _<_};
+ghost use Prim.Native.Nat.{_<_};
 ghost use lib.ListN.{length};
 ghost use lib.IntN.{pos, negℤ};
 ghost use Rattle.edges.specs.Edge.{IsEdge};
 ghost use Rattle.store.specs.Store.{store};
+ghost use Rattle.store.specs.Lent.{old, new, storeNow, oldStore, newStore};
 ghost use Rattle.store.specs.Rules.{Sizes, Rules, limits};
 ghost use Rattle.making.specs.Kinds.{ofMaking, Turns};
 ghost use Rattle.making.specs.Known.{Known};
+ghost use Rattle.making.specs.Promises.{InsertPromise, MakeAsks, MakePromise, TakeBackAsks, TakeBackPromise};
 ghost use Rattle.store.specs.Make as nodes;
 use codes::limits::NODE_LIMIT;
 use edges::Edge;
@@ -56,9 +58,9 @@ fn put_node(
     t: Edge,
     e: Edge,
 )
-    requires { ⌜ Sizes limits (store levels (now count) (now level) (now then) (now els) (now next) (now heads)) ⌝ }
+    requires { ⌜ Sizes limits (storeNow levels (now count) level then els next heads) ⌝ }
     requires { ⌜ now count < length (now level) ⌝ }
-    ensures { λ r. ⌜ store levels (now (count .exit)) (now (level .exit)) (now (then .exit)) (now (els .exit)) (now (next .exit)) (now (heads .exit)) ≡ nodes.added (store levels (now (count .entry)) (now (level .entry)) (now (then .entry)) (now (els .entry)) (now (next .entry)) (now (heads .entry))) l t e ⌝ }
+    ensures { λ r. ⌜ newStore levels (new count) level then els next heads ≡ nodes.added (oldStore levels (old count) level then els next heads) l t e ⌝ }
 {
     let b = edges::bucket(l, t, e);
     let c = *count;
@@ -87,11 +89,9 @@ fn insert(
     t: Edge,
     e: Edge,
 ) -> Making
-    requires { ⌜ Rules limits (store levels (now count) (now level) (now then) (now els) (now next) (now heads)) ⌝ }
-    requires { ⌜ Known width (store levels (now count) (now level) (now then) (now els) (now next) (now heads)) (now index) ⌝ }
-    ensures { λ r. ⌜ ofMaking r ≡ nodes.insert limits (store levels (now (count .entry)) (now (level .entry)) (now (then .entry)) (now (els .entry)) (now (next .entry)) (now (heads .entry))) l t e .answer ⌝ }
-    ensures { λ r. ⌜ store levels (now (count .exit)) (now (level .exit)) (now (then .exit)) (now (els .exit)) (now (next .exit)) (now (heads .exit)) ≡ nodes.insert limits (store levels (now (count .entry)) (now (level .entry)) (now (then .entry)) (now (els .entry)) (now (next .entry)) (now (heads .entry))) l t e .after ⌝ }
-    ensures { λ r. ⌜ Known width (store levels (now (count .exit)) (now (level .exit)) (now (then .exit)) (now (els .exit)) (now (next .exit)) (now (heads .exit))) (now (index .exit)) ⌝ }
+    requires { ⌜ Rules limits (storeNow levels (now count) level then els next heads) ⌝ }
+    requires { ⌜ Known width (storeNow levels (now count) level then els next heads) (now index) ⌝ }
+    ensures { λ r. ⌜ InsertPromise levels count level then els next heads index width l t e r ⌝ }
 {
     let c = *count;
     let at = index::seek(index, width, c, level, then, els, l, t, e);
@@ -142,12 +142,8 @@ pub fn make(
     t: Edge,
     e: Edge,
 ) -> Making
-    requires { ⌜ Rules limits (store levels (now count) (now level) (now then) (now els) (now next) (now heads)) ⌝ }
-    requires { ⌜ nodes.Makes (store levels (now count) (now level) (now then) (now els) (now next) (now heads)) l t e ⌝ }
-    requires { ⌜ Known width (store levels (now count) (now level) (now then) (now els) (now next) (now heads)) (now index) ⌝ }
-    ensures { λ r. ⌜ ofMaking r ≡ nodes.make limits (store levels (now (count .entry)) (now (level .entry)) (now (then .entry)) (now (els .entry)) (now (next .entry)) (now (heads .entry))) l t e .answer ⌝ }
-    ensures { λ r. ⌜ store levels (now (count .exit)) (now (level .exit)) (now (then .exit)) (now (els .exit)) (now (next .exit)) (now (heads .exit)) ≡ nodes.make limits (store levels (now (count .entry)) (now (level .entry)) (now (then .entry)) (now (els .entry)) (now (next .entry)) (now (heads .entry))) l t e .after ⌝ }
-    ensures { λ r. ⌜ Known width (store levels (now (count .exit)) (now (level .exit)) (now (then .exit)) (now (els .exit)) (now (next .exit)) (now (heads .exit))) (now (index .exit)) ⌝ }
+    requires { ⌜ MakeAsks levels count level then els next heads index width l t e ⌝ }
+    ensures { λ r. ⌜ MakePromise levels count level then els next heads index width l t e r ⌝ }
 {
     if edges::same(t, e) {
         return Making::Node(t);
@@ -182,8 +178,8 @@ fn drop_node(
     next: &mut [Index],
     heads: &mut [Index],
 )
-    requires { ⌜ Sizes limits (store levels (now count) (now level) (now then) (now els) (now next) (now heads)) ⌝ }
-    ensures { λ r. ⌜ store levels (now (count .exit)) (now (level .exit)) (now (then .exit)) (now (els .exit)) (now (next .exit)) (now (heads .exit)) ≡ nodes.dropped (store levels (now (count .entry)) (now (level .entry)) (now (then .entry)) (now (els .entry)) (now (next .entry)) (now (heads .entry))) ⌝ }
+    requires { ⌜ Sizes limits (storeNow levels (now count) level then els next heads) ⌝ }
+    ensures { λ r. ⌜ newStore levels (new count) level then els next heads ≡ nodes.dropped (oldStore levels (old count) level then els next heads) ⌝ }
 {
     let n = *count;
     let c = n - 1;
@@ -212,9 +208,8 @@ pub fn take_back(
     heads: &mut [Index],
     to: Index,
 )
-    requires { ⌜ Rules limits (store levels (now count) (now level) (now then) (now els) (now next) (now heads)) ⌝ }
-    requires { ⌜ (1 ≤ to) × (to ≤ now count) ⌝ }
-    ensures { λ r. ⌜ store levels (now (count .exit)) (now (level .exit)) (now (then .exit)) (now (els .exit)) (now (next .exit)) (now (heads .exit)) ≡ nodes.back (now (count .entry) - to) (store levels (now (count .entry)) (now (level .entry)) (now (then .entry)) (now (els .entry)) (now (next .entry)) (now (heads .entry))) ⌝ }
+    requires { ⌜ TakeBackAsks levels count level then els next heads to ⌝ }
+    ensures { λ _. ⌜ TakeBackPromise levels count level then els next heads to ⌝ }
 {
     while to < *count {
         drop_node(levels, count, level, then, els, next, heads);

@@ -69,7 +69,7 @@ returns c =
     let f = saw (c .before .before .before) in
     let i = c .before .if1 .taken in
     let r = insert-found limits (σ s) _ _ _ _ f i _ (node-answer _ _ (c .edge-to .ensures) (found-edge (σ s) _ _ _ _ (s .pre .0 .sizes) f i)) in
-    (r .0, (r .1, s .pre .1))
+    record { answer = r .0; store = r .1; known = s .pre .1 }
 
 has-room-requires : tie.Need-has-room-requires
 has-room-requires c κs = search needs
@@ -90,7 +90,7 @@ returns-2 : tie.Need-returns-2
 returns-2 c =
     let s = c .before .before .before .before .before .before .before .before .before .before .before .before .before .before .before in
     let r = insert-full limits (σ s) _ _ _ _ (saw (c .before .before .before .before .before)) (c .before .before .before .if1 .left) _ (c .before .has-room .ensures) (not-true _ (c .if2 .taken)) in
-    (r .0, (r .1, s .pre .1))
+    record { answer = r .0; store = r .1; known = s .pre .1 }
 
 add-edge-to : tie.Need-add-edge-to
 add-edge-to c = search needs
@@ -138,7 +138,7 @@ returns-3 c =
     let m = room-true limits (σ s) (sym p ∙ y) in
     let g = rw (toZ-ofZ w16 (s .args .t) (s .fits .t), toZ-ofZ w16 (s .args .e) (s .fits .e)) at (c .before .before .before .before .before .before .before .before .put-node .ensures) in
     let r = insert-new limits (σ s) _ _ _ _ (saw (c .before .before .before .before .before .before .before .before .before .before .before .before .before .before .before .before .before .before .before .before .before)) (c .before .before .before .before .before .before .before .before .before .before .before .before .before .before .before .before .before .before .before .if1 .left) _ p y _ (node-answer _ _ (c .before .before .before .before .before .before .before .before .before .before .before .before .before .before .before .edge-to2 .ensures) (new-edge (σ s) _ p y)) _ g in
-    (r .0, (r .1, known-more _ (σ s) _ (s .pre .1) (s .pre .0) _ _ _ _ (sought (c .before .before .before .before .before .before .before .before .before .before .before .before .before .before .before .before .before .before .before .before .before)) (c .before .before .before .before .before .before .before .before .before .before .before .before .before .before .before .before .before .before .before .if1 .left) (m .0) (m .1) _ g))
+    record { answer = r .0; store = r .1; known = known-more _ (σ s) _ (s .pre .1) (s .pre .0) _ _ _ _ (sought (c .before .before .before .before .before .before .before .before .before .before .before .before .before .before .before .before .before .before .before .before .before)) (c .before .before .before .before .before .before .before .before .before .before .before .before .before .before .before .before .before .before .before .if1 .left) (m .0) (m .1) _ g }
 
 pub insert-spec : {M : Type 1} → statement M
 insert-spec =

@@ -19,10 +19,10 @@ abbrev σ : tie.Start → Store
     store (s .args .levels) (s .args .count .now) (s .args .level .now) (s .args .then .now) (s .args .els .now) (s .args .next .now) (s .args .heads .now)
 
 then-edge : (s : tie.Start) → IsEdge (s .args .t)
-then-edge s = omega (arith, s .pre .1 .0 .then-there, s .pre .0 .sizes .count-limit)
+then-edge s = omega (arith, s .pre .children .then-there, s .pre .rules .sizes .count-limit)
 
 else-edge : (s : tie.Start) → IsEdge (s .args .e)
-else-edge s = omega (arith, s .pre .1 .0 .else-there, s .pre .0 .sizes .count-limit)
+else-edge s = omega (arith, s .pre .children .else-there, s .pre .rules .sizes .count-limit)
 
 -- what the calls said, of the edges themselves
 compared : (c : tie.After-same) → let s = c .before .before .before .before .before in c .same .result ≡ eqZ (s .args .t) (s .args .e)
@@ -40,7 +40,7 @@ returns : tie.Need-returns
 returns c =
     let s = c .before .before .before .before .before .before in
     let r = make-child limits (σ s) _ (s .args .t) (s .args .e) _ (compared (c .before)) (c .if1 .taken) _ (ap value (toZ-ofZ w16 (s .args .t) (s .fits .t))) in
-    (r .0, (r .1, s .pre .1 .1))
+    record { answer = r .0; store = r .1; known = s .pre .known }
 
 is-minus-requires : tie.Need-is-minus-requires
 is-minus-requires c κs = search needs
@@ -52,10 +52,10 @@ complement-requires-2 : tie.Need-complement-requires-2
 complement-requires-2 c κs = let s = c .before .before .before .before .before .before .before .before in rw (toZ-ofZ w16 (s .args .e) (s .fits .e)) (else-edge s)
 
 insert-requires : tie.Need-insert-requires
-insert-requires c κs = let s = c .before .before .before .before .before .before .before .before .before .before .before .before .before .before .before .before in (s .pre .0, s .pre .1 .1)
+insert-requires c κs = let s = c .before .before .before .before .before .before .before .before .before .before .before .before .before .before .before .before in (s .pre .rules, s .pre .known)
 
 complement-made-requires : tie.Need-complement-made-requires
-complement-made-requires c κs = let s = c .before .before .before .before .before .before .before .before .before .before .before .before .before .before .before .before .before .before .before .before .before .before .before .before .before .before .before in insert-turns (σ s) _ _ _ (s .pre .0 .sizes) (c .before .before .before .before .before .before .before .before .before .before .insert .result) (c .before .before .before .before .before .before .before .before .before .before .insert .ensures .0)
+complement-made-requires c κs = let s = c .before .before .before .before .before .before .before .before .before .before .before .before .before .before .before .before .before .before .before .before .before .before .before .before .before .before .before in insert-turns (σ s) _ _ _ (s .pre .rules .sizes) (c .before .before .before .before .before .before .before .before .before .before .insert .result) (c .before .before .before .before .before .before .before .before .before .before .insert .ensures .answer)
 
 same-length : tie.Need-same-length
 same-length c = search needs
@@ -81,10 +81,12 @@ returns-2 c =
     let y = c .before .before .before .before .before .before .before .before .before .before .before .before .before .before .before .before .before .before .before .before .before .is-minus .result in
     let a = turned-back y (s .args .t) (then-edge s) _ (c .before .before .before .before .before .before .before .before .before .before .before .before .before .before .before .before .before .before .before .before .complement .ensures) in
     let b = turned-back y (s .args .e) (else-edge s) _ (c .before .before .before .before .before .before .before .before .before .before .before .before .before .before .before .before .before .before .before .complement2 .ensures) in
-    let i = c .before .before .before .before .before .before .before .before .before .before .before .insert .ensures in (
-      make-answer limits (σ s) _ (s .args .t) (s .args .e) _ (compared (c .before .before .before .before .before .before .before .before .before .before .before .before .before .before .before .before .before .before .before .before .before .before .before)) (c .before .before .before .before .before .before .before .before .before .before .before .before .before .before .before .before .before .before .before .before .before .before .if1 .left) y (signed (c .before .before .before .before .before .before .before .before .before .before .before .before .before .before .before .before .before .before .before .before .before)) _ _ a b _ _ (i .0) (c .complement-made .ensures),
-      (rw (← make-after limits (σ s) _ (s .args .t) (s .args .e) _ (compared (c .before .before .before .before .before .before .before .before .before .before .before .before .before .before .before .before .before .before .before .before .before .before .before)) (c .before .before .before .before .before .before .before .before .before .before .before .before .before .before .before .before .before .before .before .before .before .before .if1 .left) y (signed (c .before .before .before .before .before .before .before .before .before .before .before .before .before .before .before .before .before .before .before .before .before)) _ _ a b) (i .1 .0), i .1 .1),
-    )
+    let i = c .before .before .before .before .before .before .before .before .before .before .before .insert .ensures in
+    record {
+      answer = make-answer limits (σ s) _ (s .args .t) (s .args .e) _ (compared (c .before .before .before .before .before .before .before .before .before .before .before .before .before .before .before .before .before .before .before .before .before .before .before)) (c .before .before .before .before .before .before .before .before .before .before .before .before .before .before .before .before .before .before .before .before .before .before .if1 .left) y (signed (c .before .before .before .before .before .before .before .before .before .before .before .before .before .before .before .before .before .before .before .before .before)) _ _ a b _ _ (i .answer) (c .complement-made .ensures);
+      store = rw (← make-after limits (σ s) _ (s .args .t) (s .args .e) _ (compared (c .before .before .before .before .before .before .before .before .before .before .before .before .before .before .before .before .before .before .before .before .before .before .before)) (c .before .before .before .before .before .before .before .before .before .before .before .before .before .before .before .before .before .before .before .before .before .before .if1 .left) y (signed (c .before .before .before .before .before .before .before .before .before .before .before .before .before .before .before .before .before .before .before .before .before)) _ _ a b) (i .store);
+      known = i .known;
+    }
 
 pub make-spec : {M : Type 1} → statement M
 make-spec =

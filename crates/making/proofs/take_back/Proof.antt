@@ -15,7 +15,7 @@ abbrev μ-loop : tie.MeasureT-loop
 μ-loop levels count₀ level₀ then₀ els₀ next₀ heads₀ to count level then els next heads = count
 
 loop-holds : tie.Need-loop-holds Inv-loop μ-loop
-loop-holds c = let s = c .before .before .before in return-start _ _ _ (s .pre .0) (s .pre .1 .1)
+loop-holds c = let s = c .before .before .before in return-start _ _ _ (s .pre .rules) (s .pre .there)
 
 drop-node-requires : tie.Need-drop-node-requires Inv-loop μ-loop
 drop-node-requires c κs = c .before .before .before .before .before .before .before .loop .inv .rules .sizes
@@ -24,7 +24,7 @@ loop-less : tie.Need-loop-less Inv-loop μ-loop
 loop-less c = return-less _ _ _ _ (c .before .before .before .before .before .before .before .before .before .before .before .before .before .before .before .before .loop .inv) (c .before .before .before .before .before .before .before .before .before .before .before .before .before .before .before .loop-test .taken) _ (c .before .before .before .before .before .before .before .before .drop-node .ensures)
 
 loop-again : tie.Need-loop-again Inv-loop μ-loop
-loop-again c = return-more _ _ _ _ (c .before .before .before .before .before .before .before .before .before .before .before .before .before .before .before .before .loop .inv) (c .before .before .before .before .before .before .before .before .before .before .before .before .before .before .before .before .before .before .before .before .pre .1 .0) (c .before .before .before .before .before .before .before .before .before .before .before .before .before .before .before .loop-test .taken) _ (c .before .before .before .before .before .before .before .before .drop-node .ensures)
+loop-again c = return-more _ _ _ _ (c .before .before .before .before .before .before .before .before .before .before .before .before .before .before .before .before .loop .inv) (c .before .before .before .before .before .before .before .before .before .before .before .before .before .before .before .before .before .before .before .before .pre .some) (c .before .before .before .before .before .before .before .before .before .before .before .before .before .before .before .loop-test .taken) _ (c .before .before .before .before .before .before .before .before .drop-node .ensures)
 
 same-length : tie.Need-same-length Inv-loop μ-loop
 same-length c = search needs
@@ -42,7 +42,7 @@ same-length-5 : tie.Need-same-length-5 Inv-loop μ-loop
 same-length-5 c = search needs
 
 returns : tie.Need-returns Inv-loop μ-loop
-returns c = return-end _ _ _ _ (c .before .loop .inv) (c .loop-test .left)
+returns c = record { store = return-end _ _ _ _ (c .before .loop .inv) (c .loop-test .left) }
 
 pub take-back-spec : {M : Type 1} → statement M
 take-back-spec =

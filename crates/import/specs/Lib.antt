@@ -3,3 +3,4 @@ pub mod Import
 pub mod Kinds
 pub mod Acceptance
 pub mod List
+pub mod Promises

@@ -6,13 +6,11 @@ ghost use mathlib.Core.Bool.{cond};
 ghost use Prim.Native.Nat.{_≤_, _<_, _^_};
 ghost use lib.IntN.{pos, natAbs};
 ghost use lib.ListN.{length, drop, replicate};
-ghost use Rattle.store.specs.Store.{store};
-ghost use Rattle.store.specs.Rules.{Rules, limits};
 ghost use Rattle.lines.specs.Kinds.{ofDecoded};
-ghost use Rattle.import.specs.Build.{edgeFor, LevelsOf, Edges};
-ghost use Rattle.import.specs.Import.{setup, lineBy, lineFor, builtFrom, linesAnswer, blankAll, endsWell, withEnd, isRead, rootsBy, EdgesIf, importOf, Laid, Bounded};
-ghost use Rattle.making.specs.Known.{Known};
+ghost use Rattle.import.specs.Build.{edgeFor, Edges};
+ghost use Rattle.import.specs.Import.{lineBy, lineFor, blankAll, endsWell, withEnd, isRead, rootsBy, EdgesIf};
 ghost use Rattle.import.specs.Kinds.{ofImported};
+ghost use Rattle.import.specs.Promises.{LinesAsks, LinesPromise, ImportAsks, ImportPromise};
 use codes::refusal;
 use edges::Edge;
 use edges::Index;
@@ -96,13 +94,8 @@ fn read_lines(
     index: &mut [Index],
     width: usize,
 ) -> Imported
-    requires { ⌜ Rules limits (store levels (now count) (now level) (now then) (now els) (now next) (now heads)) ⌝ }
-    requires { ⌜ LevelsOf (store levels (now count) (now level) (now then) (now els) (now next) (now heads)) (now list) ⌝ }
-    requires { ⌜ Bounded (setup ascii extra nnodes lines (now list) levels) (length (now edges)) (length (now seats)) ⌝ }
-    requires { ⌜ Known width (store levels (now count) (now level) (now then) (now els) (now next) (now heads)) (now index) ⌝ }
-    ensures { λ r. ⌜ ofImported r ≡ linesAnswer (setup ascii extra nnodes lines (now (list .entry)) levels) (store levels (now (count .entry)) (now (level .entry)) (now (then .entry)) (now (els .entry)) (now (next .entry)) (now (heads .entry))) (now (f .entry)) from ⌝ }
-    ensures { λ _. ⌜ (store levels (now (count .exit)) (now (level .exit)) (now (then .exit)) (now (els .exit)) (now (next .exit)) (now (heads .exit))) ≡ builtFrom (setup ascii extra nnodes lines (now (list .entry)) levels) (store levels (now (count .entry)) (now (level .entry)) (now (then .entry)) (now (els .entry)) (now (next .entry)) (now (heads .entry))) (now (f .entry)) from .after ⌝ }
-    ensures { λ _. ⌜ Laid (builtFrom (setup ascii extra nnodes lines (now (list .entry)) levels) (store levels (now (count .entry)) (now (level .entry)) (now (then .entry)) (now (els .entry)) (now (next .entry)) (now (heads .entry))) (now (f .entry)) from .answer) (now (edges .exit)) ⌝ }
+    requires { ⌜ LinesAsks ascii extra nnodes lines list levels count level then els next heads edges seats index width ⌝ }
+    ensures { λ r. ⌜ LinesPromise f from ascii extra nnodes lines list levels count level then els next heads edges r ⌝ }
 {
     let mut n: Index = 0;
     let mut at = from;
@@ -172,12 +165,8 @@ fn import_lines(
     edges: &mut [Edge],
     seats: &mut [u16],
 ) -> Imported
-    requires { ⌜ Rules limits (store levels (now count) (now level) (now then) (now els) (now next) (now heads)) ⌝ }
-    requires { ⌜ LevelsOf (store levels (now count) (now level) (now then) (now els) (now next) (now heads)) (now list) ⌝ }
-    requires { ⌜ Bounded (setup ascii extra nnodes lines (now list) levels) (length (now edges)) (length (now seats)) ⌝ }
-    ensures { λ r. ⌜ ofImported r ≡ linesAnswer (setup ascii extra nnodes lines (now (list .entry)) levels) (store levels (now (count .entry)) (now (level .entry)) (now (then .entry)) (now (els .entry)) (now (next .entry)) (now (heads .entry))) (now (f .entry)) from ⌝ }
-    ensures { λ _. ⌜ (store levels (now (count .exit)) (now (level .exit)) (now (then .exit)) (now (els .exit)) (now (next .exit)) (now (heads .exit))) ≡ builtFrom (setup ascii extra nnodes lines (now (list .entry)) levels) (store levels (now (count .entry)) (now (level .entry)) (now (then .entry)) (now (els .entry)) (now (next .entry)) (now (heads .entry))) (now (f .entry)) from .after ⌝ }
-    ensures { λ _. ⌜ Laid (builtFrom (setup ascii extra nnodes lines (now (list .entry)) levels) (store levels (now (count .entry)) (now (level .entry)) (now (then .entry)) (now (els .entry)) (now (next .entry)) (now (heads .entry))) (now (f .entry)) from .answer) (now (edges .exit)) ⌝ }
+    requires { ⌜ ImportAsks ascii extra nnodes lines list levels count level then els next heads edges seats ⌝ }
+    ensures { λ r. ⌜ LinesPromise f from ascii extra nnodes lines list levels count level then els next heads edges r ⌝ }
 {
     if level.len() <= index::FEW {
         let mut few = [0u16; index::FEW_LEN];
@@ -349,14 +338,8 @@ pub fn import(
     seats: &mut [u16],
     roots: &mut [Edge],
 ) -> Imported
-    requires { ⌜ Rules limits (store levels (now count) (now level) (now then) (now els) (now next) (now heads)) ⌝ }
-    requires { ⌜ LevelsOf (store levels (now count) (now level) (now then) (now els) (now next) (now heads)) (now list) ⌝ }
-    requires { ⌜ Bounded (setup ascii extra nnodes lines (now list) levels) (length (now edges)) (length (now seats)) ⌝ }
-    ensures { λ r. ⌜ ofImported r ≡ importOf (setup ascii extra nnodes lines (now (list .entry)) levels) (store levels (now (count .entry)) (now (level .entry)) (now (then .entry)) (now (els .entry)) (now (next .entry)) (now (heads .entry))) (now (f .entry)) from (now (roots .entry)) .answer ⌝ }
-    ensures { λ _. ⌜ (store levels (now (count .exit)) (now (level .exit)) (now (then .exit)) (now (els .exit)) (now (next .exit)) (now (heads .exit))) ≡ importOf (setup ascii extra nnodes lines (now (list .entry)) levels) (store levels (now (count .entry)) (now (level .entry)) (now (then .entry)) (now (els .entry)) (now (next .entry)) (now (heads .entry))) (now (f .entry)) from (now (roots .entry)) .after ⌝ }
-    ensures { λ _. ⌜ now (roots .exit) ≡ importOf (setup ascii extra nnodes lines (now (list .entry)) levels) (store levels (now (count .entry)) (now (level .entry)) (now (then .entry)) (now (els .entry)) (now (next .entry)) (now (heads .entry))) (now (f .entry)) from (now (roots .entry)) .roots ⌝ }
-    ensures { λ _. ⌜ now (edges .exit) ≡ replicate (length (now (edges .entry))) (pos 0) ⌝ }
-    ensures { λ _. ⌜ now (seats .exit) ≡ replicate (length (now (seats .entry))) 0 ⌝ }
+    requires { ⌜ ImportAsks ascii extra nnodes lines list levels count level then els next heads edges seats ⌝ }
+    ensures { λ r. ⌜ ImportPromise f from ascii extra nnodes lines list levels count level then els next heads edges seats roots r ⌝ }
 {
     let before = *count;
     let read = import_lines(

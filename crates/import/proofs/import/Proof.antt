@@ -27,7 +27,7 @@ abbrev start : tie.After-import-lines → tie.Start
 start c = c .before .before .before .before .before .before .before .before .before .before .before .before .before .before .before .before
 
 import-lines-requires : tie.Need-import-lines-requires
-import-lines-requires c κs = c .before .before .before .before .before .before .before .before .before .before .before .before .before .before .before .pre
+import-lines-requires c κs = let p = c .before .before .before .before .before .before .before .before .before .before .before .before .before .before .before .pre in record { rules = p .rules; levels-fit = p .levels-fit; bounds = p .bounds }
 
 with-end-requires : tie.Need-with-end-requires
 with-end-requires c κs = tt
@@ -36,19 +36,22 @@ is-read-requires : tie.Need-is-read-requires
 is-read-requires c κs = tt
 
 slice-reshare-prefix-put-roots : tie.Need-slice-reshare-prefix-put-roots
-slice-reshare-prefix-put-roots c = kept-long _ _ _ (read c .import-lines .kept .1 .1 .1 .1 .1 .1 .1 .1 .1 .1 .1 .1 .1 .1 .0) (start (read c) .pre .1 .1 .edges-long)
+slice-reshare-prefix-put-roots c = kept-long _ _ _ (read c .import-lines .kept .1 .1 .1 .1 .1 .1 .1 .1 .1 .1 .1 .1 .1 .1 .0) (start (read c) .pre .bounds .edges-long)
 
 slice-aggregate-put-roots : tie.Need-slice-aggregate-put-roots
-slice-aggregate-put-roots c = sym (length-take-le _ _ (kept-long _ _ _ (read (c .before) .import-lines .kept .1 .1 .1 .1 .1 .1 .1 .1 .1 .1 .1 .1 .1 .1 .0) (start (read (c .before)) .pre .1 .1 .edges-long)))
+slice-aggregate-put-roots c = sym (length-take-le _ _ (kept-long _ _ _ (read (c .before) .import-lines .kept .1 .1 .1 .1 .1 .1 .1 .1 .1 .1 .1 .1 .1 .1 .0) (start (read (c .before)) .pre .bounds .edges-long)))
 
 put-roots-requires : tie.Need-put-roots-requires
-put-roots-requires c κs = let s = start (read (c .before .before)) in front-edges (u s) (σ s) (s .args .f .now) (s .args .from) (s .pre .0) (s .pre .1 .0) _ _ (read (c .before .before) .import-lines .ensures .0) (c .before .before .before .with-end .ensures) (c .before .before .is-read .ensures) (read (c .before .before) .import-lines .ensures .1 .1)
+put-roots-requires c κs = let s = start (read (c .before .before)) in front-edges (u s) (σ s) (s .args .f .now) (s .args .from) (s .pre .rules) (s .pre .levels-fit) _ _ (read (c .before .before) .import-lines .ensures .answer) (c .before .before .before .with-end .ensures) (c .before .before .is-read .ensures) (read (c .before .before) .import-lines .ensures .laid)
 
 staying-requires : tie.Need-staying-requires
 staying-requires c κs = tt
 
 take-back-requires : tie.Need-take-back-requires
-take-back-requires c κs = let s = start (read (c .before .before .before .before .before .before .before .before .before .before .before)) in stay-settled (u s) (σ s) (s .args .f .now) (s .args .from) (s .pre .0) (s .pre .1 .0) (c .before .before .before .before .before .before .before .before .before .before .before .is-read .result) (read (c .before .before .before .before .before .before .before .before .before .before .before) .import-lines .ensures .1 .0) (c .before .before .before .before .before .before .staying .ensures)
+take-back-requires c κs =
+    let s = start (read (c .before .before .before .before .before .before .before .before .before .before .before)) in
+    let p = stay-settled (u s) (σ s) (s .args .f .now) (s .args .from) (s .pre .rules) (s .pre .levels-fit) (c .before .before .before .before .before .before .before .before .before .before .before .is-read .result) (read (c .before .before .before .before .before .before .before .before .before .before .before) .import-lines .ensures .store) (c .before .before .before .before .before .before .staying .ensures) in
+    record { rules = p .0; some = p .1 .0; there = p .1 .1 }
 
 clear-edges-requires : tie.Need-clear-edges-requires
 clear-edges-requires c κs = tt
@@ -82,19 +85,21 @@ same-length-8 c = c .before .before .before .before .before .before .before .bef
 
 returns : tie.Need-returns
 returns c =
-    let s = start (read (judged c)) in import-leaves (u s) (σ s) (s .args .f .now) (s .args .from) (s .pre .0) (s .pre .1 .0) (s .args .roots .now) _
-    (read (judged c) .import-lines .ensures .0)
-    (read (judged c) .import-lines .ensures .1 .0)
-    (read (judged c) .import-lines .ensures .1 .1)
+    let s = start (read (judged c)) in
+    let p = import-leaves (u s) (σ s) (s .args .f .now) (s .args .from) (s .pre .rules) (s .pre .levels-fit) (s .args .roots .now) _
+    (read (judged c) .import-lines .ensures .answer)
+    (read (judged c) .import-lines .ensures .store)
+    (read (judged c) .import-lines .ensures .laid)
     (judged c .before .with-end .ensures)
     (judged c .is-read .ensures)
     (c .before .before .before .before .before .before .before .before .before .before .before .before .before .before .before .before .before .before .before .before .before .before .before .before .put-roots .ensures)
     (c .before .before .before .before .before .before .before .before .before .before .before .before .before .before .before .before .before .before .before .before .before .before .staying .ensures)
-    (c .before .before .before .before .before .before .before .before .before .before .before .before .before .before .before .take-back .ensures)
+    (c .before .before .before .before .before .before .before .before .before .before .before .before .before .before .before .take-back .ensures .store)
     (c .before .before .before .before .before .clear-edges .ensures)
     (read (judged c) .import-lines .kept .1 .1 .1 .1 .1 .1 .1 .1 .1 .1 .1 .1 .1 .1 .0)
     (c .before .before .clear-seats .ensures)
-    (read (judged c) .import-lines .kept .1 .1 .1 .1 .1 .1 .1 .1 .1 .1 .1 .1 .1 .1 .1 .0)
+    (read (judged c) .import-lines .kept .1 .1 .1 .1 .1 .1 .1 .1 .1 .1 .1 .1 .1 .1 .1 .0) in
+    record { answer = p .0; store = p .1 .0; roots-left = p .1 .1 .0; edges-left = p .1 .1 .1 .0; seats-left = p .1 .1 .1 .1 }
 
 pub import-spec : {M : Type 1} → statement M
 import-spec =

@@ -19,7 +19,7 @@ slice-aggregate-distinct c = refl
 distinct-requires : tie.Need-distinct-requires
 distinct-requires c κs =
     let s = c .before .before .before .before .before .before .before .before .before .before .before .before in
-    let z = s .pre .0 .sizes in
+    let z = s .pre .rules .sizes in
     (refl, ((omega arith, omega arith, omega (arith, c .before .before .before .before .before .if1)), ((z .count-some, omega (arith, z .count-limit)), (z .count-slots, (omega (arith, z .count-slots, z .then-long), omega (arith, z .count-slots, z .els-long))))))
 
 slice-aggregate-read-lines : tie.Need-slice-aggregate-read-lines
@@ -28,7 +28,7 @@ slice-aggregate-read-lines c = search needs
 read-lines-requires : tie.Need-read-lines-requires
 read-lines-requires c κs =
     let s = c .before .before .before .before .before .before .before .before .before .before .before .before .before .before .before .before .before .before .before .before .before .before .before in
-    (s .pre .0, (s .pre .1 .0, (s .pre .1 .1, known-start _ (σ s) _ (s .pre .0) _ (c .before .before .before .before .before .before .before .before .before .before .distinct .ensures .0) (c .before .before .before .before .before .before .before .before .before .before .distinct .ensures .1) (λ n p h. omega (arith, c .before .before .before .before .before .before .before .before .before .before .distinct .kept .0, c .before .before .before .before .before .before .before .before .before .before .before .before .before .before .before .before .if1 .taken)))))
+    record { rules = s .pre .rules; levels-fit = s .pre .levels-fit; bounds = s .pre .bounds; known = known-start _ (σ s) _ (s .pre .rules) _ (c .before .before .before .before .before .before .before .before .before .before .distinct .ensures .0) (c .before .before .before .before .before .before .before .before .before .before .distinct .ensures .1) (λ n p h. omega (arith, c .before .before .before .before .before .before .before .before .before .before .distinct .kept .0, c .before .before .before .before .before .before .before .before .before .before .before .before .before .before .before .before .if1 .taken)) }
 
 same-length : tie.Need-same-length
 same-length c = c .before .before .before .before .before .before .before .before .before .before .before .before .read-lines .kept .1 .1 .1 .1 .1 .1 .1 .1 .1 .0
@@ -52,7 +52,7 @@ same-length-7 : tie.Need-same-length-7
 same-length-7 c = c .before .before .before .before .before .before .before .before .before .before .before .before .read-lines .kept .1 .1 .1 .1 .1 .1 .1 .1 .1 .1 .1 .1 .1 .1 .1 .0
 
 returns : tie.Need-returns
-returns c = c .before .before .before .before .before .before .before .before .before .before .before .before .read-lines .ensures
+returns c = let p = c .before .before .before .before .before .before .before .before .before .before .before .before .read-lines .ensures in record { answer = p .answer; store = p .store; laid = p .laid }
 
 slice-aggregate-distinct-2 : tie.Need-slice-aggregate-distinct-2
 slice-aggregate-distinct-2 c = refl
@@ -60,7 +60,7 @@ slice-aggregate-distinct-2 c = refl
 distinct-requires-2 : tie.Need-distinct-requires-2
 distinct-requires-2 c κs =
     let s = c .before .before .before .before .before .before .before .before .before .before .before .before in
-    let z = s .pre .0 .sizes in
+    let z = s .pre .rules .sizes in
     (refl, ((omega arith, omega arith, omega (arith, c .before .before .before .before .before .if1)), ((z .count-some, omega (arith, z .count-limit)), (z .count-slots, (omega (arith, z .count-slots, z .then-long), omega (arith, z .count-slots, z .els-long))))))
 
 slice-aggregate-read-lines-2 : tie.Need-slice-aggregate-read-lines-2
@@ -69,7 +69,7 @@ slice-aggregate-read-lines-2 c = search needs
 read-lines-requires-2 : tie.Need-read-lines-requires-2
 read-lines-requires-2 c κs =
     let s = c .before .before .before .before .before .before .before .before .before .before .before .before .before .before .before .before .before .before .before .before .before .before .before in
-    (s .pre .0, (s .pre .1 .0, (s .pre .1 .1, known-start _ (σ s) _ (s .pre .0) _ (c .before .before .before .before .before .before .before .before .before .before .distinct2 .ensures .0) (c .before .before .before .before .before .before .before .before .before .before .distinct2 .ensures .1) (λ n p h. omega (arith, c .before .before .before .before .before .before .before .before .before .before .distinct2 .kept .0)))))
+    record { rules = s .pre .rules; levels-fit = s .pre .levels-fit; bounds = s .pre .bounds; known = known-start _ (σ s) _ (s .pre .rules) _ (c .before .before .before .before .before .before .before .before .before .before .distinct2 .ensures .0) (c .before .before .before .before .before .before .before .before .before .before .distinct2 .ensures .1) (λ n p h. omega (arith, c .before .before .before .before .before .before .before .before .before .before .distinct2 .kept .0)) }
 
 same-length-8 : tie.Need-same-length-8
 same-length-8 c = c .before .before .before .before .before .before .before .before .before .before .before .before .read-lines2 .kept .1 .1 .1 .1 .1 .1 .1 .1 .1 .0
@@ -93,7 +93,7 @@ same-length-14 : tie.Need-same-length-14
 same-length-14 c = c .before .before .before .before .before .before .before .before .before .before .before .before .read-lines2 .kept .1 .1 .1 .1 .1 .1 .1 .1 .1 .1 .1 .1 .1 .1 .1 .0
 
 returns-2 : tie.Need-returns-2
-returns-2 c = c .before .before .before .before .before .before .before .before .before .before .before .before .read-lines2 .ensures
+returns-2 c = let p = c .before .before .before .before .before .before .before .before .before .before .before .before .read-lines2 .ensures in record { answer = p .answer; store = p .store; laid = p .laid }
 
 pub import-lines-spec : {M : Type 1} → statement M
 import-lines-spec =

@@ -1,7 +1,6 @@
 -- What reading the nodes of a file asks and promises.
 use Prim.Native.Nat.{ℕ}
 use mathlib.Core.Path.{_≡_}
-use mathlib.Core.Bool.{Bool}
 use mathlib.Core.List.{List}
 use lib.ListN.{length, replicate}
 use lib.IntN.{ℤ, pos}
@@ -11,11 +10,13 @@ use Rattle.store.specs.Rules.{Rules, limits}
 use Rattle.store.specs.Lent.{Part, old, new, storeNow, oldStore, newStore}
 use Rattle.making.specs.Known.{Known}
 use Rattle.import.specs.declared.Imported.{Imported}
-use Rattle.import.specs.Kinds.{ofImported}
+use Rattle.import.specs.declared.Setup.{Setup}
+use Rattle.import.specs.Kinds.{ofImported, ofSetup}
 use Rattle.import.specs.Build.{LevelsOf}
-use Rattle.import.specs.Import.{Setup, setup, builtFrom, linesAnswer, importOf, Laid, Bounded}
+use Rattle.import.specs.Import as meant
+use Rattle.import.specs.Import.{builtFrom, linesAnswer, importOf, Laid, Bounded}
 
-module _ (ascii extra : Bool) (nnodes lines : ℕ) (list : RefT (List ℕ)) (levels : ℕ) (count : RefT ℕ) (level : RefT (List ℕ))
+module _ (setup : Setup) (list : RefT (List ℕ)) (levels : ℕ) (count : RefT ℕ) (level : RefT (List ℕ))
     (then els : RefT (List ℤ)) (next heads : RefT (List ℕ)) (edges : RefT (List ℤ)) (seats : RefT (List ℕ)) where
   abbrev σ : Store
   σ = storeNow levels (now count) level then els next heads
@@ -24,20 +25,20 @@ module _ (ascii extra : Bool) (nnodes lines : ℕ) (list : RefT (List ℕ)) (lev
   pub record ImportAsks : Type 0 where
     pub rules : Rules limits σ
     pub levels-fit : LevelsOf σ (now list)
-    pub bounds : Bounded (setup ascii extra nnodes lines (now list) levels) (length (now edges)) (length (now seats))
+    pub bounds : Bounded (ofSetup setup (now list) levels) (length (now edges)) (length (now seats))
 
   -- besides, an index that knows the store's nodes
   pub record LinesAsks (index : RefT (List ℕ)) (width : ℕ) : Type 0 where
     pub rules : Rules limits σ
     pub levels-fit : LevelsOf σ (now list)
-    pub bounds : Bounded (setup ascii extra nnodes lines (now list) levels) (length (now edges)) (length (now seats))
+    pub bounds : Bounded (ofSetup setup (now list) levels) (length (now edges)) (length (now seats))
     pub known : Known width σ (now index)
 
-module _ (f : Part (List ℕ)) (from : ℕ) (ascii extra : Bool) (nnodes lines : ℕ) (list : Part (List ℕ)) (levels : ℕ) (count : Part ℕ)
+module _ (f : Part (List ℕ)) (from : ℕ) (setup : Setup) (list : Part (List ℕ)) (levels : ℕ) (count : Part ℕ)
     (level : Part (List ℕ)) (then els : Part (List ℤ)) (next heads : Part (List ℕ)) (edges : Part (List ℤ)) where
   -- what the nodes are read by, and the store as the call starts and as it ends
-  abbrev by : Setup
-  by = setup ascii extra nnodes lines (old list) levels
+  abbrev by : meant.Setup
+  by = ofSetup setup (old list) levels
 
   abbrev before : Store
   before = oldStore levels (old count) level then els next heads

@@ -23,6 +23,14 @@ pub enum Imported {
     Refused(u8, usize),
 }
 
+// What the nodes are read by: mode A or not; whether lines have an extra word; how many lines there are; how many lines the header has.
+pub struct Setup {
+    pub ascii: bool,
+    pub extra: bool,
+    pub nnodes: Index,
+    pub lines: usize,
+}
+
 // The node line of either mode at a position.
 fn line_at(
     ascii: bool,
@@ -77,10 +85,7 @@ fn line_for(ascii: bool, line: usize, k: u8) -> usize
 fn read_lines(
     f: &[u8],
     from: usize,
-    ascii: bool,
-    extra: bool,
-    nnodes: Index,
-    lines: usize,
+    setup: Setup,
     list: &[u16],
     levels: u16,
     count: &mut Index,
@@ -94,15 +99,24 @@ fn read_lines(
     index: &mut [Index],
     width: usize,
 ) -> Imported
-    requires { ⌜ LinesAsks ascii extra nnodes lines list levels count level then els next heads edges seats index width ⌝ }
-    ensures { λ r. ⌜ LinesPromise f from ascii extra nnodes lines list levels count level then els next heads edges r ⌝ }
+    requires { ⌜ LinesAsks setup list levels count level then els next heads edges seats index width ⌝ }
+    ensures { λ r. ⌜ LinesPromise f from setup list levels count level then els next heads edges r ⌝ }
 {
     let mut n: Index = 0;
     let mut at = from;
-    while n < nnodes {
+    while n < setup.nnodes {
         let i = n as usize;
         let line = n + 1;
-        match line_at(ascii, extra, list, levels, f, &seats[..i], line, at) {
+        match line_at(
+            setup.ascii,
+            setup.extra,
+            list,
+            levels,
+            f,
+            &seats[..i],
+            line,
+            at,
+        ) {
             Decoded::Terminal(after) => {
                 edges[i] = 1;
                 seats[i] = 0;
@@ -139,7 +153,7 @@ fn read_lines(
                 }
             }
             Decoded::Refused(k) => {
-                return Imported::Refused(k, line_for(ascii, lines + line as usize, k));
+                return Imported::Refused(k, line_for(setup.ascii, setup.lines + line as usize, k));
             }
         }
     }
@@ -150,10 +164,7 @@ fn read_lines(
 fn import_lines(
     f: &[u8],
     from: usize,
-    ascii: bool,
-    extra: bool,
-    nnodes: Index,
-    lines: usize,
+    setup: Setup,
     list: &[u16],
     levels: u16,
     count: &mut Index,
@@ -165,8 +176,8 @@ fn import_lines(
     edges: &mut [Edge],
     seats: &mut [u16],
 ) -> Imported
-    requires { ⌜ ImportAsks ascii extra nnodes lines list levels count level then els next heads edges seats ⌝ }
-    ensures { λ r. ⌜ LinesPromise f from ascii extra nnodes lines list levels count level then els next heads edges r ⌝ }
+    requires { ⌜ ImportAsks setup list levels count level then els next heads edges seats ⌝ }
+    ensures { λ r. ⌜ LinesPromise f from setup list levels count level then els next heads edges r ⌝ }
 {
     if level.len() <= index::FEW {
         let mut few = [0u16; index::FEW_LEN];
@@ -174,10 +185,7 @@ fn import_lines(
         return read_lines(
             f,
             from,
-            ascii,
-            extra,
-            nnodes,
-            lines,
+            setup,
             list,
             levels,
             count,
@@ -197,10 +205,7 @@ fn import_lines(
     read_lines(
         f,
         from,
-        ascii,
-        extra,
-        nnodes,
-        lines,
+        setup,
         list,
         levels,
         count,
@@ -322,10 +327,7 @@ fn staying(ok: bool, before: Index, count: Index) -> Index
 pub fn import(
     f: &[u8],
     from: usize,
-    ascii: bool,
-    extra: bool,
-    nnodes: Index,
-    lines: usize,
+    setup: Setup,
     list: &[u16],
     levels: u16,
     count: &mut Index,
@@ -338,17 +340,14 @@ pub fn import(
     seats: &mut [u16],
     roots: &mut [Edge],
 ) -> Imported
-    requires { ⌜ ImportAsks ascii extra nnodes lines list levels count level then els next heads edges seats ⌝ }
-    ensures { λ r. ⌜ ImportPromise f from ascii extra nnodes lines list levels count level then els next heads edges seats roots r ⌝ }
+    requires { ⌜ ImportAsks setup list levels count level then els next heads edges seats ⌝ }
+    ensures { λ r. ⌜ ImportPromise f from setup list levels count level then els next heads edges seats roots r ⌝ }
 {
     let before = *count;
     let read = import_lines(
         f,
         from,
-        ascii,
-        extra,
-        nnodes,
-        lines,
+        setup,
         list,
         levels,
         count,
@@ -362,7 +361,8 @@ pub fn import(
     );
     let answer = with_end(f, read);
     let ok = is_read(answer);
-    put_roots(ok, &edges[..nnodes as usize], roots);
+    let n = setup.nnodes as usize;
+    put_roots(ok, &edges[..n], roots);
     let to = staying(ok, before, *count);
     making::take_back(levels, count, level, then, els, next, heads, to);
     clear_edges(edges);

@@ -2,15 +2,17 @@
 -- refused file has made is taken back.
 use mathlib.Core.Path.{sym, _∙_}
 use lib.Seq.{length-take-le}
+use borrow.Author.Needs.{needs}
 use Rattle.store.specs.Store.{Store, store}
-use Rattle.import.specs.Import.{Setup, setup}
+use Rattle.import.specs.Import.{Setup}
+use Rattle.import.specs.Kinds.{ofSetup}
 use Rattle.import.proofs.Settling.{kept-long, front-edges, stay-settled, import-leaves}
 use Rattle.import.proofs.import.Statement.{statement}
 use Rattle.import.proofs.import.Tie as tie
 
 -- what the nodes are read by, and the store handed in
 abbrev u : tie.Start → Setup
-u s = setup (s .args .ascii) (s .args .extra) (s .args .nnodes) (s .args .lines) (s .args .list .now) (s .args .levels)
+u s = ofSetup (s .args .setup) (s .args .list .now) (s .args .levels)
 
 abbrev σ : tie.Start → Store
 σ s = store (s .args .levels) (s .args .count .now) (s .args .level .now) (s .args .then .now) (s .args .els .now) (s .args .next .now)
@@ -18,7 +20,7 @@ abbrev σ : tie.Start → Store
 
 -- the answer judged, the lines read, and the function's entry, seen from later places
 abbrev judged : tie.After-slice-known12 → tie.After-is-read
-judged c = c .before .before .before .before .before .before .before .before .before .before .before .before .before .before .before .before .before .before .before .before .before .before .before .before .before .before .before
+judged c = c .before .before .before .before .before .before .before .before .before .before .before .before .before .before .before .before .before .before .before .before .before .before .before .before .before .before .before .before
 
 abbrev read : tie.After-is-read → tie.After-import-lines
 read c = c .before .before .before .before .before .before .before .before .before .before .before .before .before
@@ -35,22 +37,25 @@ with-end-requires c κs = tt
 is-read-requires : tie.Need-is-read-requires
 is-read-requires c κs = tt
 
+cast-n : tie.Need-cast-n
+cast-n c = search needs
+
 slice-reshare-prefix-put-roots : tie.Need-slice-reshare-prefix-put-roots
-slice-reshare-prefix-put-roots c = kept-long _ _ _ (read c .import-lines .kept .1 .1 .1 .1 .1 .1 .1 .1 .1 .1 .1 .1 .1 .1 .0) (start (read c) .pre .bounds .edges-long)
+slice-reshare-prefix-put-roots c = kept-long _ _ _ (read (c .before) .import-lines .kept .1 .1 .1 .1 .1 .1 .1 .1 .1 .1 .1 .0) (start (read (c .before)) .pre .bounds .edges-long)
 
 slice-aggregate-put-roots : tie.Need-slice-aggregate-put-roots
-slice-aggregate-put-roots c = sym (length-take-le _ _ (kept-long _ _ _ (read (c .before) .import-lines .kept .1 .1 .1 .1 .1 .1 .1 .1 .1 .1 .1 .1 .1 .1 .0) (start (read (c .before)) .pre .bounds .edges-long)))
+slice-aggregate-put-roots c = sym (length-take-le _ _ (kept-long _ _ _ (read (c .before .before) .import-lines .kept .1 .1 .1 .1 .1 .1 .1 .1 .1 .1 .1 .0) (start (read (c .before .before)) .pre .bounds .edges-long)))
 
 put-roots-requires : tie.Need-put-roots-requires
-put-roots-requires c κs = let s = start (read (c .before .before)) in front-edges (u s) (σ s) (s .args .f .now) (s .args .from) (s .pre .rules) (s .pre .levels-fit) _ _ (read (c .before .before) .import-lines .ensures .answer) (c .before .before .before .with-end .ensures) (c .before .before .is-read .ensures) (read (c .before .before) .import-lines .ensures .laid)
+put-roots-requires c κs = let s = start (read (c .before .before .before)) in front-edges (u s) (σ s) (s .args .f .now) (s .args .from) (s .pre .rules) (s .pre .levels-fit) _ _ (read (c .before .before .before) .import-lines .ensures .answer) (c .before .before .before .before .with-end .ensures) (c .before .before .before .is-read .ensures) (read (c .before .before .before) .import-lines .ensures .laid)
 
 staying-requires : tie.Need-staying-requires
 staying-requires c κs = tt
 
 take-back-requires : tie.Need-take-back-requires
 take-back-requires c κs =
-    let s = start (read (c .before .before .before .before .before .before .before .before .before .before .before)) in
-    let p = stay-settled (u s) (σ s) (s .args .f .now) (s .args .from) (s .pre .rules) (s .pre .levels-fit) (c .before .before .before .before .before .before .before .before .before .before .before .is-read .result) (read (c .before .before .before .before .before .before .before .before .before .before .before) .import-lines .ensures .store) (c .before .before .before .before .before .before .staying .ensures) in
+    let s = start (read (c .before .before .before .before .before .before .before .before .before .before .before .before)) in
+    let p = stay-settled (u s) (σ s) (s .args .f .now) (s .args .from) (s .pre .rules) (s .pre .levels-fit) (c .before .before .before .before .before .before .before .before .before .before .before .before .is-read .result) (read (c .before .before .before .before .before .before .before .before .before .before .before .before) .import-lines .ensures .store) (c .before .before .before .before .before .before .staying .ensures) in
     record { rules = p .0; some = p .1 .0; there = p .1 .1 }
 
 clear-edges-requires : tie.Need-clear-edges-requires
@@ -60,25 +65,25 @@ clear-seats-requires : tie.Need-clear-seats-requires
 clear-seats-requires c κs = tt
 
 same-length : tie.Need-same-length
-same-length c = c .before .before .before .before .before .before .before .before .before .before .before .before .before .before .before .take-back .kept .1 .1 .0 ∙ read (judged c) .import-lines .kept .1 .1 .1 .1 .1 .1 .1 .1 .1 .0
+same-length c = c .before .before .before .before .before .before .before .before .before .before .before .before .before .before .before .take-back .kept .1 .1 .0 ∙ read (judged c) .import-lines .kept .1 .1 .1 .1 .1 .1 .0
 
 same-length-2 : tie.Need-same-length-2
-same-length-2 c = c .before .before .before .before .before .before .before .before .before .before .before .before .before .before .before .take-back .kept .1 .1 .1 .0 ∙ read (judged c) .import-lines .kept .1 .1 .1 .1 .1 .1 .1 .1 .1 .1 .0
+same-length-2 c = c .before .before .before .before .before .before .before .before .before .before .before .before .before .before .before .take-back .kept .1 .1 .1 .0 ∙ read (judged c) .import-lines .kept .1 .1 .1 .1 .1 .1 .1 .0
 
 same-length-3 : tie.Need-same-length-3
-same-length-3 c = c .before .before .before .before .before .before .before .before .before .before .before .before .before .before .before .take-back .kept .1 .1 .1 .1 .0 ∙ read (judged c) .import-lines .kept .1 .1 .1 .1 .1 .1 .1 .1 .1 .1 .1 .0
+same-length-3 c = c .before .before .before .before .before .before .before .before .before .before .before .before .before .before .before .take-back .kept .1 .1 .1 .1 .0 ∙ read (judged c) .import-lines .kept .1 .1 .1 .1 .1 .1 .1 .1 .0
 
 same-length-4 : tie.Need-same-length-4
-same-length-4 c = c .before .before .before .before .before .before .before .before .before .before .before .before .before .before .before .take-back .kept .1 .1 .1 .1 .1 .0 ∙ read (judged c) .import-lines .kept .1 .1 .1 .1 .1 .1 .1 .1 .1 .1 .1 .1 .0
+same-length-4 c = c .before .before .before .before .before .before .before .before .before .before .before .before .before .before .before .take-back .kept .1 .1 .1 .1 .1 .0 ∙ read (judged c) .import-lines .kept .1 .1 .1 .1 .1 .1 .1 .1 .1 .0
 
 same-length-5 : tie.Need-same-length-5
-same-length-5 c = c .before .before .before .before .before .before .before .before .before .before .before .before .before .before .before .take-back .kept .1 .1 .1 .1 .1 .1 .0 ∙ read (judged c) .import-lines .kept .1 .1 .1 .1 .1 .1 .1 .1 .1 .1 .1 .1 .1 .0
+same-length-5 c = c .before .before .before .before .before .before .before .before .before .before .before .before .before .before .before .take-back .kept .1 .1 .1 .1 .1 .1 .0 ∙ read (judged c) .import-lines .kept .1 .1 .1 .1 .1 .1 .1 .1 .1 .1 .0
 
 same-length-6 : tie.Need-same-length-6
-same-length-6 c = c .before .before .before .before .before .clear-edges .kept .0 ∙ read (judged c) .import-lines .kept .1 .1 .1 .1 .1 .1 .1 .1 .1 .1 .1 .1 .1 .1 .0
+same-length-6 c = c .before .before .before .before .before .clear-edges .kept .0 ∙ read (judged c) .import-lines .kept .1 .1 .1 .1 .1 .1 .1 .1 .1 .1 .1 .0
 
 same-length-7 : tie.Need-same-length-7
-same-length-7 c = c .before .before .clear-seats .kept .0 ∙ read (judged c) .import-lines .kept .1 .1 .1 .1 .1 .1 .1 .1 .1 .1 .1 .1 .1 .1 .1 .0
+same-length-7 c = c .before .before .clear-seats .kept .0 ∙ read (judged c) .import-lines .kept .1 .1 .1 .1 .1 .1 .1 .1 .1 .1 .1 .1 .0
 
 same-length-8 : tie.Need-same-length-8
 same-length-8 c = c .before .before .before .before .before .before .before .before .before .before .before .before .before .before .before .before .before .before .before .before .before .before .before .before .put-roots .kept .1 .1 .0
@@ -96,9 +101,9 @@ returns c =
     (c .before .before .before .before .before .before .before .before .before .before .before .before .before .before .before .before .before .before .before .before .before .before .staying .ensures)
     (c .before .before .before .before .before .before .before .before .before .before .before .before .before .before .before .take-back .ensures .store)
     (c .before .before .before .before .before .clear-edges .ensures)
-    (read (judged c) .import-lines .kept .1 .1 .1 .1 .1 .1 .1 .1 .1 .1 .1 .1 .1 .1 .0)
+    (read (judged c) .import-lines .kept .1 .1 .1 .1 .1 .1 .1 .1 .1 .1 .1 .0)
     (c .before .before .clear-seats .ensures)
-    (read (judged c) .import-lines .kept .1 .1 .1 .1 .1 .1 .1 .1 .1 .1 .1 .1 .1 .1 .1 .0) in
+    (read (judged c) .import-lines .kept .1 .1 .1 .1 .1 .1 .1 .1 .1 .1 .1 .1 .0) in
     record { answer = p .0; store = p .1 .0; roots-left = p .1 .1 .0; edges-left = p .1 .1 .1 .0; seats-left = p .1 .1 .1 .1 }
 
 pub import-spec : {M : Type 1} → statement M
@@ -108,6 +113,7 @@ import-spec =
     import-lines-requires
     with-end-requires
     is-read-requires
+    cast-n
     slice-reshare-prefix-put-roots
     slice-aggregate-put-roots
     put-roots-requires

@@ -2,15 +2,14 @@
 ghost use mathlib.Core.Path.{_≡_};
 ghost use mathlib.Core.Bool.{true, _&&_};
 ghost use lib.Dec.{leb};
-ghost use lib.ListN.{length, replicate};
+ghost use lib.ListN.{replicate};
 ghost use Rattle.codes.specs.Limits.{varLimit};
-ghost use Rattle.store.specs.Store.{store};
+ghost use Rattle.store.specs.Lent.{old};
 ghost use Rattle.values.specs.Kinds.{ofPlace};
 ghost use Rattle.names.specs.Names.{fitPlace, listFits};
 ghost use Rattle.names.specs.Size.{exportSize};
-ghost use Rattle.export_header.specs.Tables.{lent};
-ghost use Rattle.exporter.specs.Export.{rootsFit, exportFault};
-ghost use Rattle.exporter.specs.Promise.{VarsIf};
+ghost use Rattle.exporter.specs.Export.{rootsFit};
+ghost use Rattle.exporter.specs.Promise.{FaultPromise};
 use codes::limits;
 use codes::refusal;
 use edges::Edge;
@@ -46,7 +45,7 @@ fn long_enough(
     numbers: usize,
     out: usize,
 ) -> bool
-    ensures { λ r. ⌜ r ≡ leb count slots && leb count numbers && leb (exportSize count levels roots (now (lens .entry)) (now (rootlens .entry)) (dd .len)) out ⌝ }
+    ensures { λ r. ⌜ r ≡ leb count slots && leb count numbers && leb (exportSize count levels roots (old lens) (old rootlens) (dd .len)) out ⌝ }
 {
     if slots < count as usize {
         return false;
@@ -68,7 +67,8 @@ fn names_fit(
     rootlens: &[u32],
     dd: Place,
 ) -> bool
-    ensures { λ r. ⌜ r ≡ listFits levels (now (bytes .entry)) (now (starts .entry)) (now (lens .entry)) && listFits roots (now (bytes .entry)) (now (rootstarts .entry)) (now (rootlens .entry)) && fitPlace true (now (bytes .entry)) (ofPlace dd) ⌝ }
+    ensures { λ r. ⌜ r ≡ listFits levels (old bytes) (old starts) (old lens)
+        && listFits roots (old bytes) (old rootstarts) (old rootlens) && fitPlace true (old bytes) (ofPlace dd) ⌝ }
 {
     if !names::text::list_fits(levels as usize, bytes, starts, lens) {
         return false;
@@ -102,8 +102,7 @@ pub fn export_fault(
     vars: &mut [u16],
 ) -> u8
     requires { ⌜ now vars ≡ replicate varLimit 0 ⌝ }
-    ensures { λ r. ⌜ r ≡ exportFault (store levels count (now (level .entry)) (now (then .entry)) (now (els .entry)) (now (next .entry)) (now (heads .entry))) (now (roots .entry)) (now (order .entry)) (lent (now (bytes .entry)) (now (starts .entry)) (now (lens .entry)) (now (rootstarts .entry)) (now (rootlens .entry)) (ofPlace dd)) slots numbers out ⌝ }
-    ensures { λ r. ⌜ VarsIf r (now (order .entry)) (now (vars .exit)) ⌝ }
+    ensures { λ r. ⌜ FaultPromise levels count level then els next heads roots order bytes starts lens rootstarts rootlens dd slots numbers out vars r ⌝ }
 {
     if !long_enough(
         levels,

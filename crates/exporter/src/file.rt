@@ -1,16 +1,5 @@
 // The file of an export.
-ghost use mathlib.Core.Path.{_≡_};
-ghost use Prim.Native.Nat.{_≤_};
-ghost use lib.ListN.{length, replicate};
-ghost use Rattle.codes.specs.Lent.{laid};
-ghost use Rattle.checks.specs.Seats.{Seats};
-ghost use Rattle.store.specs.Store.{store};
-ghost use Rattle.numbering.specs.Reached.{bare};
-ghost use Rattle.numbering.specs.Numbering.{numbering};
-ghost use Rattle.values.specs.Kinds.{ofPlace};
-ghost use Rattle.export_header.specs.Tables.{lent};
-ghost use Rattle.exporter.specs.Settings.{settings};
-ghost use Rattle.exporter.specs.Export.{exportFault, fileOf};
+ghost use Rattle.exporter.specs.Promise.{FileAsks, FilePromise};
 use codes::DDDMPVersion;
 use codes::limits::VAR_LIMIT;
 use edges::Edge;
@@ -42,11 +31,8 @@ pub fn write_file(
     numbers: &mut [Index],
     out: &mut [u8],
 ) -> usize
-    requires { ⌜ exportFault (store levels count (now level) (now then) (now els) (now next) (now heads)) (now roots) (now order) (lent (now bytes) (now starts) (now lens) (now rootstarts) (now rootlens) (ofPlace dd)) (length (now slots)) (length (now numbers)) (length (now out)) ≡ 0 ⌝ }
-    requires { ⌜ Seats (now order) (now vars) × (length (now order) ≤ length (now vars)) ⌝ }
-    requires { ⌜ (now slots ≡ replicate (length (now slots)) 0) × (now numbers ≡ replicate (length (now numbers)) 0) × (now out ≡ replicate (length (now out)) 0) ⌝ }
-    ensures { λ r. ⌜ r ≡ length (fileOf (settings version ascii (ofPlace dd)) (store levels count (now (level .entry)) (now (then .entry)) (now (els .entry)) (now (next .entry)) (now (heads .entry))) (now (roots .entry)) (now (order .entry)) (lent (now (bytes .entry)) (now (starts .entry)) (now (lens .entry)) (now (rootstarts .entry)) (now (rootlens .entry)) (ofPlace dd)) (numbering (bare (store levels count (now (level .entry)) (now (then .entry)) (now (els .entry)) (now (next .entry)) (now (heads .entry)))) (now (roots .entry)))) ⌝ }
-    ensures { λ _. ⌜ now (out .exit) ≡ laid (fileOf (settings version ascii (ofPlace dd)) (store levels count (now (level .entry)) (now (then .entry)) (now (els .entry)) (now (next .entry)) (now (heads .entry))) (now (roots .entry)) (now (order .entry)) (lent (now (bytes .entry)) (now (starts .entry)) (now (lens .entry)) (now (rootstarts .entry)) (now (rootlens .entry)) (ofPlace dd)) (numbering (bare (store levels count (now (level .entry)) (now (then .entry)) (now (els .entry)) (now (next .entry)) (now (heads .entry)))) (now (roots .entry)))) (replicate (length (now (out .entry))) 0) ⌝ }
+    requires { ⌜ FileAsks dd levels count level then els next heads roots order vars bytes starts lens rootstarts rootlens slots numbers out ⌝ }
+    ensures { λ r. ⌜ FilePromise version ascii dd levels count level then els next heads roots order bytes starts lens rootstarts rootlens out r ⌝ }
 {
     let nnodes = numbering::order::number_nodes(
         levels,

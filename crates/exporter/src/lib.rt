@@ -1,13 +1,9 @@
 // Exports of diagrams to DDDMP files.
 ghost use mathlib.Core.Path.{_≡_};
 ghost use mathlib.Core.Bool.{true, false};
-ghost use lib.ListN.{length, replicate};
 ghost use Rattle.readers.specs.Text.{place};
-ghost use Rattle.store.specs.Store.{store};
-ghost use Rattle.export_header.specs.Tables.{lent};
 ghost use Rattle.exporter.specs.Settings.{settings, defaults, ofSettings};
-ghost use Rattle.exporter.specs.Export.{exportFault};
-ghost use Rattle.exporter.specs.Promise.{Exports};
+ghost use Rattle.exporter.specs.Promise.{ExportPromise};
 use codes::DDDMPVersion;
 use codes::limits::VAR_LIMIT;
 use edges::Edge;
@@ -124,9 +120,7 @@ impl ExportSettings {
         numbers: &mut [Index],
         out: &mut [u8],
     ) -> Exported
-        ensures { λ r. ⌜ Exports (exportFault (store levels count (now (level .entry)) (now (then .entry)) (now (els .entry)) (now (next .entry)) (now (heads .entry))) (now (roots .entry)) (now (order .entry)) (lent (now (bytes .entry)) (now (starts .entry)) (now (lens .entry)) (now (rootstarts .entry)) (now (rootlens .entry)) (ofSettings self .dd)) (length (now (slots .entry))) (length (now (numbers .entry))) (length (now (out .entry)))) (ofSettings self) (store levels count (now (level .entry)) (now (then .entry)) (now (els .entry)) (now (next .entry)) (now (heads .entry))) (now (roots .entry)) (now (order .entry)) (lent (now (bytes .entry)) (now (starts .entry)) (now (lens .entry)) (now (rootstarts .entry)) (now (rootlens .entry)) (ofSettings self .dd)) (length (now (out .entry))) r (now (out .exit)) ⌝ }
-        ensures { λ _. ⌜ now (slots .exit) ≡ replicate (length (now (slots .entry))) 0 ⌝ }
-        ensures { λ _. ⌜ now (numbers .exit) ≡ replicate (length (now (numbers .entry))) 0 ⌝ }
+        ensures { λ r. ⌜ ExportPromise self levels count level then els next heads roots order bytes starts lens rootstarts rootlens slots numbers out r ⌝ }
     {
         let dd = self.dd;
         let version = self.version;

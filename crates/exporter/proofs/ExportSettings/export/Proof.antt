@@ -72,7 +72,7 @@ refusal-is : (f : tie.After-export-fault)
     → f .export-fault .result
     ≡ fault (origin f) (length (slots (numbers (out f)) .clear-marks .last .0)) (length (numbers (out f) .clear-marks2 .last .0))
     (length (out f .clear-bytes .last .0))
-refusal-is f = f .export-fault .ensures .0
+refusal-is f = f .export-fault .ensures .answer
 
 -- there is none where the file is written
 none : (w : tie.After-write-file) → tested w .export-fault .result ≡ 0
@@ -90,7 +90,7 @@ wrote : (w : tie.After-write-file)
 wrote w =
     promised-file (σ (origin (tested w))) (origin (tested w) .args .roots .now) (origin (tested w) .args .order .now) (names (origin (tested w)))
     (slots-kept (tested w)) (numbers-kept (tested w)) (out-kept (tested w)) (refusal-is (tested w)) (none w) (ofSettings (origin (tested w) .args .self))
-    (w .write-file .ensures .0) (w .write-file .ensures .1)
+    (w .write-file .ensures .answer) (w .write-file .ensures .out-left)
 
 -- the marks are as long as they were once the file is written, and once they are cleared again
 slots-stay : (w : tie.After-write-file)
@@ -126,29 +126,30 @@ same-length-3 : tie.Need-same-length-3
 same-length-3 c = out-kept (c .before .before)
 
 returns : tie.Need-returns
-returns c = (
-  refused (c .before .before) (c .if1 .taken),
-  (slots (numbers (out (c .before .before))) .clear-marks .ensures, numbers (out (c .before .before)) .clear-marks2 .ensures),
-)
+returns c = record {
+  file = refused (c .before .before) (c .if1 .taken);
+  slots-left = slots (numbers (out (c .before .before))) .clear-marks .ensures;
+  numbers-left = numbers (out (c .before .before)) .clear-marks2 .ensures;
+}
 
 slice-aggregate-write-file : tie.Need-slice-aggregate-write-file
 slice-aggregate-write-file c = sym (c .before .before .before .export-fault .kept .1 .1 .1 .1 .1 .1 .1 .1 .1 .1 .1 .1 .1 .1 .1 .1 .1 .1 .0)
 
 write-file-requires : tie.Need-write-file-requires
 write-file-requires c κs =
-    let f = c .before .before .before .before .before .before in (
-      sym (refusal-is f) ∙ c .before .before .before .before .if1 .left,
-      (
-        vars-filled (σ (origin f)) (origin f .args .roots .now) (origin f .args .order .now) (names (origin f)) (slots-kept f) (numbers-kept f) (out-kept f)
-            (refusal-is f) (c .before .before .before .before .if1 .left) (f .export-fault .last .1 .1 .1 .1 .1 .1 .1 .1 .1 .1 .1 .1 .1 .1 .1 .1 .1 .1 .0) (f .export-fault .ensures .1)
-            (f .export-fault .kept .1 .1 .1 .1 .1 .1 .1 .1 .1 .1 .1 .1 .1 .1 .1 .1 .1 .1 .0),
-        (
-          own-zeros (slots-kept f) (slots (numbers (out f)) .clear-marks .ensures),
-          own-zeros (numbers-kept f) (numbers (out f) .clear-marks2 .ensures),
-          own-zeros (out-kept f) (out f .clear-bytes .ensures),
-        ),
-      ),
-    )
+    let f = c .before .before .before .before .before .before in
+    let v =
+    vars-filled (σ (origin f)) (origin f .args .roots .now) (origin f .args .order .now) (names (origin f)) (slots-kept f) (numbers-kept f) (out-kept f)
+    (refusal-is f) (c .before .before .before .before .if1 .left) (f .export-fault .last .1 .1 .1 .1 .1 .1 .1 .1 .1 .1 .1 .1 .1 .1 .1 .1 .1 .1 .0) (f .export-fault .ensures .vars-left)
+    (f .export-fault .kept .1 .1 .1 .1 .1 .1 .1 .1 .1 .1 .1 .1 .1 .1 .1 .1 .1 .1 .0) in
+    record {
+      taken = sym (refusal-is f) ∙ c .before .before .before .before .if1 .left;
+      seats = v .0;
+      vars-long = v .1;
+      slots-clear = own-zeros (slots-kept f) (slots (numbers (out f)) .clear-marks .ensures);
+      numbers-clear = own-zeros (numbers-kept f) (numbers (out f) .clear-marks2 .ensures);
+      out-clear = own-zeros (out-kept f) (out f .clear-bytes .ensures);
+    }
 
 clear-marks-requires-3 : tie.Need-clear-marks-requires-3
 clear-marks-requires-3 c κs = tt
@@ -168,13 +169,11 @@ same-length-6 c =
     ∙ out-kept (tested (written (again (c .before .before))))
 
 returns-2 : tie.Need-returns-2
-returns-2 c = (
-  wrote (written (again (c .before .before))),
-  (
-    again (c .before .before) .clear-marks3 .ensures ∙ ap (λ n. replicate n 0) (slots-stay (written (again (c .before .before)))),
-    c .before .before .clear-marks4 .ensures ∙ ap (λ n. replicate n 0) (numbers-stay (written (again (c .before .before)))),
-  ),
-)
+returns-2 c = record {
+  file = wrote (written (again (c .before .before)));
+  slots-left = again (c .before .before) .clear-marks3 .ensures ∙ ap (λ n. replicate n 0) (slots-stay (written (again (c .before .before))));
+  numbers-left = c .before .before .clear-marks4 .ensures ∙ ap (λ n. replicate n 0) (numbers-stay (written (again (c .before .before))));
+}
 
 pub export-spec : {M : Type 1} → statement M
 export-spec =

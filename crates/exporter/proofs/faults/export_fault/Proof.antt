@@ -69,23 +69,23 @@ long-enough-requires c κs = search needs
 
 returns : tie.Need-returns
 unfolding enough
-returns c = (refused-short _ _ _ _ _ _ _ (failed (c .before .long-enough .ensures) (c .if1 .taken)), tt)
+returns c = record { answer = refused-short _ _ _ _ _ _ _ (failed (c .before .long-enough .ensures) (c .if1 .taken)); vars-left = tt }
 
 keeps-rules-requires : tie.Need-keeps-rules-requires
 keeps-rules-requires c κs = search needs
 
 returns-2 : tie.Need-returns-2
-returns-2 c = (refused-store _ _ _ _ _ _ _ (long (c .before .before)) (failed (c .before .keeps-rules .ensures) (c .if2 .taken)), tt)
+returns-2 c = record { answer = refused-store _ _ _ _ _ _ _ (long (c .before .before)) (failed (c .before .keeps-rules .ensures) (c .if2 .taken)); vars-left = tt }
 
 roots-fit-requires : tie.Need-roots-fit-requires
 roots-fit-requires c κs = search needs
 
 returns-3 : tie.Need-returns-3
-returns-3 c = (
-  refused-root _ _ _ _ _ _ _ (long (first (c .before .before))) (kept (c .before .before))
-      (failed (c .before .roots-fit .ensures) (c .if3 .taken)),
-  tt,
-)
+returns-3 c = record {
+  answer = refused-root _ _ _ _ _ _ _ (long (first (c .before .before))) (kept (c .before .before))
+      (failed (c .before .roots-fit .ensures) (c .if3 .taken));
+  vars-left = tt;
+}
 
 is-order-requires : tie.Need-is-order-requires
 is-order-requires c κs = vars-long _ _ (kept (second (c .before))) (start (first (second (c .before))) .pre)
@@ -94,12 +94,12 @@ same-length : tie.Need-same-length
 same-length c = c .before .before .before .is-order .kept .1 .1 .0
 
 returns-4 : tie.Need-returns-4
-returns-4 c = (
-  refused-order _ _ _ _ _ _ _ (long (first (second (c .before .before .before .before .before)))) (kept (second (c .before .before .before .before .before)))
+returns-4 c = record {
+  answer = refused-order _ _ _ _ _ _ _ (long (first (second (c .before .before .before .before .before)))) (kept (second (c .before .before .before .before .before)))
       (rooted (c .before .before .before .before .before))
-      (failed (c .before .before .before .is-order .ensures .0) (c .if4 .taken)),
-  tt,
-)
+      (failed (c .before .before .before .is-order .ensures .0) (c .if4 .taken));
+  vars-left = tt;
+}
 
 names-fit-requires : tie.Need-names-fit-requires
 names-fit-requires c κs = search needs
@@ -108,22 +108,22 @@ same-length-2 : tie.Need-same-length-2
 same-length-2 c = c .before .before .before .before .before .is-order .kept .1 .1 .0
 
 returns-5 : tie.Need-returns-5
-returns-5 c = (
-  refused-name _ _ _ _ _ _ _ (long (first (second (third (c .before .before))))) (kept (second (third (c .before .before))))
-      (rooted (third (c .before .before))) (ordered (c .before .before)) (unnamed c),
-  tt,
-)
+returns-5 c = record {
+  answer = refused-name _ _ _ _ _ _ _ (long (first (second (third (c .before .before))))) (kept (second (third (c .before .before))))
+      (rooted (third (c .before .before))) (ordered (c .before .before)) (unnamed c);
+  vars-left = tt;
+}
 
 same-length-3 : tie.Need-same-length-3
 same-length-3 c = c .before .before .before .before .before .is-order .kept .1 .1 .0
 
 returns-6 : tie.Need-returns-6
-returns-6 c = (
-  refused-none _ _ _ _ _ _ _ (long (first (second (third (c .before .before))))) (kept (second (third (c .before .before))))
-      (rooted (third (c .before .before))) (ordered (c .before .before)) (named c),
-  seats-there (c .before .before .before .before .before .is-order .result) _ _ (c .before .before .if4 .left)
-      (c .before .before .before .before .before .is-order .ensures .1),
-)
+returns-6 c = record {
+  answer = refused-none _ _ _ _ _ _ _ (long (first (second (third (c .before .before))))) (kept (second (third (c .before .before))))
+      (rooted (third (c .before .before))) (ordered (c .before .before)) (named c);
+  vars-left = seats-there (c .before .before .before .before .before .is-order .result) _ _ (c .before .before .if4 .left)
+      (c .before .before .before .before .before .is-order .ensures .1);
+}
 
 pub export-fault-spec : {M : Type 1} → statement M
 export-fault-spec =

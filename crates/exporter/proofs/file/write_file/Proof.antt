@@ -48,7 +48,7 @@ file s = fileOf (chosen s) (σ s) (s .args .roots .now) (s .args .order .now) (n
 taken : (s : tie.Start)
     → Accepted (σ s) (s .args .roots .now) (s .args .order .now) (names s) (length (s .args .slots .now)) (length (s .args .numbers .now))
     (length (s .args .out .now))
-taken s = accepted _ _ _ _ _ _ _ (s .pre .0)
+taken s = accepted _ _ _ _ _ _ _ (s .pre .taken)
 
 -- the way back, from after a call to after the one before it, and to the start
 abbrev start : tie.After-number-nodes → tie.Start
@@ -119,14 +119,14 @@ file-is e =
     file-written (chosen (origin (seated (headed (bodied e))))) (taken (origin (seated (headed (bodied e)))))
     (exported (taken (origin (seated (headed (bodied e))))))
     (header-is (seated (headed (bodied e)))) (lines-are (seated (headed (bodied e)))) (headed (bodied e) .write-header .ensures)
-    (bodied e .write-nodes .ensures) (e .put-bytes .ensures) (origin (seated (headed (bodied e))) .pre .1 .1 .2)
+    (bodied e .write-nodes .ensures) (e .put-bytes .ensures) (origin (seated (headed (bodied e))) .pre .out-clear)
 
 number-nodes-requires : tie.Need-number-nodes-requires
 number-nodes-requires c κs = (
   bare-walkable (taken (c .before .before .before .before .before .before .before .before .before .before .before .before .before .before .before)),
   (
-    c .before .before .before .before .before .before .before .before .before .before .before .before .before .before .before .pre .1 .1 .0,
-    c .before .before .before .before .before .before .before .before .before .before .before .before .before .before .before .pre .1 .1 .1,
+    c .before .before .before .before .before .before .before .before .before .before .before .before .before .before .before .pre .slots-clear,
+    c .before .before .before .before .before .before .before .before .before .before .before .before .before .before .before .pre .numbers-clear,
   ),
 )
 
@@ -157,7 +157,7 @@ write-header-requires : tie.Need-write-header-requires
 write-header-requires c κs =
     let d = c .before .before .before .before in (
       (
-        ordered (taken (origin d)) (origin d .args .vars .now) (seats d) (origin d .pre .1 .0 .1) (origin d .pre .1 .0 .0) (tables d .seats-long),
+        ordered (taken (origin d)) (origin d .args .vars .now) (seats d) (origin d .pre .vars-long) (origin d .pre .seats) (tables d .seats-long),
         rooted (taken (origin d)) (tables d),
       ),
       (
@@ -207,7 +207,7 @@ same-length-3 : tie.Need-same-length-3
 same-length-3 c = c .before .before .put-bytes .kept .0 ∙ out-kept (c .before .before .before .before .before .before .before)
 
 returns : tie.Need-returns
-returns c = file-is (c .before .before)
+returns c = let p = file-is (c .before .before) in record { answer = p .0; out-left = p .1 }
 
 pub write-file-spec : {M : Type 1} → statement M
 write-file-spec =

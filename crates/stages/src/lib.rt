@@ -5,14 +5,14 @@ ghost use mathlib.Core.Path.{_≡_};
 ghost use mathlib.Core.Bool.{not};
 ghost use mathlib.Core.List.{[], _∷_};
 ghost use lib.Dec.{eqb};
-ghost use lib.IntN.{pos};
-ghost use lib.ListN.{length, replicate};
-ghost use Rattle.store.specs.Store.{store};
+ghost use lib.ListN.{length};
+ghost use Rattle.store.specs.Lent.{storeNow, oldStore};
 ghost use Rattle.values.specs.Kinds.{ofVarInfo};
 ghost use Rattle.header.specs.Header.{listsFault};
 ghost use Rattle.header.specs.Kinds.{ofHeader, ofLoaded};
 ghost use Rattle.import.specs.Kinds.{ofImported};
-ghost use Rattle.stages.specs.Stages.{storeAfter, scratched, listed, Readable, withNodes, nodesAfter, isRefusal, clearedIf};
+ghost use Rattle.stages.specs.Stages.{storeAfter, scratched, listed, Readable, withNodes, isRefusal, clearedIf};
+ghost use Rattle.stages.specs.Promises.{LoadNodesPromise};
 use codes::VarInfo;
 use codes::refusal;
 use edges::Edge;
@@ -20,6 +20,7 @@ use edges::Index;
 use header::load::DumpHeader;
 use header::load::Loaded;
 use import::Imported;
+use import::Setup;
 
 // The lent lists, by their lengths: 1 where one is too short, else 0.
 pub fn lists_fault(
@@ -52,7 +53,7 @@ pub fn store_fault(
     next: &[Index],
     heads: &[Index],
 ) -> u8
-    ensures { λ r. ⌜ r ≡ storeAfter found (store levels count (now (level .entry)) (now (then .entry)) (now (els .entry)) (now (next .entry)) (now (heads .entry))) ⌝ }
+    ensures { λ r. ⌜ r ≡ storeAfter found (oldStore levels count level then els next heads) ⌝ }
 {
     if found != 0 {
         return found;
@@ -135,23 +136,23 @@ pub fn load_nodes(
     edges: &mut [Edge],
     seats: &mut [u16],
 ) -> Loaded
-    requires { ⌜ Readable (ofLoaded ready) (store levels (now count) (now level) (now then) (now els) (now next) (now heads)) (now list) (length (now edges)) (length (now seats)) ⌝ }
-    ensures { λ r. ⌜ ofLoaded r ≡ nodesAfter (ofLoaded ready) (store levels (now (count .entry)) (now (level .entry)) (now (then .entry)) (now (els .entry)) (now (next .entry)) (now (heads .entry))) (now (f .entry)) (now (list .entry)) (now (roots .entry)) .answer ⌝ }
-    ensures { λ _. ⌜ store levels (now (count .exit)) (now (level .exit)) (now (then .exit)) (now (els .exit)) (now (next .exit)) (now (heads .exit)) ≡ nodesAfter (ofLoaded ready) (store levels (now (count .entry)) (now (level .entry)) (now (then .entry)) (now (els .entry)) (now (next .entry)) (now (heads .entry))) (now (f .entry)) (now (list .entry)) (now (roots .entry)) .after ⌝ }
-    ensures { λ _. ⌜ now (roots .exit) ≡ nodesAfter (ofLoaded ready) (store levels (now (count .entry)) (now (level .entry)) (now (then .entry)) (now (els .entry)) (now (next .entry)) (now (heads .entry))) (now (f .entry)) (now (list .entry)) (now (roots .entry)) .roots ⌝ }
-    ensures { λ _. ⌜ now (edges .exit) ≡ replicate (length (now (edges .entry))) (pos 0) ⌝ }
-    ensures { λ _. ⌜ now (seats .exit) ≡ replicate (length (now (seats .entry))) 0 ⌝ }
+    requires { ⌜ Readable (ofLoaded ready) (storeNow levels (now count) level then els next heads) (now list) (length (now edges)) (length (now seats)) ⌝ }
+    ensures { λ r. ⌜ LoadNodesPromise ready f levels list count level then els next heads roots edges seats r ⌝ }
 {
     match ready {
         Loaded::Header(h) => {
             let varinfo = h.varinfo;
+            let nnodes = h.nnodes as Index;
+            let setup = Setup {
+                ascii: h.ascii,
+                extra: has_extra(varinfo),
+                nnodes: nnodes,
+                lines: h.lines,
+            };
             let nodes = import::import(
                 f,
                 h.next,
-                h.ascii,
-                has_extra(varinfo),
-                h.nnodes as Index,
-                h.lines,
+                setup,
                 list,
                 levels,
                 count,

@@ -18,7 +18,7 @@ abbrev imported : tie.After-with-nodes → tie.After-import
 imported c = c .before .before .before .before .before .before .before .before .before .before .before .before .before
 
 abbrev asked : tie.After-import-arg9 → tie.After-has-extra
-asked c = c .before .before .before .before .before .before .before .before .before .before
+asked c = c .before .before .before .before .before .before .before .before .before
 
 abbrev start : tie.After-ready → tie.Start
 start c = c .before .before .before .before .before .before .before .before
@@ -30,20 +30,20 @@ refused c = c .before .before .before .before .before .before .before .before .b
 enum-known-ready : tie.Need-enum-known-ready
 enum-known-ready c = search needs
 
+cast-nnodes : tie.Need-cast-nnodes
+cast-nnodes c =
+    let k = few-nodes _ _ _ _ (c .before .before .ready .given .1) _ _ (start (c .before .before) .pre) in
+    record { fits = omega (arith, k) }
+
 has-extra-requires : tie.Need-has-extra-requires
 has-extra-requires c κs = tt
-
-cast-import : tie.Need-cast-import
-cast-import c =
-    let e = c .before in
-    let k = few-nodes _ _ _ _ (e .before .before .ready .given .1) _ _ (start (e .before .before) .pre) in
-    record { fits = omega (arith, k) }
 
 import-requires : tie.Need-import-requires
 import-requires c κs =
     let e = asked c in
-    let s = start (e .before .before) in
-    import-may (s .args .ready) (σ s) (s .args .list .now) _ (e .before .before .ready .given .1) _ _ (s .pre) (e .has-extra .ensures)
+    let s = start (e .before .before .before) in
+    let p = import-may (s .args .ready) (σ s) (s .args .list .now) _ (e .before .before .before .ready .given .1) _ _ (s .pre) (e .has-extra .ensures) in
+    record { rules = p .0; levels-fit = p .1 .0; bounds = p .1 .1 }
 
 with-nodes-requires : tie.Need-with-nodes-requires
 with-nodes-requires c κs = tt
@@ -61,39 +61,43 @@ clear-seats-requires : tie.Need-clear-seats-requires
 clear-seats-requires c κs = tt
 
 same-length : tie.Need-same-length
-same-length c = imported c .import .kept .1 .1 .1 .1 .1 .1 .1 .1 .1 .0
+same-length c = imported c .import .kept .1 .1 .1 .1 .1 .1 .0
 
 same-length-2 : tie.Need-same-length-2
-same-length-2 c = imported c .import .kept .1 .1 .1 .1 .1 .1 .1 .1 .1 .1 .0
+same-length-2 c = imported c .import .kept .1 .1 .1 .1 .1 .1 .1 .0
 
 same-length-3 : tie.Need-same-length-3
-same-length-3 c = imported c .import .kept .1 .1 .1 .1 .1 .1 .1 .1 .1 .1 .1 .0
+same-length-3 c = imported c .import .kept .1 .1 .1 .1 .1 .1 .1 .1 .0
 
 same-length-4 : tie.Need-same-length-4
-same-length-4 c = imported c .import .kept .1 .1 .1 .1 .1 .1 .1 .1 .1 .1 .1 .1 .0
+same-length-4 c = imported c .import .kept .1 .1 .1 .1 .1 .1 .1 .1 .1 .0
 
 same-length-5 : tie.Need-same-length-5
-same-length-5 c = imported c .import .kept .1 .1 .1 .1 .1 .1 .1 .1 .1 .1 .1 .1 .1 .0
+same-length-5 c = imported c .import .kept .1 .1 .1 .1 .1 .1 .1 .1 .1 .1 .0
 
 same-length-6 : tie.Need-same-length-6
-same-length-6 c = imported c .import .kept .1 .1 .1 .1 .1 .1 .1 .1 .1 .1 .1 .1 .1 .1 .1 .1 .0
+same-length-6 c = imported c .import .kept .1 .1 .1 .1 .1 .1 .1 .1 .1 .1 .1 .1 .1 .0
 
 same-length-7 : tie.Need-same-length-7
-same-length-7 c = imported c .import .kept .1 .1 .1 .1 .1 .1 .1 .1 .1 .1 .1 .1 .1 .1 .0
+same-length-7 c = imported c .import .kept .1 .1 .1 .1 .1 .1 .1 .1 .1 .1 .1 .0
 
 same-length-8 : tie.Need-same-length-8
-same-length-8 c = imported c .import .kept .1 .1 .1 .1 .1 .1 .1 .1 .1 .1 .1 .1 .1 .1 .1 .0
+same-length-8 c = imported c .import .kept .1 .1 .1 .1 .1 .1 .1 .1 .1 .1 .1 .1 .0
 
 returns : tie.Need-returns
 returns c =
     let i = imported c .import .ensures in
     let q = asked (imported c .before) in
-    let s = start (q .before .before) in
+    let s = start (q .before .before .before) in
     let a = s .args in
-    let e = nodes-noded (a .ready) (σ s) (a .list .now) _ (q .before .before .ready .given .1) (q .has-extra .ensures) (a .f .now) (a .roots .now) in (
-      c .with-nodes .ensures ∙ ap (withNodes _) (i .0) ∙ ap (λ n. n .answer) e,
-      (i .1 .0 ∙ ap (λ n. n .after) e, (i .1 .1 .0 ∙ ap (λ n. n .roots) e, i .1 .1 .1)),
-    )
+    let e = nodes-noded (a .ready) (σ s) (a .list .now) _ (q .before .before .before .ready .given .1) (q .has-extra .ensures) (a .f .now) (a .roots .now) in
+    record {
+      answer = c .with-nodes .ensures ∙ ap (withNodes _) (i .answer) ∙ ap (λ n. n .answer) e;
+      store = i .store ∙ ap (λ n. n .after) e;
+      roots-left = i .roots-left ∙ ap (λ n. n .roots) e;
+      edges-left = i .edges-left;
+      seats-left = i .seats-left;
+    }
 
 same-length-9 : tie.Need-same-length-9
 same-length-9 c = c .before .before .before .before .before .before .before .before .clear-edges .kept .0
@@ -109,24 +113,22 @@ returns-2 c =
     let m = refused c in
     let s = m .before .before .before .before .before .before .before .before in
     let a = s .args in
-    let e = nodes-none (a .ready) (σ s) (a .list .now) _ _ (m .ready2 .given .1) (a .f .now) (a .roots .now) in (
-      ap (λ n. n .answer) e,
-      (
-        ap (λ n. n .after) e,
-        (
-          c .before .before .before .before .before .before .before .before .clear-edges .ensures ∙ ap (λ n. n .roots) e,
-          (c .before .before .before .before .before .clear-edges2 .ensures, c .before .before .clear-seats .ensures),
-        ),
-      ),
-    )
+    let e = nodes-none (a .ready) (σ s) (a .list .now) _ _ (m .ready2 .given .1) (a .f .now) (a .roots .now) in
+    record {
+      answer = ap (λ n. n .answer) e;
+      store = ap (λ n. n .after) e;
+      roots-left = c .before .before .before .before .before .before .before .before .clear-edges .ensures ∙ ap (λ n. n .roots) e;
+      edges-left = c .before .before .before .before .before .clear-edges2 .ensures;
+      seats-left = c .before .before .clear-seats .ensures;
+    }
 
 pub load-nodes-spec : {M : Type 1} → statement M
 load-nodes-spec =
     tie.close
     (tie.spec
     enum-known-ready
+    cast-nnodes
     has-extra-requires
-    cast-import
     import-requires
     with-nodes-requires
     enum-known-ready-2

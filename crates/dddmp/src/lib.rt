@@ -1,13 +1,5 @@
 // The public calls: load, evaluate and export, on one store.
-ghost use mathlib.Core.Path.{_≡_};
-ghost use lib.ListN.{length, replicate};
-ghost use Rattle.store.specs.Store.{store};
-ghost use Rattle.evaluation.specs.Evaluated.{ofEvaluation};
-ghost use Rattle.header.specs.Kinds.{ofLoaded};
-ghost use Rattle.export_header.specs.Tables.{lent};
-ghost use Rattle.exporter.specs.Settings.{ofSettings};
-ghost use Rattle.calls.specs.Load.{parts, lengthsOf, loadInto, partsOf, loadOf};
-ghost use Rattle.calls.specs.Calls.{evaluateOf, exportInto, Exports};
+ghost use Rattle.dddmp.specs.Promises.{LoadPromise, EvaluatePromise, ExportPromise};
 use edges::Edge;
 use edges::Index;
 use evaluation::Evaluation;
@@ -41,9 +33,7 @@ pub fn load(
     edges: &mut [Edge],
     seats: &mut [u16],
 ) -> Loaded
-    ensures { λ r. ⌜ ofLoaded r ≡ loadOf (loadInto (now (f .entry)) (now (list .entry)) (parts (now (ids .entry)) (now (order .entry)) (now (permids .entry)) (now (auxids .entry)) (now (names .entry)) (now (lens .entry)) (now (roots .entry)) (now (rootnames .entry)) (now (rootlens .entry)) (now (edges .entry)) (now (seats .entry)))) (store levels (now (count .entry)) (now (level .entry)) (now (then .entry)) (now (els .entry)) (now (next .entry)) (now (heads .entry))) .answer ⌝ }
-    ensures { λ _. ⌜ (store levels (now (count .exit)) (now (level .exit)) (now (then .exit)) (now (els .exit)) (now (next .exit)) (now (heads .exit))) ≡ loadOf (loadInto (now (f .entry)) (now (list .entry)) (parts (now (ids .entry)) (now (order .entry)) (now (permids .entry)) (now (auxids .entry)) (now (names .entry)) (now (lens .entry)) (now (roots .entry)) (now (rootnames .entry)) (now (rootlens .entry)) (now (edges .entry)) (now (seats .entry)))) (store levels (now (count .entry)) (now (level .entry)) (now (then .entry)) (now (els .entry)) (now (next .entry)) (now (heads .entry))) .after ⌝ }
-    ensures { λ _. ⌜ (parts (now (ids .exit)) (now (order .exit)) (now (permids .exit)) (now (auxids .exit)) (now (names .exit)) (now (lens .exit)) (now (roots .exit)) (now (rootnames .exit)) (now (rootlens .exit)) (now (edges .exit)) (now (seats .exit))) ≡ partsOf (lengthsOf (parts (now (ids .entry)) (now (order .entry)) (now (permids .entry)) (now (auxids .entry)) (now (names .entry)) (now (lens .entry)) (now (roots .entry)) (now (rootnames .entry)) (now (rootlens .entry)) (now (edges .entry)) (now (seats .entry)))) (loadOf (loadInto (now (f .entry)) (now (list .entry)) (parts (now (ids .entry)) (now (order .entry)) (now (permids .entry)) (now (auxids .entry)) (now (names .entry)) (now (lens .entry)) (now (roots .entry)) (now (rootnames .entry)) (now (rootlens .entry)) (now (edges .entry)) (now (seats .entry)))) (store levels (now (count .entry)) (now (level .entry)) (now (then .entry)) (now (els .entry)) (now (next .entry)) (now (heads .entry)))) ⌝ }
+    ensures { λ r. ⌜ LoadPromise f list levels count level then els next heads ids order permids auxids names lens roots rootnames rootlens edges seats r ⌝ }
 {
     let lists = stages::lists_fault(
         ids.len(),
@@ -114,7 +104,7 @@ pub fn evaluate(
     root: Edge,
     setting: &[u8],
 ) -> Evaluation
-    ensures { λ r. ⌜ ofEvaluation r ≡ evaluateOf root (now (setting .entry)) (store levels count (now (level .entry)) (now (then .entry)) (now (els .entry)) (now (next .entry)) (now (heads .entry))) ⌝ }
+    ensures { λ r. ⌜ EvaluatePromise levels count level then els next heads root setting r ⌝ }
 {
     evaluation::evaluate(levels, count, level, then, els, next, heads, root, setting)
 }
@@ -141,9 +131,7 @@ pub fn export(
     numbers: &mut [Index],
     out: &mut [u8],
 ) -> Exported
-    ensures { λ r. ⌜ Exports (exportInto (ofSettings settings) (now (roots .entry)) (now (order .entry)) (lent (now (bytes .entry)) (now (starts .entry)) (now (lens .entry)) (now (rootstarts .entry)) (now (rootlens .entry)) (ofSettings settings .dd)) (length (now (slots .entry))) (length (now (numbers .entry))) (length (now (out .entry)))) (store levels count (now (level .entry)) (now (then .entry)) (now (els .entry)) (now (next .entry)) (now (heads .entry))) r (now (out .exit)) ⌝ }
-    ensures { λ _. ⌜ now (slots .exit) ≡ replicate (length (now (slots .entry))) 0 ⌝ }
-    ensures { λ _. ⌜ now (numbers .exit) ≡ replicate (length (now (numbers .entry))) 0 ⌝ }
+    ensures { λ r. ⌜ ExportPromise settings levels count level then els next heads roots order bytes starts lens rootstarts rootlens slots numbers out r ⌝ }
 {
     settings.export(
         levels,

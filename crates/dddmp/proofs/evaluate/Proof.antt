@@ -8,7 +8,7 @@ evaluate-requires : tie.Need-evaluate-requires
 evaluate-requires c κs = search needs
 
 returns : tie.Need-returns
-returns c = rw (toZ-ofZ (c .before .before .before .before .before .fits .root)) at (c .evaluate .ensures)
+returns c = record { answer = rw (toZ-ofZ (c .before .before .before .before .before .fits .root)) at (c .evaluate .ensures .answer) }
 
 pub evaluate-spec : {M : Type 1} → statement M
 evaluate-spec = tie.close (tie.spec evaluate-requires returns)

@@ -167,7 +167,7 @@ answered c =
     (measured c .length-fault .result) (found c)
     (ofLoaded (headed c .load .result)) (ofLoaded (roomed c .check-scratch .result)) (ofLoaded (readied c .check-list .result))
     (headed c .load .ensures .0) (roomed c .check-scratch .ensures) (readied c .check-list .ensures)
-    (headed c .load .last .1 .1 .1 .1 .1 .1 .1 .1 .0) (headed c .load .ensures .1 .1 .1 .1 .1 .1 .1 .1 .0) (ofLoaded (noded c .load-nodes .result)) (noded c .load-nodes .ensures .0)
+    (headed c .load .last .1 .1 .1 .1 .1 .1 .1 .1 .0) (headed c .load .ensures .1 .1 .1 .1 .1 .1 .1 .1 .0) (ofLoaded (noded c .load-nodes .result)) (noded c .load-nodes .ensures .answer)
 
 -- the store after it
 stored : (c : tie.After-slice-known32) → (store (start c .args .levels) (noded c .load-nodes .last .1 .1 .1 .1 .0) (noded c .load-nodes .last .1 .1 .1 .1 .1 .0) (noded c .load-nodes .last .1 .1 .1 .1 .1 .1 .0) (noded c .load-nodes .last .1 .1 .1 .1 .1 .1 .1 .0) (noded c .load-nodes .last .1 .1 .1 .1 .1 .1 .1 .1 .0) (noded c .load-nodes .last .1 .1 .1 .1 .1 .1 .1 .1 .1 .0)) ≡ loadOf (loadInto (start c .args .f .now) (start c .args .list .now) (given (start c))) (kept (start c)) .after
@@ -176,7 +176,7 @@ stored c =
     (measured c .length-fault .result) (found c)
     (ofLoaded (headed c .load .result)) (ofLoaded (roomed c .check-scratch .result)) (ofLoaded (readied c .check-list .result))
     (headed c .load .ensures .0) (roomed c .check-scratch .ensures) (readied c .check-list .ensures)
-    (headed c .load .last .1 .1 .1 .1 .1 .1 .1 .1 .0) (headed c .load .ensures .1 .1 .1 .1 .1 .1 .1 .1 .0) (store (start c .args .levels) (noded c .load-nodes .last .1 .1 .1 .1 .0) (noded c .load-nodes .last .1 .1 .1 .1 .1 .0) (noded c .load-nodes .last .1 .1 .1 .1 .1 .1 .0) (noded c .load-nodes .last .1 .1 .1 .1 .1 .1 .1 .0) (noded c .load-nodes .last .1 .1 .1 .1 .1 .1 .1 .1 .0) (noded c .load-nodes .last .1 .1 .1 .1 .1 .1 .1 .1 .1 .0)) (noded c .load-nodes .ensures .1 .0)
+    (headed c .load .last .1 .1 .1 .1 .1 .1 .1 .1 .0) (headed c .load .ensures .1 .1 .1 .1 .1 .1 .1 .1 .0) (store (start c .args .levels) (noded c .load-nodes .last .1 .1 .1 .1 .0) (noded c .load-nodes .last .1 .1 .1 .1 .1 .0) (noded c .load-nodes .last .1 .1 .1 .1 .1 .1 .0) (noded c .load-nodes .last .1 .1 .1 .1 .1 .1 .1 .0) (noded c .load-nodes .last .1 .1 .1 .1 .1 .1 .1 .1 .0) (noded c .load-nodes .last .1 .1 .1 .1 .1 .1 .1 .1 .1 .0)) (noded c .load-nodes .ensures .store)
 
 -- the roots
 rooted : (c : tie.After-slice-known32) → (noded c .load-nodes .last .1 .1 .1 .1 .1 .1 .1 .1 .1 .1 .0) ≡ loadOf (loadInto (start c .args .f .now) (start c .args .list .now) (given (start c))) (kept (start c)) .roots
@@ -185,43 +185,42 @@ rooted c =
     (measured c .length-fault .result) (found c)
     (ofLoaded (headed c .load .result)) (ofLoaded (roomed c .check-scratch .result)) (ofLoaded (readied c .check-list .result))
     (headed c .load .ensures .0) (roomed c .check-scratch .ensures) (readied c .check-list .ensures)
-    (headed c .load .last .1 .1 .1 .1 .1 .1 .1 .1 .0) (headed c .load .ensures .1 .1 .1 .1 .1 .1 .1 .1 .0) (noded c .load-nodes .last .1 .1 .1 .1 .1 .1 .1 .1 .1 .1 .0) (noded c .load-nodes .ensures .1 .1 .0)
+    (headed c .load .last .1 .1 .1 .1 .1 .1 .1 .1 .0) (headed c .load .ensures .1 .1 .1 .1 .1 .1 .1 .1 .0) (noded c .load-nodes .last .1 .1 .1 .1 .1 .1 .1 .1 .1 .1 .0) (noded c .load-nodes .ensures .roots-left)
 
 returns : tie.Need-returns
-returns c = (
-  answered c,
-  (
-    stored c,
-    parts-alike
-        (list-left (start c .args .f .now) (start c .args .list .now) (given (start c)) (kept (start c))
-        (measured c .length-fault .result) (found c) (ofLoaded (noded c .load-nodes .result)) (answered c)
-        (length (start c .args .ids .now)) (λ x. x .ids) refl (headed c .load .last .1 .1 .0) (headed c .load .ensures .1 .1 .0) (finished c .finish .last .1 .0) (finished c .finish .ensures .0))
-        (list-left (start c .args .f .now) (start c .args .list .now) (given (start c)) (kept (start c))
-        (measured c .length-fault .result) (found c) (ofLoaded (noded c .load-nodes .result)) (answered c)
-        (length (start c .args .order .now)) (λ x. x .order) refl (headed c .load .last .1 .1 .1 .0) (headed c .load .ensures .1 .1 .1 .0) (finished c .finish .last .1 .1 .0) (finished c .finish .ensures .1 .0))
-        (list-left (start c .args .f .now) (start c .args .list .now) (given (start c)) (kept (start c))
-        (measured c .length-fault .result) (found c) (ofLoaded (noded c .load-nodes .result)) (answered c)
-        (length (start c .args .permids .now)) (λ x. x .permids) refl (headed c .load .last .1 .1 .1 .1 .0) (headed c .load .ensures .1 .1 .1 .1 .0) (finished c .finish .last .1 .1 .1 .0) (finished c .finish .ensures .1 .1 .0))
-        (list-left (start c .args .f .now) (start c .args .list .now) (given (start c)) (kept (start c))
-        (measured c .length-fault .result) (found c) (ofLoaded (noded c .load-nodes .result)) (answered c)
-        (length (start c .args .auxids .now)) (λ x. x .auxids) refl (headed c .load .last .1 .1 .1 .1 .1 .0) (headed c .load .ensures .1 .1 .1 .1 .1 .0) (finished c .finish .last .1 .1 .1 .1 .0) (finished c .finish .ensures .1 .1 .1 .0))
-        (list-left (start c .args .f .now) (start c .args .list .now) (given (start c)) (kept (start c))
-        (measured c .length-fault .result) (found c) (ofLoaded (noded c .load-nodes .result)) (answered c)
-        (length (start c .args .names .now)) (λ x. map startOf (x .names)) refl (headed c .load .last .1 .1 .1 .1 .1 .1 .0) (headed c .load .ensures .1 .1 .1 .1 .1 .1 .0) (finished c .finish .last .1 .1 .1 .1 .1 .0) (finished c .finish .ensures .1 .1 .1 .1 .0))
-        (list-left (start c .args .f .now) (start c .args .list .now) (given (start c)) (kept (start c))
-        (measured c .length-fault .result) (found c) (ofLoaded (noded c .load-nodes .result)) (answered c)
-        (length (start c .args .lens .now)) (λ x. map lenOf (x .names)) refl (headed c .load .last .1 .1 .1 .1 .1 .1 .1 .0) (headed c .load .ensures .1 .1 .1 .1 .1 .1 .1 .0) (finished c .finish .last .1 .1 .1 .1 .1 .1 .0) (finished c .finish .ensures .1 .1 .1 .1 .1 .0))
-        (rooted c)
-        (list-left (start c .args .f .now) (start c .args .list .now) (given (start c)) (kept (start c))
-        (measured c .length-fault .result) (found c) (ofLoaded (noded c .load-nodes .result)) (answered c)
-        (length (start c .args .rootnames .now)) (λ x. map startOf (x .rootnames)) refl (headed c .load .last .1 .1 .1 .1 .1 .1 .1 .1 .1 .0) (headed c .load .ensures .1 .1 .1 .1 .1 .1 .1 .1 .1 .0) (finished c .finish .last .1 .1 .1 .1 .1 .1 .1 .0) (finished c .finish .ensures .1 .1 .1 .1 .1 .1 .0))
-        (list-left (start c .args .f .now) (start c .args .list .now) (given (start c)) (kept (start c))
-        (measured c .length-fault .result) (found c) (ofLoaded (noded c .load-nodes .result)) (answered c)
-        (length (start c .args .rootlens .now)) (λ x. map lenOf (x .rootnames)) refl (headed c .load .last .1 .1 .1 .1 .1 .1 .1 .1 .1 .1 .0) (headed c .load .ensures .1 .1 .1 .1 .1 .1 .1 .1 .1 .1) (finished c .finish .last .1 .1 .1 .1 .1 .1 .1 .1 .0) (finished c .finish .ensures .1 .1 .1 .1 .1 .1 .1))
-        (noded c .load-nodes .ensures .1 .1 .1 .0)
-        (noded c .load-nodes .ensures .1 .1 .1 .1),
-  ),
-)
+returns c = record {
+  answer = answered c;
+  store = stored c;
+  lists =
+      parts-alike
+      (list-left (start c .args .f .now) (start c .args .list .now) (given (start c)) (kept (start c))
+      (measured c .length-fault .result) (found c) (ofLoaded (noded c .load-nodes .result)) (answered c)
+      (length (start c .args .ids .now)) (λ x. x .ids) refl (headed c .load .last .1 .1 .0) (headed c .load .ensures .1 .1 .0) (finished c .finish .last .1 .0) (finished c .finish .ensures .0))
+      (list-left (start c .args .f .now) (start c .args .list .now) (given (start c)) (kept (start c))
+      (measured c .length-fault .result) (found c) (ofLoaded (noded c .load-nodes .result)) (answered c)
+      (length (start c .args .order .now)) (λ x. x .order) refl (headed c .load .last .1 .1 .1 .0) (headed c .load .ensures .1 .1 .1 .0) (finished c .finish .last .1 .1 .0) (finished c .finish .ensures .1 .0))
+      (list-left (start c .args .f .now) (start c .args .list .now) (given (start c)) (kept (start c))
+      (measured c .length-fault .result) (found c) (ofLoaded (noded c .load-nodes .result)) (answered c)
+      (length (start c .args .permids .now)) (λ x. x .permids) refl (headed c .load .last .1 .1 .1 .1 .0) (headed c .load .ensures .1 .1 .1 .1 .0) (finished c .finish .last .1 .1 .1 .0) (finished c .finish .ensures .1 .1 .0))
+      (list-left (start c .args .f .now) (start c .args .list .now) (given (start c)) (kept (start c))
+      (measured c .length-fault .result) (found c) (ofLoaded (noded c .load-nodes .result)) (answered c)
+      (length (start c .args .auxids .now)) (λ x. x .auxids) refl (headed c .load .last .1 .1 .1 .1 .1 .0) (headed c .load .ensures .1 .1 .1 .1 .1 .0) (finished c .finish .last .1 .1 .1 .1 .0) (finished c .finish .ensures .1 .1 .1 .0))
+      (list-left (start c .args .f .now) (start c .args .list .now) (given (start c)) (kept (start c))
+      (measured c .length-fault .result) (found c) (ofLoaded (noded c .load-nodes .result)) (answered c)
+      (length (start c .args .names .now)) (λ x. map startOf (x .names)) refl (headed c .load .last .1 .1 .1 .1 .1 .1 .0) (headed c .load .ensures .1 .1 .1 .1 .1 .1 .0) (finished c .finish .last .1 .1 .1 .1 .1 .0) (finished c .finish .ensures .1 .1 .1 .1 .0))
+      (list-left (start c .args .f .now) (start c .args .list .now) (given (start c)) (kept (start c))
+      (measured c .length-fault .result) (found c) (ofLoaded (noded c .load-nodes .result)) (answered c)
+      (length (start c .args .lens .now)) (λ x. map lenOf (x .names)) refl (headed c .load .last .1 .1 .1 .1 .1 .1 .1 .0) (headed c .load .ensures .1 .1 .1 .1 .1 .1 .1 .0) (finished c .finish .last .1 .1 .1 .1 .1 .1 .0) (finished c .finish .ensures .1 .1 .1 .1 .1 .0))
+      (rooted c)
+      (list-left (start c .args .f .now) (start c .args .list .now) (given (start c)) (kept (start c))
+      (measured c .length-fault .result) (found c) (ofLoaded (noded c .load-nodes .result)) (answered c)
+      (length (start c .args .rootnames .now)) (λ x. map startOf (x .rootnames)) refl (headed c .load .last .1 .1 .1 .1 .1 .1 .1 .1 .1 .0) (headed c .load .ensures .1 .1 .1 .1 .1 .1 .1 .1 .1 .0) (finished c .finish .last .1 .1 .1 .1 .1 .1 .1 .0) (finished c .finish .ensures .1 .1 .1 .1 .1 .1 .0))
+      (list-left (start c .args .f .now) (start c .args .list .now) (given (start c)) (kept (start c))
+      (measured c .length-fault .result) (found c) (ofLoaded (noded c .load-nodes .result)) (answered c)
+      (length (start c .args .rootlens .now)) (λ x. map lenOf (x .rootnames)) refl (headed c .load .last .1 .1 .1 .1 .1 .1 .1 .1 .1 .1 .0) (headed c .load .ensures .1 .1 .1 .1 .1 .1 .1 .1 .1 .1) (finished c .finish .last .1 .1 .1 .1 .1 .1 .1 .1 .0) (finished c .finish .ensures .1 .1 .1 .1 .1 .1 .1))
+      (noded c .load-nodes .ensures .edges-left)
+      (noded c .load-nodes .ensures .seats-left);
+}
 
 pub load-spec : {M : Type 1} → statement M
 load-spec = tie.close (tie.spec lists-fault-requires store-fault-requires length-fault-requires load-requires check-scratch-requires check-list-requires load-nodes-requires finish-requires same-length same-length-2 same-length-3 same-length-4 same-length-5 same-length-6 same-length-7 same-length-8 same-length-9 same-length-10 same-length-11 same-length-12 same-length-13 same-length-14 same-length-15 same-length-16 returns)

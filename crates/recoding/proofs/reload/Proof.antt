@@ -56,19 +56,19 @@ few-vars : (c : tie.After-loaded) → c .loaded .given .0 .0 .nvars ≤ varLimit
 few-vars c =
     let l = taken c in
     let a = start l .args in
-    vars-few (a .f .now) (a .list .now) (a .levels) (l .load .result) (l .load .ensures .0) _ (c .loaded .given .1)
+    vars-few (a .f .now) (a .list .now) (a .levels) (l .load .result) (l .load .ensures .answer) _ (c .loaded .given .1)
 
 few-support : (c : tie.After-loaded) → c .loaded .given .0 .0 .nsuppvars ≤ varLimit
 few-support c =
     let l = taken c in
     let a = start l .args in
-    support-few (a .f .now) (a .list .now) (a .levels) (l .load .result) (l .load .ensures .0) _ (c .loaded .given .1)
+    support-few (a .f .now) (a .list .now) (a .levels) (l .load .result) (l .load .ensures .answer) _ (c .loaded .given .1)
 
 few-roots : (c : tie.After-loaded) → c .loaded .given .0 .0 .nroots ≤ rootLimit
 few-roots c =
     let l = taken c in
     let a = start l .args in
-    roots-few (a .f .now) (a .list .now) (a .levels) (l .load .result) (l .load .ensures .0) _ (c .loaded .given .1)
+    roots-few (a .f .now) (a .list .now) (a .levels) (l .load .result) (l .load .ensures .answer) _ (c .loaded .given .1)
 
 slice-aggregate-load : tie.Need-slice-aggregate-load
 slice-aggregate-load c = refl
@@ -236,8 +236,8 @@ write-back-requires c κs =
     .before in
     let t = taken l in
     let a = start t .args in (
-      still-judged (a .f .now) (a .list .now) (a .levels) (t .load .result) (t .load .ensures .0) _ (l .loaded .given .1)
-          (left t) (t .load .ensures .1 .1),
+      still-judged (a .f .now) (a .list .now) (a .levels) (t .load .result) (t .load .ensures .answer) _ (l .loaded .given .1)
+          (left t) (t .load .ensures .lists),
       (
         sym (front-counted _ varLimit (taken l .load .last .1 .1 .1 .1 .1 .1 .1 .1 .1 .1 .1 .1 .1 .0) (few-vars l)
             (taken l .load .kept .1 .1 .1 .1 .1 .1 .1 .1 .1 .1 .1 .1 .1 .0))
@@ -265,8 +265,8 @@ returns c =
     .before .before .before .before in
     let t = taken l in
     let a = start t .args in
-    reloads (a .f .now) (a .list .now) (a .levels) (t .load .result) (t .load .ensures .0) _ (l .loaded .given .1)
-    (left t) (t .load .ensures .1 .1) (stored t) (t .load .ensures .1 .0) _ _ _ (c .before .before .write-back .ensures)
+    reloads (a .f .now) (a .list .now) (a .levels) (t .load .result) (t .load .ensures .answer) _ (l .loaded .given .1)
+    (left t) (t .load .ensures .lists) (stored t) (t .load .ensures .store) _ _ _ (c .before .before .write-back .ensures)
 
 same-length-2 : tie.Need-same-length-2
 same-length-2 c = c .before .before .clear-bytes .kept .0
@@ -276,7 +276,7 @@ returns-2 c =
     let l = c .before .before .before .before .before in
     let t = taken-2 l in
     let a = start t .args in
-    reloads-none (a .f .now) (a .list .now) (a .levels) (t .load .result) (t .load .ensures .0) _ _ (l .loaded2 .given .1) _ _
+    reloads-none (a .f .now) (a .list .now) (a .levels) (t .load .result) (t .load .ensures .answer) _ _ (l .loaded2 .given .1) _ _
     (c .before .before .clear-bytes .ensures)
 
 pub reload-spec : {M : Type 1} → statement M

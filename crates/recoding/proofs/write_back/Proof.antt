@@ -128,7 +128,7 @@ exports c x q =
     (passed-is (a .lens .now) (a .lens .now) refl _ (p .before .passed-on .ensures))
     (passed-is (a .rootlens .now) (a .rootnames .now) (s .pre .1 .1) _ (p .passed-on2 .ensures))
     (passed-is (a .rootlens .now) (a .rootlens .now) refl _ (p .passed-on2 .ensures))
-    refl refl (c .export .result) _ x (c .export .ensures .0) q
+    refl refl (c .export .result) _ x (c .export .ensures .file) q
 
 same-length : tie.Need-same-length
 same-length c =

@@ -2,19 +2,14 @@
 ghost use mathlib.Core.Path.{_≡_};
 ghost use mathlib.Core.Bool.{not};
 ghost use lib.Dec.{eqb};
-ghost use lib.ListN.{length, replicate};
-ghost use Rattle.store.specs.Store.{store};
 ghost use Rattle.evaluation.specs.Evaluated.{ofEvaluation};
 ghost use Rattle.values.specs.Kinds.{ofVarInfo};
 ghost use Rattle.header.specs.Kinds.{ofLoaded};
-ghost use Rattle.readers.specs.Text.{place};
-ghost use Rattle.export_header.specs.Tables.{lent};
 ghost use Rattle.exporter.specs.Settings.{ofSettings};
 ghost use Rattle.exporter.specs.Promise.{ofExported};
-ghost use Rattle.calls.specs.Load.{parts, lengthsOf, loadInto, partsOf, loadOf};
-ghost use Rattle.calls.specs.Calls.{evaluateOf, exportInto};
 ghost use Rattle.calls.specs.Evaluating.{byteOf};
-ghost use Rattle.firmware.specs.Answers.{ofAnswer, ofEvaluated, ofLength, Exporting};
+ghost use Rattle.firmware.specs.Answers.{ofAnswer, ofEvaluated, ofLength};
+ghost use Rattle.firmware.specs.Promises.{ZtLoadPromise, ZtEvaluatePromise, ZtExportPromise};
 ghost use Rattle.firmware.specs.Settings.{versionOf, settingsOf};
 use codes::DDDMPVersion;
 use codes::VarInfo;
@@ -197,9 +192,8 @@ pub extern "C" fn zt_load(
     edges: &mut [Edge],
     seats: &mut [u16],
 ) -> LoadAnswer
-    ensures { λ r. ⌜ r ≡ ofAnswer (loadOf (loadInto (now (file .entry)) (now (list .entry)) (parts (now (ids .entry)) (now (order .entry)) (now (permids .entry)) (now (auxids .entry)) (now (names .entry)) (now (lens .entry)) (now (roots .entry)) (now (rootnames .entry)) (now (rootlens .entry)) (now (edges .entry)) (now (seats .entry)))) (store levels (now (count .entry)) (now (level .entry)) (now (then .entry)) (now (els .entry)) (now (next .entry)) (now (heads .entry))) .answer) ⌝ }
-    ensures { λ _. ⌜ (store levels (now (count .exit)) (now (level .exit)) (now (then .exit)) (now (els .exit)) (now (next .exit)) (now (heads .exit))) ≡ loadOf (loadInto (now (file .entry)) (now (list .entry)) (parts (now (ids .entry)) (now (order .entry)) (now (permids .entry)) (now (auxids .entry)) (now (names .entry)) (now (lens .entry)) (now (roots .entry)) (now (rootnames .entry)) (now (rootlens .entry)) (now (edges .entry)) (now (seats .entry)))) (store levels (now (count .entry)) (now (level .entry)) (now (then .entry)) (now (els .entry)) (now (next .entry)) (now (heads .entry))) .after ⌝ }
-    ensures { λ _. ⌜ (parts (now (ids .exit)) (now (order .exit)) (now (permids .exit)) (now (auxids .exit)) (now (names .exit)) (now (lens .exit)) (now (roots .exit)) (now (rootnames .exit)) (now (rootlens .exit)) (now (edges .exit)) (now (seats .exit))) ≡ partsOf (lengthsOf (parts (now (ids .entry)) (now (order .entry)) (now (permids .entry)) (now (auxids .entry)) (now (names .entry)) (now (lens .entry)) (now (roots .entry)) (now (rootnames .entry)) (now (rootlens .entry)) (now (edges .entry)) (now (seats .entry)))) (loadOf (loadInto (now (file .entry)) (now (list .entry)) (parts (now (ids .entry)) (now (order .entry)) (now (permids .entry)) (now (auxids .entry)) (now (names .entry)) (now (lens .entry)) (now (roots .entry)) (now (rootnames .entry)) (now (rootlens .entry)) (now (edges .entry)) (now (seats .entry)))) (store levels (now (count .entry)) (now (level .entry)) (now (then .entry)) (now (els .entry)) (now (next .entry)) (now (heads .entry)))) ⌝ }
+    ensures { λ r. ⌜ ZtLoadPromise file list levels count level then els next heads ids order permids auxids names lens roots rootnames rootlens
+        edges seats r ⌝ }
 {
     load_answer(dddmp::load(
         file,
@@ -238,7 +232,7 @@ pub extern "C" fn zt_evaluate(
     root: Edge,
     setting: &[u8],
 ) -> EvaluateAnswer
-    ensures { λ r. ⌜ r ≡ ofEvaluated (evaluateOf root (now (setting .entry)) (store levels count (now (level .entry)) (now (then .entry)) (now (els .entry)) (now (next .entry)) (now (heads .entry)))) ⌝ }
+    ensures { λ r. ⌜ ZtEvaluatePromise levels count level then els next heads root setting r ⌝ }
 {
     evaluate_answer(dddmp::evaluate(levels, count, level, then, els, next, heads, root, setting))
 }
@@ -268,9 +262,8 @@ pub extern "C" fn zt_export(
     numbers: &mut [Index],
     out: &mut [u8],
 ) -> ExportAnswer
-    ensures { λ r. ⌜ Exporting (exportInto (settingsOf version text ddstart ddlen) (now (roots .entry)) (now (order .entry)) (lent (now (bytes .entry)) (now (starts .entry)) (now (lens .entry)) (now (rootstarts .entry)) (now (rootlens .entry)) (place ddstart ddlen)) (length (now (slots .entry))) (length (now (numbers .entry))) (length (now (out .entry)))) (store levels count (now (level .entry)) (now (then .entry)) (now (els .entry)) (now (next .entry)) (now (heads .entry))) r (now (out .exit)) ⌝ }
-    ensures { λ _. ⌜ now (slots .exit) ≡ replicate (length (now (slots .entry))) 0 ⌝ }
-    ensures { λ _. ⌜ now (numbers .exit) ≡ replicate (length (now (numbers .entry))) 0 ⌝ }
+    ensures { λ r. ⌜ ZtExportPromise version text ddstart ddlen levels count level then els next heads roots order bytes starts lens rootstarts rootlens
+        slots numbers out r ⌝ }
 {
     let settings = settings_of(version, text, ddstart, ddlen);
     export_answer(dddmp::export(

@@ -14,7 +14,7 @@ evaluate-answer-requires : tie.Need-evaluate-answer-requires
 evaluate-answer-requires c κs = tt
 
 returns : tie.Need-returns
-returns c = rw (c .evaluate-answer .ensures, c .before .evaluate .ensures, toZ-ofZ (start c .fits .root))
+returns c = record { answer = rw (c .evaluate-answer .ensures, c .before .evaluate .ensures .answer, toZ-ofZ (start c .fits .root)) }
 
 pub zt-evaluate-spec : {M : Type 1} → statement M
 zt-evaluate-spec = tie.close (tie.spec evaluate-requires evaluate-answer-requires returns)

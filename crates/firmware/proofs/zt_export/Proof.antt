@@ -31,11 +31,12 @@ same-length-3 : tie.Need-same-length-3
 same-length-3 c = exporting c .export .kept .1 .1 .1 .1 .1 .1 .1 .1 .1 .1 .1 .1 .1 .1 .1 .1 .1 .0
 
 returns : tie.Need-returns
-returns c = (
-  exported-as (setting c .settings-of .result) (exporting c .export .result) (setting c .settings-of .ensures)
-      (exporting c .export .ensures .0) (c .export-answer .ensures),
-  exporting c .export .ensures .1,
-)
+returns c = record {
+  file = exported-as (setting c .settings-of .result) (exporting c .export .result) (setting c .settings-of .ensures)
+      (exporting c .export .ensures .file) (c .export-answer .ensures);
+  slots-left = exporting c .export .ensures .slots-left;
+  numbers-left = exporting c .export .ensures .numbers-left;
+}
 
 pub zt-export-spec : {M : Type 1} → statement M
 zt-export-spec =

@@ -66,7 +66,11 @@ same-length-16 : tie.Need-same-length-16
 same-length-16 c = loading c .load .kept .1 .1 .1 .1 .1 .1 .1 .1 .1 .1 .1 .1 .1 .1 .1 .1 .1 .1 .1 .0
 
 returns : tie.Need-returns
-returns c = (c .load-answer .ensures ∙ ap ofAnswer (loading c .load .ensures .0), loading c .load .ensures .1)
+returns c = record {
+  answer = c .load-answer .ensures ∙ ap ofAnswer (loading c .load .ensures .answer);
+  store = loading c .load .ensures .store;
+  lists = loading c .load .ensures .lists;
+}
 
 pub zt-load-spec : {M : Type 1} → statement M
 zt-load-spec =

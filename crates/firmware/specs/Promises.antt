@@ -1,0 +1,57 @@
+-- What the calls for C promise: what the calls of `dddmp` do, and the answer as C gets it.
+use Prim.Native.Nat.{ℕ}
+use mathlib.Core.Path.{_≡_}
+use mathlib.Core.List.{List}
+use lib.ListN.{length, replicate}
+use lib.IntN.{ℤ}
+use Rattle.store.specs.Lent.{Part, old, new, oldStore, newStore}
+use Rattle.calls.specs.Load as calls
+use Rattle.calls.specs.Load.{Parts, lengthsOf, partsOf}
+use Rattle.calls.specs.Calls.{evaluateOf}
+use Rattle.dddmp.specs.Promises as dddmp
+use Rattle.firmware.specs.declared.LoadAnswer.{LoadAnswer}
+use Rattle.firmware.specs.declared.EvaluateAnswer.{EvaluateAnswer}
+use Rattle.firmware.specs.declared.ExportAnswer.{ExportAnswer}
+use Rattle.firmware.specs.Answers.{ofAnswer, ofEvaluated, Exporting}
+use Rattle.firmware.specs.Settings.{settingsOf}
+
+module _ (file list : Part (List ℕ)) (levels : ℕ) (count : Part ℕ) (level : Part (List ℕ)) (then els : Part (List ℤ))
+    (next heads ids order permids auxids names lens : Part (List ℕ)) (roots : Part (List ℤ)) (rootnames rootlens : Part (List ℕ))
+    (edges : Part (List ℤ)) (seats : Part (List ℕ)) where
+  abbrev oldParts : Parts
+  oldParts =
+      dddmp.oldParts file list levels count level then els next heads ids order permids auxids names lens roots rootnames rootlens edges seats
+
+  abbrev newParts : Parts
+  newParts =
+      dddmp.newParts file list levels count level then els next heads ids order permids auxids names lens roots rootnames rootlens edges seats
+
+  -- 'load gives 1 (lists), 3, 19 for the input's length, header, 1 (scratch), 2, nodes, 39'
+  abbrev loaded : calls.Loaded
+  loaded =
+      dddmp.loaded file list levels count level then els next heads ids order permids auxids names lens roots rootnames rootlens edges seats
+
+  pub record ZtLoadPromise (r : LoadAnswer) : Type 0 where
+    -- 'A refusal is a number and a line.'
+    pub answer : r ≡ ofAnswer (loaded .answer)
+    -- 'On any refusal .. the store is unchanged'
+    pub store : newStore levels (new count) level then els next heads ≡ loaded .after
+    -- 'On any refusal outputs are all zeros ..; on success unused output is zero. Scratch ends as zeros.'
+    pub lists : newParts ≡ partsOf (lengthsOf oldParts) loaded
+
+pub record ZtEvaluatePromise (levels count : ℕ) (level : Part (List ℕ)) (then els : Part (List ℤ)) (next heads : Part (List ℕ)) (root : ℤ)
+    (setting : Part (List ℕ)) (r : EvaluateAnswer) : Type 0 where
+  -- 'Evaluation gives 3, 4.'
+  pub answer : r ≡ ofEvaluated (evaluateOf root (old setting) (oldStore levels count level then els next heads))
+
+pub record ZtExportPromise (version text ddstart ddlen levels count : ℕ) (level : Part (List ℕ)) (then els : Part (List ℤ))
+    (next heads : Part (List ℕ)) (roots : Part (List ℤ)) (order bytes starts lens rootstarts rootlens slots numbers out : Part (List ℕ))
+    (r : ExportAnswer) : Type 0 where
+  -- 'Export gives 1, 3, 4, 6, 5'; 'version 3.0 and text are each a byte that isn't 0'
+  pub file : Exporting
+      (dddmp.exporting (settingsOf version text ddstart ddlen) levels count level then els next heads roots order bytes starts lens rootstarts rootlens
+      slots numbers out)
+      (oldStore levels count level then els next heads) r (new out)
+  -- 'Scratch ends as zeros.'
+  pub slots-left : new slots ≡ replicate (length (old slots)) 0
+  pub numbers-left : new numbers ≡ replicate (length (old numbers)) 0

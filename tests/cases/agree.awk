@@ -1,10 +1,10 @@
-# Holds the index of the stored cases to their numbers: agree.awk OUTPUT.. COVERAGE INDEX, where each OUTPUT is the expected output of a program
-# vectors_NAME, COVERAGE is COVERAGE.md and INDEX is INDEX.tsv. Writes what doesn't agree.
+# Holds the index of the stored cases to their numbers: agree.awk OUTPUT.. COVERAGE INDEX, where each OUTPUT is the expected output of a replay,
+# crates/vectors_NAME/stdout or tests/vectors/NAME/expected, COVERAGE is COVERAGE.md and INDEX is INDEX.tsv. Writes what doesn't agree.
 BEGIN { FS = "\t" }
 
-function program_of(path) {
-    sub(/\/stdout$/, "", path)
-    sub(/.*vectors_/, "", path)
+function replay_of(path) {
+    sub(/\/[a-z]*$/, "", path)
+    sub(/.*vectors[_\/]/, "", path)
     return path
 }
 
@@ -15,12 +15,12 @@ function number(text) {
 
 FNR == 1 { headline = "" }
 
-FILENAME ~ /\/stdout$/ && /^cases\.bin: / {
-    stored[program_of(FILENAME)] = number(substr($0, 11, index($0, " cases") - 11))
+FILENAME ~ /\/(stdout|expected)$/ && /^cases\.bin: / {
+    stored[replay_of(FILENAME)] = number(substr($0, 11, index($0, " cases") - 11))
     next
 }
 
-# The table of judges: its first line names the programs, the last column is the sum.
+# The table of judges: its first line names the replays, the last column is the sum.
 FILENAME ~ /COVERAGE\.md$/ {
     if (/^## /)
         headline = $0
@@ -28,9 +28,9 @@ FILENAME ~ /COVERAGE\.md$/ {
         n = split($0, cell, / *\| */)
         for (i = 3; i < n; i++)
             if (cell[2] == "judge")
-                program[i] = cell[i]
+                replay[i] = cell[i]
             else
-                told[program[i], cell[2]] = number(cell[i])
+                told[replay[i], cell[2]] = number(cell[i])
     }
     next
 }
@@ -39,7 +39,7 @@ FILENAME ~ /INDEX\.tsv$/ && FNR > 1 {
     split($2, span, "-")
     last = span[2] == "" ? span[1] : span[2]
     if (NF != 5 || !($1 in stored))
-        print "a line of no program: " $0
+        print "a line of no replay: " $0
     if (span[1] != after[$1] + 0 || last < span[1])
         print $1 ": case " after[$1] + 0 " isn't the next one: " $0
     if (!($4 == "rust" && $5 == "-" || $4 == "document" && $5 != "-" && $5 != ""))
@@ -51,12 +51,12 @@ FILENAME ~ /INDEX\.tsv$/ && FNR > 1 {
 
 END {
     for (name in stored) {
-        programs++
+        replays++
         if (stored[name] != after[name] + 0)
             print name " has " stored[name] " cases, the index " after[name] + 0
     }
-    if (programs != 5)
-        print "there are " programs " programs"
+    if (replays != 5)
+        print "there are " replays " replays"
     for (pair in judged)
         if (judged[pair] != told[pair] + 0) {
             split(pair, part, SUBSEP)

@@ -1,5 +1,5 @@
 #!/usr/bin/env python3
-"""Makes all stored cases of the programs `vectors_*` again, with the Rust.
+"""Makes all stored cases again, with the Rust: those of the programs `vectors_*`, and those that tests/firmware replays.
 
     python3 tests/cases/make.py ORACLE [install]
 
@@ -7,11 +7,11 @@ ORACLE is the oracle's folder: the published Rust over plain managers, with gen.
 document 01. It is copied to build/oracle and compiled there; cargo is needed for it, and no network. Everything else is made in
 build/cases. The same oracle and the same scripts give the same bytes.
 
-At its end the script prints the table of coverage, and says of every file of stored cases, of each program's expected output, of INDEX.tsv
+At its end the script prints the table of coverage, and says of every file of stored cases, of each replay's expected output, of INDEX.tsv
 and of COVERAGE.md whether what stands in the repository is what was made. With `install` it puts there what was made. Without it, it ends
 with status 1 where something differs.
 
-INDEX.tsv says of each stored case which judge it has: the program, the cases by number, from 0, as `first-last` where several follow one
+INDEX.tsv says of each stored case which judge it has: the replay, the cases by number, from 0, as `first-last` where several follow one
 another, their source, the judge and the reason. record.py lists the reasons. COVERAGE.md counts what the cases have.
 """
 import itertools
@@ -28,7 +28,10 @@ import oracle  # noqa: E402
 from record import DOCUMENT, KEYS, REASONS, RUST  # noqa: E402
 
 RUST_FOLDER, OUT = "build/oracle", "build/cases"
-PROGRAMS = ("readers", "header", "nodes", "store", "export")
+REPLAYS = ("readers", "header", "loads", "store", "exports")
+# Where the cases of a replay stand, and its expected output.
+IN_C = {name: ("tests/vectors/%s/" % name, "tests/vectors/%s/expected" % name) for name in ("loads", "exports")}
+PLACES = {name: IN_C.get(name, ("crates/vectors_%s/data/" % name, "crates/vectors_%s/stdout" % name)) for name in REPLAYS}
 DATA = ("cases.bin", "falsified.bin", "cut.bin")
 # The generated files: folder, and the words for gen.py (seed, rounds).
 GENERATED = {"short": ("7", "1", "--short"), "seed7": ("7", "100")}
@@ -67,16 +70,16 @@ def falsified(report):
 
 
 def make():
-    """Makes the files of stored cases. Gives how many falsified ones each program has."""
+    """Makes the files of stored cases. Gives how many falsified ones each replay has."""
     loads, program = os.path.join(OUT, "load.tsv"), oracle.program(RUST_FOLDER)
     made = {"readers": run("tests/readers/make_cases.py", program, folder("readers")),
             "header": run("tests/header/make_cases.py", LOAD, FILES, program, folder("header"))}
     run("tests/nodes/rust_cases.py", RUST_FOLDER, LOAD, FILES, *(folder(x) for x in GENERATED), output=loads)
-    made["nodes"] = run("tests/nodes/make_cases.py", loads, ROOM, FILES, folder("nodes"))
+    made["loads"] = run("tests/nodes/make_cases.py", loads, ROOM, FILES, folder("loads"))
     made["store"] = run("tests/store/make_cases.py", STORES, EVALUATE, folder("store"))
-    lists = folder("export") + "/stored.tsv", folder("export") + "/generated.tsv"
-    run("tests/export/rust_cases.py", RUST_FOLDER, folder("seed7"), LOAD, FILES, EXPORT, folder("export"))
-    made["export"] = run("tests/export/make_cases.py", folder("export"), *lists, "tests/export/differences.tsv")
+    lists = folder("exports") + "/stored.tsv", folder("exports") + "/generated.tsv"
+    run("tests/export/rust_cases.py", RUST_FOLDER, folder("seed7"), LOAD, FILES, EXPORT, folder("exports"))
+    made["exports"] = run("tests/export/make_cases.py", folder("exports"), *lists, "tests/export/differences.tsv")
     return {name: falsified(report) for name, report in made.items()}
 
 
@@ -86,8 +89,8 @@ def make():
 class Known:
     """A line of index.tsv."""
 
-    def __init__(self, program, line):
-        self.program = program
+    def __init__(self, replay, line):
+        self.replay = replay
         self.refusal, self.source, self.judge, self.reason, keys, self.mode, self.version, self.names = line.rstrip("\n").split("\t")
         self.keys = [] if keys == "-" else keys.split(",")
         self.has_file = self.mode != "-"
@@ -96,20 +99,20 @@ class Known:
 
 def known():
     cases = []
-    for program in PROGRAMS:
-        with open(os.path.join(OUT, program, "index.tsv"), encoding="utf-8") as f:
-            cases += [Known(program, line) for line in f]
+    for replay in REPLAYS:
+        with open(os.path.join(OUT, replay, "index.tsv"), encoding="utf-8") as f:
+            cases += [Known(replay, line) for line in f]
     return cases
 
 
 def index_text(cases):
-    lines = ["program\tcases\tsource\tjudge\treason"]
-    for program, those in itertools.groupby(cases, key=lambda c: c.program):
+    lines = ["replay\tcases\tsource\tjudge\treason"]
+    for replay, those in itertools.groupby(cases, key=lambda c: c.replay):
         numbered = enumerate(those)
         for what, group in itertools.groupby(numbered, key=lambda x: (x[1].source, x[1].judge, x[1].reason)):
             numbers = [n for n, _ in group]
             span = "%d" % numbers[0] if len(numbers) == 1 else "%d-%d" % (numbers[0], numbers[-1])
-            lines.append("\t".join((program, span) + what))
+            lines.append("\t".join((replay, span) + what))
     return "".join(line + "\n" for line in lines)
 
 
@@ -117,17 +120,17 @@ def index_text(cases):
 
 
 def table(title, first, cases, values):
-    """How many cases have each value, by program. `values` gives the values that a case has, as (place, name) where their order isn't that
+    """How many cases have each value, by replay. `values` gives the values that a case has, as (place, name) where their order isn't that
     of the letters."""
     counts = {}
     for c in cases:
         for v in values(c):
-            counts.setdefault(v if isinstance(v, tuple) else (0, v), dict.fromkeys(PROGRAMS, 0))[c.program] += 1
-    programs = [p for p in PROGRAMS if any(counts[v][p] for v in counts)]
-    several = len(programs) > 1
-    lines = ["", "## " + title, "", row([first] + programs + ["all"] * several), "|---" * (1 + len(programs) + several) + "|"]
+            counts.setdefault(v if isinstance(v, tuple) else (0, v), dict.fromkeys(REPLAYS, 0))[c.replay] += 1
+    replays = [r for r in REPLAYS if any(counts[v][r] for v in counts)]
+    several = len(replays) > 1
+    lines = ["", "## " + title, "", row([first] + replays + ["all"] * several), "|---" * (1 + len(replays) + several) + "|"]
     for v in sorted(counts):
-        numbers = [counts[v][p] for p in programs]
+        numbers = [counts[v][r] for r in replays]
         lines.append(row([v[1]] + ["{:,}".format(n) if n else "" for n in numbers + [sum(numbers)] * several]))
     return lines
 
@@ -150,7 +153,7 @@ def coverage_text(cases):
     order = list(FORMS)
     with_file = [c for c in cases if c.has_file]
     lines = ["# What the stored cases cover", "",
-             "Made by `make cases ORACLE=DIR`; see `tests/README.md`. A number is how many cases of a program have what the line says.",
+             "Made by `make cases ORACLE=DIR`; see `tests/README.md`. A number is how many cases of a replay have what the line says.",
              "", "A case is judged by the Rust where the Rust gave the answer that is stored (for an export that is refused: an error), else by",
              "document 01 alone, with a reason."]
     lines += table("Judges", "judge", cases, lambda c: [c.judge])
@@ -161,27 +164,27 @@ def coverage_text(cases):
     lines += table("Accepted and refused", "answer", cases, lambda c: ["accepted" if c.refusal == "0" else "refused"])
     lines += table("Answers", "refusal, 0 for none", cases, lambda c: [(int(c.refusal), c.refusal)])
     lines += table("Answers that the Rust gave too", "refusal, 0 for none", (c for c in cases if c.judge == RUST), lambda c: [(int(c.refusal), c.refusal)])
-    lines += ["", "The following counts are of the cases that have a file: those of `header` and `nodes`, and of `export` those that are written."]
+    lines += ["", "The following counts are of the cases that have a file: those of `header` and `loads`, and of `exports` those that are written."]
     lines += table("Keys", "key", with_file, lambda c: [(KEYS.index(k), "`%s`" % k) for k in c.keys])
     lines += table("Mode", "`.mode`", with_file, lambda c: [c.mode])
     lines += table("Version", "`.ver`", with_file, lambda c: [c.version])
     lines += table("Lists of variable names", "not empty", with_file, lambda c: [(order.index(c.names), FORMS[c.names])])
-    lines += ["", "The kinds of files in `nodes`: `vectors` and `room` are those of `tests/vectors`; of the generated ones `whole` was made to be",
+    lines += ["", "The kinds of files in `loads`: `vectors` and `room` are those of `tests/vectors`; of the generated ones `whole` was made to be",
               "read, `made to meet N` to meet that refusal, `made` for a place between, `damaged` at random in the way that is named, and `short`",
               "has every short text of a small alphabet in that place."]
-    lines += table("Kinds of loads", "kind", (c for c in cases if c.program == "nodes"), lambda c: [by_number(c.kind)])
-    lines += table("Kinds of headers", "kind", (c for c in cases if c.program == "header"), lambda c: [c.kind])
-    lines += table("Kinds of stores", "kind", (c for c in cases if c.program == "store"), lambda c: [c.kind])
-    lines += table("Readers", "reader", (c for c in cases if c.program == "readers"), lambda c: [c.kind])
+    lines += table("Kinds of loads", "kind", (c for c in cases if c.replay == "loads"), lambda c: [by_number(c.kind)])
+    lines += table("Kinds of headers", "kind", (c for c in cases if c.replay == "header"), lambda c: [c.kind])
+    lines += table("Kinds of stores", "kind", (c for c in cases if c.replay == "store"), lambda c: [c.kind])
+    lines += table("Readers", "reader", (c for c in cases if c.replay == "readers"), lambda c: [c.kind])
     return "".join(line + "\n" for line in lines)
 
 
 # What was made, and what stands in the repository ------------------------------------------------------------------------------
 
 
-def expected_output(program, count, false):
-    """The program's expected output with these numbers of cases."""
-    with open("crates/vectors_%s/stdout" % program, encoding="ascii") as f:
+def expected_output(path, count, false):
+    """A replay's expected output with these numbers of cases."""
+    with open(path, encoding="ascii") as f:
         lines = f.read().split("\n")
     lines[0] = "cases.bin: %d cases, 0 differ" % count
     lines[1] = "falsified.bin: %d cases, %d differ" % (false, false)
@@ -191,12 +194,12 @@ def expected_output(program, count, false):
 def placed(cases, false):
     """Where each file belongs, and what was made for it."""
     files = {}
-    for program in PROGRAMS:
+    for replay, (place, output) in PLACES.items():
         for name in DATA:
-            with open(os.path.join(OUT, program, name), "rb") as f:
-                files["crates/vectors_%s/data/%s" % (program, name)] = f.read()
-        count = sum(c.program == program for c in cases)
-        files["crates/vectors_%s/stdout" % program] = expected_output(program, count, false[program]).encode()
+            with open(os.path.join(OUT, replay, name), "rb") as f:
+                files[place + name] = f.read()
+        count = sum(c.replay == replay for c in cases)
+        files[output] = expected_output(output, count, false[replay]).encode()
     files["tests/cases/INDEX.tsv"] = index_text(cases).encode()
     files["tests/cases/COVERAGE.md"] = coverage_text(cases).encode()
     return files
@@ -217,10 +220,10 @@ def install(files):
 
 
 def totals(cases):
-    for program in PROGRAMS:
-        those = [c for c in cases if c.program == program]
+    for replay in REPLAYS:
+        those = [c for c in cases if c.replay == replay]
         print("%-8s %6d cases, %6d judged by the Rust, %6d by document 01 alone; %6d accepted, %6d refused" % (
-            program, len(those), sum(c.judge == RUST for c in those), sum(c.judge == DOCUMENT for c in those),
+            replay, len(those), sum(c.judge == RUST for c in those), sum(c.judge == DOCUMENT for c in those),
             sum(c.refusal == "0" for c in those), sum(c.refusal != "0" for c in those)))
     print("%-8s %6d cases, %6d judged by the Rust" % ("all", len(cases), sum(c.judge == RUST for c in cases)))
 

@@ -1,5 +1,5 @@
 #!/usr/bin/env python3
-"""Makes the stored cases of the program `vectors_export`.
+"""Makes the stored exports, tests/vectors/exports, which tests/firmware replays.
 
     python3 make_cases.py OUTDIR CASES..
 

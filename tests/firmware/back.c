@@ -50,9 +50,21 @@ static void hold_variable_name(const struct load *c, const struct names *n, size
     holds(same_name(c, start, len, n, n->starts[v], n->lens[v]), "a variable keeps its name");
 }
 
+/* The diagram keeps its name but for spaces at its ends. */
+static void hold_diagram_name(const struct load *c, const struct names *n)
+{
+    uint32_t start = n->ddstart, end = start + n->ddlen;
+
+    while (start < end && n->bytes[start] == ' ')
+        start++;
+    while (start < end && n->bytes[end - 1] == ' ')
+        end--;
+    holds(same_name(c, c->answer.ddstart, c->answer.ddlen, n, start, end - start), "the diagram keeps its name");
+}
+
 /*
- * The names of a file that was exported with them, and was just loaded. Version 3.0 has the names of all variables. In version 2.0 only the
- * support variables are known by their names: 'else `.orderedvarnames`, support variables by permid and the rest in order'.
+ * The names of a file that was just loaded, as far as it was exported with them. Version 3.0 has the names of all variables. In version 2.0
+ * only the support variables are known by their names: 'else `.orderedvarnames`, support variables by permid and the rest in order'.
  */
 static void hold_names(const struct export *e, const struct load *c)
 {
@@ -61,16 +73,37 @@ static void hold_names(const struct export *e, const struct load *c)
     const uint32_t *rootnames = numbers_of(c, LOAD_ROOTNAMES), *rootlens = numbers_of(c, LOAD_ROOTLENS);
     size_t i;
 
-    for (i = 0; e->version != 0 && i < a->nvars; i++)
+    for (i = 0; n->lens_len != 0 && e->version != 0 && i < a->nvars; i++)
         hold_variable_name(c, n, i);
-    for (i = 0; i < a->nsuppvars; i++)
+    for (i = 0; n->lens_len != 0 && i < a->nsuppvars; i++)
         hold_variable_name(c, n, numbers_of(c, LOAD_IDS)[i]);
-    for (i = 0; i < e->roots_len; i++)
+    for (i = 0; n->rootlens_len != 0 && i < a->nroots; i++)
         holds(same_name(c, rootnames[i], rootlens[i], n, n->rootstarts[i], n->rootlens[i]), "a root keeps its name");
-    holds(same_name(c, a->ddstart, a->ddlen, n, n->ddstart, n->ddlen), "the diagram keeps its name");
+    hold_diagram_name(c, n);
 }
 
-static void hold_header_back(const struct export *e, const struct store *s)
+/* The support variables of a file that was just loaded: permids are their levels, and the support order is that of the level list. */
+static int has_support(const struct export *e, const struct load *c)
+{
+    size_t i;
+
+    for (i = 0; i < c->answer.nsuppvars; i++) {
+        uint32_t id = numbers_of(c, LOAD_IDS)[i], ordered = numbers_of(c, LOAD_ORDER)[i];
+
+        if (id >= e->order_len || e->order[id] != numbers_of(c, LOAD_PERMIDS)[i])
+            return 0;
+        if (ordered >= e->order_len || e->order[ordered] != c->list[i])
+            return 0;
+    }
+    return 1;
+}
+
+static int has_counts(const struct load *c, size_t variables, size_t support, size_t roots)
+{
+    return c->answer.nvars == variables && c->answer.nsuppvars == support && c->answer.nroots == roots;
+}
+
+void hold_header_back(const struct export *e, const struct store *s)
 {
     uint16_t *list = room(s->levels * sizeof *list);
     size_t list_len = reached_levels(s, e->roots, e->roots_len, list);
@@ -79,8 +112,8 @@ static void hold_header_back(const struct export *e, const struct store *s)
 
     call_load(&c, &copy);
     holds(c.answer.ascii == (e->text != 0) && c.answer.varinfo == 4, "the mode is the one that was asked for");
-    holds(c.answer.nvars == s->levels && c.answer.nsuppvars == list_len, "there are as many variables, and support variables");
-    if (e->names.ddlen != 0 && c.answer.nvars == s->levels && c.answer.nroots == e->roots_len)
+    if (holds(has_counts(&c, s->levels, list_len, e->roots_len), "there are as many variables, support variables and roots")
+        && holds(has_support(e, &c), "the support variables are those of the levels that the roots lead to"))
         hold_names(e, &c);
     done_with(&c);
     drop_store(&copy);
@@ -197,7 +230,7 @@ static void read_answers(const struct load_vector *v, size_t r, char *to)
 
 static void load_another(const struct load_vector *v, struct store *s, struct seen *seen, size_t *count)
 {
-    struct load c = load_of(v->file.at, v->file.len, v->list, v->list_len, v->scratch);
+    struct load c = load_of(v->file.at, v->file.len, v->list, v->list_len, v->lens[LOAD_EDGES]);
     size_t r;
 
     call_load(&c, s);

@@ -16,21 +16,28 @@ static size_t width_of(enum load_part part)
     }
 }
 
+void fit_outputs(size_t *lens, size_t scratch)
+{
+    size_t p;
+
+    memset(lens, 0, LOAD_PARTS * sizeof *lens);
+    for (p = LOAD_IDS; p <= LOAD_LENS; p++)
+        lens[p] = ZT_VARIABLE_ENTRIES;
+    for (p = LOAD_ROOTS; p <= LOAD_ROOTLENS; p++)
+        lens[p] = ZT_ROOT_ENTRIES;
+    lens[LOAD_EDGES] = lens[LOAD_SEATS] = scratch;
+}
+
 struct load load_of(const void *file, size_t file_len, const uint16_t *list, size_t list_len, size_t scratch)
 {
     struct load c;
-    size_t p;
 
     memset(&c, 0, sizeof c);
     c.file = file;
     c.file_len = file_len;
     c.list = list;
     c.list_len = list_len;
-    for (p = LOAD_IDS; p <= LOAD_LENS; p++)
-        c.lens[p] = ZT_VARIABLE_ENTRIES;
-    for (p = LOAD_ROOTS; p <= LOAD_ROOTLENS; p++)
-        c.lens[p] = ZT_ROOT_ENTRIES;
-    c.lens[LOAD_EDGES] = c.lens[LOAD_SEATS] = scratch;
+    fit_outputs(c.lens, scratch);
     return c;
 }
 

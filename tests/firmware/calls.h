@@ -33,7 +33,10 @@ struct load {
     struct lent parts[LOAD_PARTS];
 };
 
-/* A load with outputs of just the length that is asked for, and so many entries of scratch. */
+/* Lengths by `enum load_part`: outputs that are just long enough, and so many entries of scratch. The others are 0. */
+void fit_outputs(size_t *lens, size_t scratch);
+
+/* A load with such outputs and scratch. */
 struct load load_of(const void *file, size_t file_len, const uint16_t *list, size_t list_len, size_t scratch);
 
 /* Makes the call; the store is as the call leaves it. `done_with` gives the load's parts back. */

@@ -11,7 +11,7 @@ extern const char *vectors;
 /* Where the inputs of docs/DIFFERENCES.md are. */
 extern const char *differences;
 
-/* vectors.c: the stored cases, and changed ones, which must be noticed */
+/* vectors.c: the stored cases in tables, and changed ones, which must be noticed */
 void try_loads(void);
 void try_differences(void);
 void try_stores(void);
@@ -25,9 +25,8 @@ struct load_vector {
     struct store before;
     uint16_t *list;
     size_t list_len;
-    size_t scratch;
-    /* a list that is one entry too short, or LOAD_PARTS for none */
-    enum load_part too_short;
+    /* the lengths of the outputs and of the scratch */
+    size_t lens[LOAD_PARTS];
     /* what the load must give */
     unsigned refusal;
     size_t line;
@@ -44,6 +43,28 @@ void drop_load(struct load_vector *v);
 int has_answers(const struct load_vector *v);
 void setting_of(size_t k, size_t levels, uint8_t *setting);
 
+/* vectors.c: makes a stored load, and holds it to what is stored */
+void hold_load(const struct load_vector *v);
+
+/* replay_loads.c, replay_exports.c: the stored cases in binary files, and falsified ones */
+void try_stored_loads(void);
+void try_stored_exports(void);
+
+/* exports.c: stored exports, as other groups use them */
+struct export_vector {
+    struct store store;
+    zt_edge *roots;
+    uint16_t *order;
+    struct export call;
+    /* what the export must give */
+    unsigned refusal;
+    struct bytes file;
+};
+
+/* Reads the cases of `export.tsv`; 0 after the last one. */
+int next_export(struct table *t, struct export_vector *v);
+void drop_export(struct export_vector *v);
+
 /* back.c */
 void try_reading_back(void);
 void try_one_store(void);
@@ -51,6 +72,9 @@ void try_full_store(void);
 
 /* Loads a file into a copy of its store, at the levels of its nodes, and holds that to the roots. */
 void hold_back(const struct store *s, const zt_edge *roots, size_t roots_len, const void *file, size_t len);
+
+/* Loads the file that an export wrote likewise, and holds its header to what was exported. */
+void hold_header_back(const struct export *e, const struct store *s);
 
 /* refusals.c */
 void try_refusals(void);

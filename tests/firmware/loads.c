@@ -40,8 +40,7 @@ static void read_load(char **column, struct load_vector *v)
 {
     v->before = empty_store((uint16_t)number_in(column[1]), (size_t)number_in(column[3]));
     v->list = unsigned_list(column[2], &v->list_len);
-    v->scratch = ZT_MOST_NODES;
-    v->too_short = LOAD_PARTS;
+    fit_outputs(v->lens, ZT_MOST_NODES);
     v->refusal = (unsigned)number_in(column[4]);
     v->line = (size_t)number_in(column[5]);
     v->roots = signed_list(column[6], &v->roots_len);
@@ -74,8 +73,9 @@ static void read_room(char **column, size_t line, struct load_vector *v)
 
     v->before = store_in(column + 1);
     v->list = unsigned_list(column[9], &v->list_len);
-    v->scratch = (size_t)number_in(column[10]);
-    v->too_short = strcmp(column[11], "short") == 0 ? (enum load_part)(LOAD_IDS + line % lists) : LOAD_PARTS;
+    fit_outputs(v->lens, (size_t)number_in(column[10]));
+    if (strcmp(column[11], "short") == 0)
+        v->lens[LOAD_IDS + line % lists]--;
     v->refusal = (unsigned)number_in(column[12]);
     v->line = (size_t)number_in(column[13]);
     v->roots = signed_list(column[14], &v->roots_len);

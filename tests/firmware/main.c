@@ -1,11 +1,12 @@
 /*
  * The library for C, held to document 01 through its header file.
  *
- *     firmware [-e] [-d DAMAGED] VECTORS DIFFERENCES
+ *     firmware [-e] [-d DAMAGED] [-s STEP] VECTORS DIFFERENCES
  *
  * VECTORS is the folder of the stored cases, DIFFERENCES that of the inputs of docs/DIFFERENCES.md. -e gives each part memory of its own
- * size, for a run under a tool that watches memory, and leaves out the changed cases, which make the same calls again; -d sets the number
- * of stores that are damaged. The status is 0 where nothing failed.
+ * size, for a run under a tool that watches memory, and leaves out the changed and the falsified cases, which make the same calls again;
+ * -d sets the number of stores that are damaged; -s leaves out all but each STEP-th case of the binary files. The status is 0 where nothing
+ * failed.
  */
 #include <stdio.h>
 #include <stdlib.h>
@@ -13,6 +14,7 @@
 
 #include "groups.h"
 #include "report.h"
+#include "stored.h"
 
 static size_t count_in(const char *text)
 {
@@ -36,6 +38,8 @@ static void try_all(size_t damaged)
     try_stores();
     try_evaluations();
     try_exports();
+    try_stored_loads();
+    try_stored_exports();
     try_reading_back();
     try_one_store();
     try_full_store();
@@ -54,11 +58,13 @@ int main(int argc, char **argv)
             exact = 1;
         else if (strcmp(argv[i], "-d") == 0 && i + 3 < argc)
             damaged = count_in(argv[++i]);
+        else if (strcmp(argv[i], "-s") == 0 && i + 3 < argc)
+            step = count_in(argv[++i]);
         else
             stop("an option isn't known");
     }
     if (i + 1 >= argc)
-        stop("usage: firmware [-e] [-d DAMAGED] VECTORS DIFFERENCES");
+        stop("usage: firmware [-e] [-d DAMAGED] [-s STEP] VECTORS DIFFERENCES");
     vectors = argv[i];
     differences = argv[i + 1];
     try_all(damaged);

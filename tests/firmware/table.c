@@ -6,15 +6,32 @@
 
 #include "report.h"
 
+enum { MOST_PATH = 1000 };
+
+static void join(const char *folder, const char *name, char *path)
+{
+    if (snprintf(path, MOST_PATH, "%s/%s", folder, name) >= MOST_PATH)
+        stop("a path is too long");
+}
+
+int is_there(const char *folder, const char *name)
+{
+    char path[MOST_PATH];
+    FILE *f;
+
+    join(folder, name, path);
+    f = fopen(path, "rb");
+    return f != NULL && fclose(f) == 0;
+}
+
 struct bytes read_bytes(const char *folder, const char *name)
 {
-    char path[1000];
+    char path[MOST_PATH];
     struct bytes b;
     FILE *f;
     long end = 0;
 
-    if (snprintf(path, sizeof path, "%s/%s", folder, name) >= (int)sizeof path)
-        stop("a path is too long");
+    join(folder, name, path);
     f = fopen(path, "rb");
     if (f == NULL || fseek(f, 0, SEEK_END) != 0 || (end = ftell(f)) < 0 || fseek(f, 0, SEEK_SET) != 0)
         stop(path);

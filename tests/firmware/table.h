@@ -16,6 +16,7 @@ struct bytes {
 };
 
 struct bytes read_bytes(const char *folder, const char *name);
+int is_there(const char *folder, const char *name);
 
 /* A table that is read line by line. */
 struct table {

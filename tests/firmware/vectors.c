@@ -1,4 +1,4 @@
-/* The stored cases, held to what the calls give; and changed cases, which must be noticed. */
+/* The stored cases of the tables, held to what the calls give; and changed cases, which must be noticed. */
 #include <stdlib.h>
 #include <string.h>
 
@@ -7,6 +7,18 @@
 
 const char *vectors = "tests/vectors";
 const char *differences = "tests/differences";
+
+/* The edge 1 answers yes in every store that keeps the rules; of another one an evaluation says 3. */
+static void hold_store_of_evaluation(const struct store *s, unsigned refusal)
+{
+    uint8_t *setting = room(s->levels);
+    struct zt_evaluate_answer a;
+
+    memset(setting, 0, s->levels);
+    a = call_evaluate(s, 1, setting, s->levels);
+    holds(a.refusal == refusal && a.answer == (refusal == 0), "an evaluation says what is stored of a store");
+    free(setting);
+}
 
 /* Loads */
 
@@ -40,17 +52,18 @@ static void hold_roots(const struct load_vector *v, const struct load *c, const 
     }
 }
 
-static void hold_load(const struct load_vector *v)
+void hold_load(const struct load_vector *v)
 {
     struct store s = copy_of(&v->before);
-    struct load c = load_of(v->file.at, v->file.len, v->list, v->list_len, v->scratch);
+    struct load c = load_of(v->file.at, v->file.len, v->list, v->list_len, 0);
 
-    if (v->too_short != LOAD_PARTS)
-        c.lens[v->too_short]--;
+    memcpy(c.lens, v->lens, sizeof c.lens);
     call_load(&c, &s);
     holds(c.answer.refusal == v->refusal, "the refusal is the stored one");
     holds(c.answer.line == v->line, "the line is the stored one");
     holds(same_store(&s, &v->after), "the store is the stored one");
+    if (c.answer.refusal == 0)
+        hold_store_of_evaluation(&s, 0);
     if (c.answer.refusal == 0 && v->refusal == 0)
         hold_roots(v, &c, &s);
     done_with(&c);
@@ -85,17 +98,6 @@ void try_differences(void)
 /* Stores: each call says 3 of a store that breaks its rules, and of no other */
 
 enum { STORE_COLUMNS = 9 };
-
-static void hold_store_of_evaluation(const struct store *s, unsigned refusal)
-{
-    uint8_t *setting = room(s->levels);
-    struct zt_evaluate_answer a;
-
-    memset(setting, 0, s->levels);
-    a = call_evaluate(s, 1, setting, s->levels);
-    holds(a.refusal == refusal && a.answer == (refusal == 0), "an evaluation says what is stored of a store");
-    free(setting);
-}
 
 static uint16_t *levels_in_order(size_t levels)
 {
@@ -207,73 +209,6 @@ void try_evaluations(void)
 }
 
 /* Exports */
-
-enum { EXPORT_COLUMNS = 19 };
-
-struct export_vector {
-    struct store store;
-    zt_edge *roots;
-    uint16_t *order;
-    struct export call;
-    unsigned refusal;
-    struct bytes file;
-};
-
-/* Adds the names of a column by the function for their kind. */
-static void add_names(struct names *n, const char *column, void (*add)(struct names *, const void *, size_t))
-{
-    size_t count = entries_in(column), i;
-
-    for (i = 0; i < count; i++) {
-        size_t digits = strcspn(column, ",");
-        struct bytes name = bytes_in(column, digits);
-
-        add(n, name.at, name.len);
-        free(name.at);
-        column += i + 1 < count ? digits + 1 : 0;
-    }
-}
-
-static struct names names_in(char **column)
-{
-    size_t bytes = strlen(column[0]) + strlen(column[1]) + strlen(column[2]);
-    struct names n = room_for_names(bytes, entries_in(column[0]), entries_in(column[1]));
-
-    add_names(&n, column[0], name_variable);
-    add_names(&n, column[1], name_root);
-    if (strcmp(column[2], "-") != 0)
-        add_names(&n, column[2], name_diagram);
-    return n;
-}
-
-static int next_export(struct table *t, struct export_vector *v)
-{
-    size_t roots_len, order_len;
-
-    if (!next_line(t, EXPORT_COLUMNS, EXPORT_COLUMNS))
-        return 0;
-    v->store = store_in(t->columns);
-    v->roots = signed_list(t->columns[8], &roots_len);
-    v->order = unsigned_list(t->columns[9], &order_len);
-    v->call = export_of(&v->store, v->roots, roots_len, v->order, order_len);
-    v->call.text = *t->columns[10] == 'A';
-    v->call.version = *t->columns[11] == '3';
-    v->call.names = names_in(t->columns + 12);
-    v->call.out_len = (size_t)number_in(t->columns[15]);
-    v->call.slots_len = v->call.numbers_len = (size_t)number_in(t->columns[16]);
-    v->refusal = (unsigned)number_in(t->columns[17]);
-    v->file = bytes_in(t->columns[18], strlen(t->columns[18]));
-    return 1;
-}
-
-static void drop_export(struct export_vector *v)
-{
-    drop_store(&v->store);
-    drop_names(&v->call.names);
-    free(v->roots);
-    free(v->order);
-    free(v->file.at);
-}
 
 /* A line of a file: the bytes up to LF, and where the next one starts. */
 static struct bytes line_at(const struct bytes *f, size_t *at)

@@ -1,5 +1,5 @@
 #!/usr/bin/env python3
-"""Makes the stored cases of the program `vectors_nodes`.
+"""Makes the stored loads, tests/vectors/loads, which tests/firmware replays.
 
     python3 make_cases.py LOAD ROOM FILES OUTDIR
 
@@ -15,8 +15,8 @@ ROOM: the file; a store in eight columns: level count, count, the slot lists lev
 that aren't 0 as `bucket:head`; the level list; the length of each scratch list; `short` where a variable or root list is too short, else
 `long`; the refusal and its line; the roots; for an accepted file the store afterwards: count, level, then, else, next, heads.
 
-The script works out the links and heads that the nodes of a store have by document 01, and stops where ROOM has others; so the program,
-which tests the rules of the store that a load leaves, sees each link and head too.
+The script works out the links and heads that the nodes of a store have by document 01, and stops where ROOM has others; so the replay,
+which works them out from the stored nodes, holds each link and head too.
 
 The files:
 

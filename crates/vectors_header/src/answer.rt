@@ -1,6 +1,6 @@
 // Stored answers: numbers of 32 bits, lowest byte first. A refusal and its line; or 0 and the header's numbers, then each list as the
 // number of its entries and these. Where an answer ends, the lists that follow have no entries.
-ghost use Prim.Native.Nat.{_+_, _≤_};
+ghost use Prim.Native.Nat.{_≤_};
 ghost use lib.ListN.{length};
 use codes::VarInfo;
 use header::load::DumpHeader;
@@ -13,13 +13,6 @@ const HEADER: usize = 44;
 
 fn wide(b: u8) -> u64 {
     b as u64
-}
-
-// The number that the four bytes from a position on hold.
-pub fn number(s: &[u8], at: usize) -> u64
-    requires { ⌜ at + 4 ≤ length (now s) ⌝ }
-{
-    wide(s[at]) | (wide(s[at + 1]) << 8) | (wide(s[at + 2]) << 16) | (wide(s[at + 3]) << 24)
 }
 
 fn varinfo_number(v: VarInfo) -> u64 {
@@ -42,23 +35,23 @@ fn has_kind(stored: &[u8], h: DumpHeader) -> bool
 {
     let varinfo = h.varinfo;
     let dd = h.dd;
-    number(stored, 0) == 0
-        && number(stored, 4) == bool_number(h.ascii)
-        && number(stored, 8) == varinfo_number(varinfo)
-        && number(stored, 12) == dd.start as u64
-        && number(stored, 16) == dd.len as u64
+    replay::four(stored, 0) == 0
+        && replay::four(stored, 4) == bool_number(h.ascii)
+        && replay::four(stored, 8) == varinfo_number(varinfo)
+        && replay::four(stored, 12) == dd.start as u64
+        && replay::four(stored, 16) == dd.len as u64
 }
 
 // Whether a header has the stored counts.
 fn has_counts(stored: &[u8], h: DumpHeader) -> bool
     requires { ⌜ 44 ≤ length (now stored) ⌝ }
 {
-    number(stored, 20) == h.nnodes
-        && number(stored, 24) == h.nvars as u64
-        && number(stored, 28) == h.nsuppvars as u64
-        && number(stored, 32) == h.nroots
-        && number(stored, 36) == h.next as u64
-        && number(stored, 40) == h.lines as u64
+    replay::four(stored, 20) == h.nnodes
+        && replay::four(stored, 24) == h.nvars as u64
+        && replay::four(stored, 28) == h.nsuppvars as u64
+        && replay::four(stored, 32) == h.nroots
+        && replay::four(stored, 36) == h.next as u64
+        && replay::four(stored, 40) == h.lines as u64
 }
 
 fn after_header(stored: &[u8], h: DumpHeader) -> usize {
@@ -75,7 +68,7 @@ fn after_refusal(stored: &[u8], n: u8, line: usize) -> usize {
     if stored.len() < REFUSAL {
         return 0;
     }
-    if number(stored, 0) == wide(n) && number(stored, 4) == line as u64 {
+    if replay::four(stored, 0) == wide(n) && replay::four(stored, 4) == line as u64 {
         return REFUSAL;
     }
     0
@@ -104,7 +97,7 @@ fn after_entries(stored: &[u8], from: usize, entries: &[u32]) -> usize {
         if stored.len() - 4 < at {
             return 0;
         }
-        if number(stored, at) != wide_entry(entries[i]) {
+        if replay::four(stored, at) != wide_entry(entries[i]) {
             return 0;
         }
         at += 4;
@@ -149,7 +142,7 @@ pub fn after_list(stored: &[u8], from: usize, list: &[u32]) -> usize {
     if stored.len() - 4 < from {
         return 0;
     }
-    after_counted(stored, from + 4, number(stored, from) as usize, list)
+    after_counted(stored, from + 4, replay::four(stored, from) as usize, list)
 }
 
 // Whether an answer ends at a position that isn't 0.

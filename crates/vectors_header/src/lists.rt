@@ -21,12 +21,8 @@ fn cut(head: &[u8; 27], at: usize, most: usize) -> usize
     requires { ⌜ at + 2 ≤ 27 ⌝ }
     ensures { λ r. ⌜ r ≤ most ⌝ }
 {
-    let n = wide(head[at]) | (wide(head[at + 1]) << 8);
+    let n = replay::two(head, at) as usize;
     if n < most { n } else { most }
-}
-
-fn wide(b: u8) -> usize {
-    b as usize
 }
 
 fn pattern(e: Edge) -> u32 {

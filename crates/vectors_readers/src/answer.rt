@@ -1,25 +1,6 @@
 // Stored answers: a byte, the refusal or 0, then numbers of 64 bits, lowest byte first.
-ghost use Prim.Native.Nat.{_+_, _≤_};
-ghost use lib.ListN.{length};
+ghost use Prim.Native.Nat.{_≤_};
 use readers::lists::Count;
-
-fn wide(b: u8) -> u64 {
-    b as u64
-}
-
-// The number that the four bytes from a position on hold.
-pub fn half(s: &[u8], at: usize) -> u64
-    requires { ⌜ at + 4 ≤ length (now s) ⌝ }
-{
-    wide(s[at]) | (wide(s[at + 1]) << 8) | (wide(s[at + 2]) << 16) | (wide(s[at + 3]) << 24)
-}
-
-// The number that the eight bytes from a position on hold.
-pub fn number(s: &[u8], at: usize) -> u64
-    requires { ⌜ at + 8 ≤ length (now s) ⌝ }
-{
-    half(s, at) | (half(s, at + 4) << 32)
-}
 
 // Whether an answer is just this refusal.
 pub fn is_refusal(stored: &[u8], k: u8) -> bool {
@@ -33,7 +14,7 @@ pub fn is_refusal(stored: &[u8], k: u8) -> bool {
 pub fn has_value(stored: &[u8], v: u64) -> bool {
     if 9 <= stored.len() {
         if stored[0] == 0 {
-            return number(stored, 1) == v;
+            return replay::eight(stored, 1) == v;
         }
     }
     false
@@ -50,7 +31,7 @@ pub fn is_value(stored: &[u8], v: u64) -> bool {
 pub fn is_pair(stored: &[u8], v: u64, w: u64) -> bool {
     if stored.len() == 17 {
         if has_value(stored, v) {
-            return number(stored, 9) == w;
+            return replay::eight(stored, 9) == w;
         }
     }
     false
@@ -59,8 +40,8 @@ pub fn is_pair(stored: &[u8], v: u64, w: u64) -> bool {
 pub fn has_triple(stored: &[u8], v: u64, w: u64, x: u64) -> bool {
     if 25 <= stored.len() {
         if has_value(stored, v) {
-            if number(stored, 9) == w {
-                return number(stored, 17) == x;
+            if replay::eight(stored, 9) == w {
+                return replay::eight(stored, 17) == x;
             }
         }
     }
@@ -112,7 +93,7 @@ pub fn after_u32_list(stored: &[u8], from: usize, list: &[u32]) -> usize {
         if stored.len() - 8 < at {
             return 0;
         }
-        if number(stored, at) != wide_entry(list[i]) {
+        if replay::eight(stored, at) != wide_entry(list[i]) {
             return 0;
         }
         at += 8;
@@ -143,7 +124,7 @@ pub fn after_edge_list(stored: &[u8], from: usize, list: &[i64]) -> usize {
         if stored.len() - 8 < at {
             return 0;
         }
-        if !is_edge(number(stored, at), list[i]) {
+        if !is_edge(replay::eight(stored, at), list[i]) {
             return 0;
         }
         at += 8;
@@ -156,8 +137,8 @@ pub fn after_edge_list(stored: &[u8], from: usize, list: &[i64]) -> usize {
 pub fn is_edge_pair(stored: &[u8], n: usize, a: i64, b: i64) -> bool {
     if stored.len() == 25 {
         if has_value(stored, n as u64) {
-            if is_edge(number(stored, 9), a) {
-                return is_edge(number(stored, 17), b);
+            if is_edge(replay::eight(stored, 9), a) {
+                return is_edge(replay::eight(stored, 17), b);
             }
         }
     }

@@ -1,12 +1,11 @@
 // One case: which reader, its arguments, its input and its answer.
 ghost use Prim.Native.Nat.{_+_, _≤_};
-use crate::answer;
 
 // The number of 32 bits at a position of a case's head.
 pub fn field(head: &[u8; 21], at: usize) -> usize
     requires { ⌜ at + 4 ≤ 21 ⌝ }
 {
-    answer::half(head, at) as usize
+    replay::four(head, at) as usize
 }
 
 // The lowest eight bits of an argument that is a byte.

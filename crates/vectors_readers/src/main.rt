@@ -9,42 +9,8 @@ mod lists;
 mod numbers;
 mod texts;
 
-// What came of one case, or why there is none.
-enum Outcome {
-    Same,
-    Differs,
-    NoMore,
-    Cut,
-}
-
-// How many cases a file has, how many differ, and whether the file ends with its last case.
-struct Tally {
-    cases: u64,
-    differ: u64,
-    whole: bool,
-}
-
-// More cases than any file has, so that counting ends.
-const MOST: u64 = 10000000;
-
-// Reads n bytes to the start of buf; false where the file has fewer, or buf is too short.
-fn load(fd: i32, buf: &mut [u8], n: usize) -> bool {
-    if n <= buf.len() {
-        return io::read_full(fd, &mut buf[..n]) == n;
-    }
-    false
-}
-
-fn compared(head: &[u8; 21], input: &[u8], n: usize, stored: &[u8], m: usize) -> Outcome {
-    if n <= input.len() {
-        if m <= stored.len() {
-            if case::agrees(head, &input[..n], &stored[..m]) {
-                return Outcome::Same;
-            }
-        }
-    }
-    Outcome::Differs
-}
+use replay::Outcome;
+use replay::Tally;
 
 // What follows a head. A case whose head asks for more bytes than the file has left, or than there is room for, isn't whole.
 fn after_head(fd: i32, head: &[u8; 21]) -> Outcome {
@@ -52,12 +18,13 @@ fn after_head(fd: i32, head: &[u8; 21]) -> Outcome {
     let m = case::field(head, 17);
     let mut input = io::large_buffer();
     let mut stored = [0u8; 70000];
-    if load(fd, &mut input, n) {
-        if load(fd, &mut stored, m) {
-            return compared(head, &input, n, &stored, m);
-        }
+    let a = replay::fetch(fd, &mut input, n);
+    let b = replay::fetch(fd, &mut stored, m);
+    if a == n && b == m {
+        replay::compared(case::agrees(head, &input[..a], &stored[..b]))
+    } else {
+        Outcome::Cut
     }
-    Outcome::Cut
 }
 
 fn one(fd: i32) -> Outcome {
@@ -73,71 +40,20 @@ fn one(fd: i32) -> Outcome {
 }
 
 fn run(fd: i32) -> Tally {
-    let mut cases: u64 = 0;
-    let mut differ: u64 = 0;
-    while cases < MOST {
-        match one(fd) {
-            Outcome::Same => {
-                cases += 1;
-            }
-            Outcome::Differs => {
-                cases += 1;
-                differ += 1;
-            }
-            Outcome::NoMore => {
-                return Tally {
-                    cases,
-                    differ,
-                    whole: true,
-                };
-            }
-            Outcome::Cut => {
-                return Tally {
-                    cases,
-                    differ,
-                    whole: false,
-                };
-            }
-        }
+    let mut t = Tally::new();
+    let mut left = replay::MOST;
+    while left > 0 && !t.ended {
+        t = t.after(one(fd));
+        left -= 1;
     }
-    Tally {
-        cases,
-        differ,
-        whole: false,
-    }
-}
-
-// A number of cases, and what is to be said of them.
-fn print_count(n: u64, what: &[u8]) {
-    io::print_decimal(1, n);
-    io::write_all(1, what);
-}
-
-fn report(t: Tally) {
-    if t.whole {
-        print_count(t.cases, b" cases, ");
-        print_count(t.differ, b" differ\n");
-    } else {
-        print_count(t.cases, b" cases, then cut off\n");
-    }
-}
-
-fn run_file(name: &[u8]) {
-    io::write_all(1, name);
-    io::write_all(1, b": ");
-    let fd = os::open_read(name);
-    if fd < 0 {
-        io::write_all(1, b"can't be opened\n");
-        return;
-    }
-    report(run(fd));
-    libc::close(fd);
+    t
 }
 
 fn run_argument(i: usize) {
-    let mut name = io::buffer();
-    let n = os::arg(i, &mut name);
-    run_file(&name[..n]);
+    let fd = replay::open(i);
+    if fd >= 0 {
+        replay::close(fd, run(fd));
+    }
 }
 
 fn main() {

@@ -80,8 +80,8 @@ pub fn classes(b: u8, stored: &[u8]) -> bool {
             bit(codes::is_digit(b)),
             bit(codes::is_line_end(b)),
         ) {
-            if answer::number(stored, 25) == bit(codes::is_whitespace(b)) {
-                return answer::number(stored, 33) == bit(codes::is_control(b));
+            if replay::eight(stored, 25) == bit(codes::is_whitespace(b)) {
+                return replay::eight(stored, 33) == bit(codes::is_control(b));
             }
         }
     }
@@ -105,7 +105,7 @@ pub fn limit_values(stored: &[u8]) -> bool {
             limits::ROOT_LIMIT as u64,
             limits::NODE_LIMIT as u64,
         ) {
-            return answer::number(stored, 25) == limits::INPUT_LIMIT as u64;
+            return replay::eight(stored, 25) == limits::INPUT_LIMIT as u64;
         }
     }
     false

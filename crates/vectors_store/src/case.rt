@@ -2,27 +2,20 @@
 ghost use Prim.Native.Nat.{_+_, _≤_};
 use crate::change;
 use evaluation::Evaluation;
+use replay::Outcome;
 
-// What came of one case, or why there is none.
-pub enum Outcome {
-    Same,
-    Differs,
-    NoMore,
-    Cut,
-}
-
-// The number that the two bytes from a position on hold, lowest first.
+// The number of two bytes at a position of a case's head.
 fn field(head: &[u8; 23], at: usize) -> u16
     requires { ⌜ at + 2 ≤ 23 ⌝ }
 {
-    change::pair(head[at], head[at + 1])
+    replay::two(head, at) as u16
 }
 
 fn length(head: &[u8; 23], at: usize) -> usize
     requires { ⌜ at + 2 ≤ 23 ⌝ }
     ensures { λ r. ⌜ r ≤ 65535 ⌝ }
 {
-    change::size(field(head, at))
+    replay::two(head, at) as usize
 }
 
 // Whether a refusal and an answer are the stored ones. An answer of yes is 1, and all else 0.
@@ -157,16 +150,20 @@ fn with_then(head: &[u8; 23], lists: &[u16], setting: &[u8]) -> bool {
     false
 }
 
-fn compared(head: &[u8; 23], lists: &[u16], setting: &[u8], n: usize) -> Outcome {
-    if n <= setting.len() {
-        if with_then(head, lists, &setting[..n]) {
-            return Outcome::Same;
+// What follows a head. A case whose head says more than the file has left, or than there is room for, isn't whole.
+fn after_head(fd: i32, head: &[u8; 23], lists: &mut [u16]) -> Outcome {
+    let mut setting = io::large_buffer();
+    let n = length(head, 17);
+    if change::change(fd, field(head, 19), lists) {
+        let got = replay::fetch(fd, &mut setting, n);
+        if got == n {
+            return replay::compared(with_then(head, lists, &setting[..got]));
         }
     }
-    Outcome::Differs
+    Outcome::Cut
 }
 
-// A case whose head says more than the file has left, or than there is room for, isn't whole.
+// The next case. `lists` is the store of the case before.
 pub fn one(fd: i32, lists: &mut [u16]) -> Outcome {
     let mut head = [0u8; 23];
     let got = io::read_full(fd, &mut head);
@@ -176,12 +173,5 @@ pub fn one(fd: i32, lists: &mut [u16]) -> Outcome {
     if got < 23 {
         return Outcome::Cut;
     }
-    let mut setting = io::large_buffer();
-    let n = length(&head, 17);
-    if change::change(fd, field(&head, 19), lists) {
-        if change::load(fd, &mut setting, n) {
-            return compared(&head, lists, &setting, n);
-        }
-    }
-    Outcome::Cut
+    after_head(fd, &head, lists)
 }

@@ -15,27 +15,10 @@ pub const HEADS: usize = 131200;
 
 pub const ROOM: usize = 131500;
 
-// Reads n bytes to the start of buf; false where the file has fewer, or buf is too short.
-pub fn load(fd: i32, buf: &mut [u8], n: usize) -> bool {
-    if n <= buf.len() {
-        return io::read_full(fd, &mut buf[..n]) == n;
-    }
-    false
-}
-
-fn wide(b: u8) -> u16 {
-    b as u16
-}
-
-// The number of two bytes, lowest first.
-pub fn pair(low: u8, high: u8) -> u16 {
-    wide(low) | (wide(high) << 8)
-}
-
-pub fn size(x: u16) -> usize
-    ensures { λ r. ⌜ r ≤ 65535 ⌝ }
+fn wide(b: u8) -> usize
+    ensures { λ r. ⌜ r ≤ 255 ⌝ }
 {
-    x as usize
+    b as usize
 }
 
 // The numbers that the bytes hold, as far as there are any.
@@ -45,7 +28,7 @@ fn put(bytes: &[u8], list: &mut [u16]) {
         if bytes.len() / 2 <= i {
             return;
         }
-        list[i] = pair(bytes[2 * i], bytes[2 * i + 1]);
+        list[i] = replay::two(bytes, 2 * i) as u16;
         i += 1;
     }
 }
@@ -64,26 +47,17 @@ fn put_from(bytes: &[u8], list: &mut [u16], start: usize) -> bool {
     true
 }
 
-fn put_first(bytes: &[u8], n: usize, list: &mut [u16], start: usize) -> bool {
-    if n <= bytes.len() {
-        return put_from(&bytes[..n], list, start);
-    }
-    false
-}
-
 // A stretch is where it starts, in three bytes, how many numbers it has, in two, and these. False where the file ends before.
 fn stretch(fd: i32, list: &mut [u16]) -> bool {
     let mut head = [0u8; 5];
     if io::read_full(fd, &mut head) < 5 {
         return false;
     }
-    let start = size(pair(head[0], head[1])) | (size(pair(head[2], 0)) << 16);
-    let n = 2 * size(pair(head[3], head[4]));
+    let start = replay::two(&head, 0) as usize + 65536 * wide(head[2]);
+    let n = 2 * replay::two(&head, 3) as usize;
     let mut bytes = [0u8; ROOM];
-    if load(fd, &mut bytes, n) {
-        return put_first(&bytes, n, list, start);
-    }
-    false
+    let got = replay::fetch(fd, &mut bytes, n);
+    got == n && put_from(&bytes[..got], list, start)
 }
 
 // Makes as many changes.

@@ -5,83 +5,24 @@
 mod case;
 mod change;
 
-use case::Outcome;
-
-// How many cases a file has, how many differ, and whether the file ends with its last case.
-struct Tally {
-    cases: u64,
-    differ: u64,
-    whole: bool,
-}
-
-// More cases than any file has: the count ends.
-const MOST: u64 = 10000000;
+use replay::Tally;
 
 fn run(fd: i32) -> Tally {
     let mut lists = [0u16; change::ROOM];
-    let mut cases: u64 = 0;
-    let mut differ: u64 = 0;
-    while cases < MOST {
-        match case::one(fd, &mut lists) {
-            Outcome::Same => {
-                cases += 1;
-            }
-            Outcome::Differs => {
-                cases += 1;
-                differ += 1;
-            }
-            Outcome::NoMore => {
-                return Tally {
-                    cases,
-                    differ,
-                    whole: true,
-                };
-            }
-            Outcome::Cut => {
-                return Tally {
-                    cases,
-                    differ,
-                    whole: false,
-                };
-            }
-        }
+    let mut t = Tally::new();
+    let mut left = replay::MOST;
+    while left > 0 && !t.ended {
+        t = t.after(case::one(fd, &mut lists));
+        left -= 1;
     }
-    Tally {
-        cases,
-        differ,
-        whole: false,
-    }
-}
-
-fn report(t: Tally) {
-    if t.whole {
-        io::write_all(1, b": ");
-        io::print_decimal(1, t.cases);
-        io::write_all(1, b" cases, ");
-        io::print_decimal(1, t.differ);
-        io::write_all(1, b" differ\n");
-    } else {
-        io::write_all(1, b": cut off after ");
-        io::print_decimal(1, t.cases);
-        io::write_all(1, b" cases\n");
-    }
-}
-
-fn run_file(name: &[u8]) {
-    io::write_all(1, name);
-    let fd = os::open_read(name);
-    if fd < 0 {
-        io::write_all(1, b": can't be opened\n");
-        return;
-    }
-    report(run(fd));
-    libc::close(fd);
+    t
 }
 
 fn run_argument(i: usize) {
-    let mut name = io::buffer();
-    let n = os::arg(i, &mut name);
-    run_file(&name[..n]);
+    let fd = replay::open(i);
+    if fd >= 0 {
+        replay::close(fd, run(fd));
+    }
 }
 
 fn main() {

@@ -1,16 +1,18 @@
--- `run` is safe and ends: the list keeps its length, no more cases differ than there are, and there are at most 10,000,000.
+-- `run` is safe and ends: the list keeps its length, and one turn fewer is left after each.
 use mathlib.Core.Path.{_≡_}
-use Prim.Native.Nat.{_-_, _≤_}
 use lib.ListN.{length}
 use borrow.Author.Needs.{needs}
 use Rattle.vectors_store.proofs.run.Statement.{statement}
 use Rattle.vectors_store.proofs.run.Tie as tie
 
 abbrev Inv-loop : tie.InvT-loop
-Inv-loop fd lists₀ cases₀ differ₀ lists cases differ = (cases ≤ 10000000) × ((differ ≤ cases) × (131500 ≡ length lists))
+Inv-loop fd lists₀ t₀ left₀ lists t left = 131500 ≡ length lists
 
 abbrev μ-loop : tie.MeasureT-loop
-μ-loop fd lists₀ cases₀ differ₀ lists cases differ = 10000000 - cases
+μ-loop fd lists₀ t₀ left₀ lists t left = left
+
+new-requires : tie.Need-new-requires Inv-loop μ-loop
+new-requires c κs = search needs
 
 loop-holds : tie.Need-loop-holds Inv-loop μ-loop
 loop-holds c = search needs
@@ -21,11 +23,11 @@ slice-aggregate-one c = search needs
 one-requires : tie.Need-one-requires Inv-loop μ-loop
 one-requires c κs = search needs
 
-enum-told : tie.Need-enum-told Inv-loop μ-loop
-enum-told c = search needs
+after-requires : tie.Need-after-requires Inv-loop μ-loop
+after-requires c κs = search needs
 
-add-cases : tie.Need-add-cases Inv-loop μ-loop
-add-cases c = search needs
+sub-left : tie.Need-sub-left Inv-loop μ-loop
+sub-left c = search needs
 
 loop-less : tie.Need-loop-less Inv-loop μ-loop
 loop-less c = search needs
@@ -33,35 +35,11 @@ loop-less c = search needs
 loop-again : tie.Need-loop-again Inv-loop μ-loop
 loop-again c = search needs
 
-enum-told-2 : tie.Need-enum-told-2 Inv-loop μ-loop
-enum-told-2 c = search needs
-
-add-cases-2 : tie.Need-add-cases-2 Inv-loop μ-loop
-add-cases-2 c = search needs
-
-add-differ : tie.Need-add-differ Inv-loop μ-loop
-add-differ c = search needs
-
-loop-less-2 : tie.Need-loop-less-2 Inv-loop μ-loop
-loop-less-2 c = search needs
-
-loop-again-2 : tie.Need-loop-again-2 Inv-loop μ-loop
-loop-again-2 c = search needs
-
-enum-told-3 : tie.Need-enum-told-3 Inv-loop μ-loop
-enum-told-3 c = search needs
-
 returns : tie.Need-returns Inv-loop μ-loop
 returns c = search needs
 
-enum-told-4 : tie.Need-enum-told-4 Inv-loop μ-loop
-enum-told-4 c = search needs
-
 returns-2 : tie.Need-returns-2 Inv-loop μ-loop
 returns-2 c = search needs
-
-returns-3 : tie.Need-returns-3 Inv-loop μ-loop
-returns-3 c = search needs
 
 pub run-spec : {M : Type 1} → statement M
 run-spec =
@@ -69,20 +47,13 @@ run-spec =
     (tie.spec
     Inv-loop
     μ-loop
+    new-requires
     loop-holds
     slice-aggregate-one
     one-requires
-    enum-told
-    add-cases
+    after-requires
+    sub-left
     loop-less
     loop-again
-    enum-told-2
-    add-cases-2
-    add-differ
-    loop-less-2
-    loop-again-2
-    enum-told-3
     returns
-    enum-told-4
-    returns-2
-    returns-3)
+    returns-2)

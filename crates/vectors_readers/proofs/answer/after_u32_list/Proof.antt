@@ -23,8 +23,8 @@ sub-if2 c = search needs
 returns-2 : tie.Need-returns-2 Inv-loop μ-loop
 returns-2 c = search needs
 
-number-requires : tie.Need-number-requires Inv-loop μ-loop
-number-requires c κs = search needs
+eight-requires : tie.Need-eight-requires Inv-loop μ-loop
+eight-requires c κs = search needs
 
 mul-wide-entry : tie.Need-mul-wide-entry Inv-loop μ-loop
 mul-wide-entry c = search needs
@@ -63,7 +63,7 @@ after-u32-list-spec =
     returns
     sub-if2
     returns-2
-    number-requires
+    eight-requires
     mul-wide-entry
     shared-slice-read-wide-entry
     wide-entry-requires

@@ -8,11 +8,12 @@ use native.Mathlib.Omega.{arith}
 use lib.ListN.{length}
 use Rattle.codes.specs.Limits.{varLimit, rootLimit, inputLimit}
 use Rattle.codes.proofs.Bytes.{both}
-use Rattle.fields.specs.Sweep.{End, atNodes, refusedAt, linesOf, endOf}
-use Rattle.values.specs.Values.{rootsIn}
-use Rattle.whole.specs.Whole.{firstFault, wholeFault}
-use Rattle.whole.proofs.FirstFault.{first-none, rest-none, last-check}
-use Rattle.whole.proofs.Refusals.{unless-none}
+use Rattle.header_lines.specs.Sweep.{End, atNodes, refusedAt, linesOf, endOf}
+use Rattle.header_values.specs.Values.{rootsIn}
+use Rattle.codes.specs.Faults.{firstFault}
+use Rattle.header_checks.specs.Whole.{wholeFault}
+use Rattle.codes.proofs.Faults.{first-none, rest-none, last-check}
+use Rattle.codes.proofs.Refusals.{unless-none}
 use Rattle.store.specs.Store.{Store}
 use Rattle.store.specs.Rules.{limits}
 use Rattle.store.specs.Keeps.{keeps}

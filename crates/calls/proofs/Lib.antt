@@ -1,14 +1,2 @@
 pub mod HeaderStands
 pub mod Passes
-pub mod Demand1
-pub mod Accepted
-pub mod LoadsBack
-pub mod RootEntries
-pub mod RootsAnswer
-pub mod Demand2
-pub mod Growing
-pub mod Demand3
-pub mod Evaluating
-pub mod Examples
-pub mod ListExample
-pub mod Starred

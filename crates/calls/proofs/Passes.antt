@@ -7,13 +7,13 @@ use Prim.Native.Nat.{ℕ, zero, suc, _≤_}
 use lib.Dec.{leb}
 use borrow.Author.Tests.{leb-true, le-leb}
 use Rattle.codes.proofs.Bytes.{both}
-use Rattle.whole.specs.Whole.{firstFault}
-use Rattle.whole.proofs.FirstFault.{first-none, rest-none}
-use Rattle.whole.proofs.Refusals.{unless-none}
+use Rattle.codes.specs.Faults.{firstFault}
+use Rattle.codes.proofs.Faults.{first-none, rest-none}
+use Rattle.codes.proofs.Refusals.{unless-none}
 use Rattle.store.specs.Store.{Store}
 use Rattle.header.specs.Header.{Header, Answer, header, refusal}
-use Rattle.import.specs.List.{listFits}
-use Rattle.import.specs.Import as nodes
+use Rattle.level_list.specs.List.{listFits}
+use Rattle.imported.specs.Import as nodes
 use Rattle.calls.specs.Load.{Load, refusedAt, scratchFault, listFault, beforeNodes, headerOf, nodesOf, withNodes, withList, withHeader, loadOf}
 use Rattle.calls.proofs.HeaderStands.{one-header, no-header}
 

@@ -1,9 +1,2 @@
 pub mod Load
 pub mod Calls
-pub mod Roots
-pub mod Outcome
-pub mod Acceptance
-pub mod LoadsBack
-pub mod Evaluating
-pub mod Examples
-pub mod Starred

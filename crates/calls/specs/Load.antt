@@ -6,15 +6,15 @@ use lib.Dec.{eqb, leb}
 use lib.ListN.{length, replicate}
 use lib.IntN.{ℤ, pos}
 use Rattle.codes.specs.Lent.{laid}
-use Rattle.readers.specs.Text.{Place, startOf, lenOf}
+use Rattle.read_text.specs.Text.{Place, startOf, lenOf}
 use Rattle.store.specs.Store.{Store}
 use Rattle.store.specs.Rules.{limits}
 use Rattle.store.specs.Keeps.{keeps}
-use Rattle.values.specs.Values.{pad}
-use Rattle.whole.specs.Whole.{firstFault, unless}
+use Rattle.header_values.specs.Values.{pad}
+use Rattle.codes.specs.Faults.{firstFault, unless}
 use Rattle.header.specs.Header as head
-use Rattle.import.specs.List.{listFits}
-use Rattle.import.specs.Import as nodes
+use Rattle.level_list.specs.List.{listFits}
+use Rattle.imported.specs.Import as nodes
 
 -- the lengths of the lists that a load is lent: those of variables, those of roots, and the node scratch
 pub record Lengths : Type 0 where

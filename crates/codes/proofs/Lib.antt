@@ -1,3 +1,5 @@
 pub mod Machine
 pub mod Lent
 pub mod Bytes
+pub mod Faults
+pub mod Refusals

@@ -4,3 +4,4 @@ pub mod Lent
 pub mod Bytes
 pub mod Codes
 pub mod Limits
+pub mod Faults

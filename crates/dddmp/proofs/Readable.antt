@@ -9,27 +9,29 @@ use lib.ListN.{length}
 use borrow.Author.Tests.{eqb-true}
 use Rattle.codes.specs.Limits.{varLimit, nodeLimit, inputLimit}
 use Rattle.codes.proofs.Bytes.{both}
-use Rattle.readers.specs.Line.{lineOf}
-use Rattle.fields.specs.Keys.{slotOf}
-use Rattle.fields.specs.declared.keys.Key.the-variants.{Nodes}
-use Rattle.fields.specs.Sweep.{keyAt, valueAt, said}
-use Rattle.fields.specs.Sweep.{Lines, cut, nodes, line, Said, End, atNodes, refusedAt, faultIn, linesFrom, linesOf, endFrom, endOf}
-use Rattle.values.specs.Values.{nnodesIn, nvarsIn, nsuppvarsIn}
-use Rattle.whole.specs.Whole.{firstFault, numberFaults, supportFaults, nameCountFaults, nameFaults, rootFaults, wholeFault}
-use Rattle.whole.proofs.FirstFault.{first-none, rest-none, front-none}
-use Rattle.whole.proofs.Refusals.{within-none}
-use Rattle.whole.proofs.Accepted as whole
+use Rattle.read_lines.specs.Line.{lineOf}
+use Rattle.header_keys.specs.Keys.{slotOf}
+use Rattle.header_keys.specs.declared.Key.the-variants.{Nodes}
+use Rattle.header_lines.specs.Sweep.{keyAt, valueAt, said}
+use Rattle.header_lines.specs.Sweep.{Lines, cut, nodes, line, Said, End, atNodes, refusedAt, faultIn, linesFrom, linesOf, endFrom, endOf}
+use Rattle.header_values.specs.Values.{nnodesIn, nvarsIn, nsuppvarsIn}
+use Rattle.codes.specs.Faults.{firstFault}
+use Rattle.header_checks.specs.Whole.{numberFaults, supportFaults, nameCountFaults, nameFaults, rootFaults, wholeFault}
+use Rattle.codes.proofs.Faults.{first-none, rest-none, front-none}
+use Rattle.codes.proofs.Refusals.{within-none}
+use Rattle.header_checks.proofs.Accepted as whole
 use Rattle.store.specs.Store.{Store}
 use Rattle.header.specs.Header.{Header, Answer, header, refusal, tableOf, headerIn}
-use Rattle.import.specs.List.{listFits}
-use Rattle.import.specs.Import.{Bounded}
-use Rattle.import.proofs.LevelLists.{list-levels}
-use Rattle.checks.specs.Support.{idsFit}
+use Rattle.level_list.specs.List.{listFits}
+use Rattle.imported.specs.Import.{Bounded}
+use Rattle.level_list.proofs.LevelLists.{list-levels}
+use Rattle.support.specs.Support.{idsFit}
 use Rattle.calls.specs.Load.{Load, headerOf, beforeNodes, setupFor}
 use Rattle.stages.specs.Stages.{unlessRefused, Readable}
 use Rattle.calls.proofs.HeaderStands.{Sound, Stands, answer-stands}
 use Rattle.calls.proofs.Passes.{between-none}
-use Rattle.calls.proofs.Accepted.{stands-rules}
+use Rattle.store.specs.Rules.{limits}
+use Rattle.store.specs.Keeps.{keeps-true}
 use Rattle.dddmp.proofs.Staged.{ready, ready-header}
 
 -- a refusal is no end at `.nodes`
@@ -113,7 +115,7 @@ module _ (c : Load) (σ : Store) where
       → Readable (unlessRefused h k) σ (c .list) (c .lent .edges) (c .lent .seats)
   checked-readable h S zero q =
       let b = between-none c σ h q in
-      (stands-rules c σ h S, (list-levels _ _ (c .list) (b .1 .1), bounded h S (b .0) (b .1 .0) (b .1 .1)))
+      (keeps-true limits σ (S .kept), (list-levels _ _ (c .list) (b .1 .1), bounded h S (b .0) (b .1 .0) (b .1 .1)))
   checked-readable h S (suc k) q = tt
 
   -- What scratch and level list let pass, the nodes can lean on.

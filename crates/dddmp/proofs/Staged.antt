@@ -8,15 +8,15 @@ use lib.ListN.{length-replicate}
 use lib.IntN.{ℤ, pos}
 use Rattle.codes.specs.Lent.{laid}
 use Rattle.codes.proofs.Lent.{length-laid}
-use Rattle.readers.specs.Text.{Place}
-use Rattle.values.specs.Values.{pad}
-use Rattle.whole.specs.Whole.{firstFault}
-use Rattle.whole.proofs.FirstFault.{last-check}
+use Rattle.read_text.specs.Text.{Place}
+use Rattle.header_values.specs.Values.{pad}
+use Rattle.codes.specs.Faults.{firstFault}
+use Rattle.codes.proofs.Faults.{last-check}
 use Rattle.store.specs.Store.{Store}
 use Rattle.header.specs.Header as head
 use Rattle.header.specs.Header.{Header, Answer, header, refusal}
-use Rattle.import.specs.Build.{Built}
-use Rattle.import.specs.Import as nodes
+use Rattle.imported.specs.Build.{Built}
+use Rattle.imported.specs.Import as nodes
 use Rattle.calls.specs.Load.{Load, Loaded, refusedAt, scratchFault, listFault, beforeNodes, headerOf, setupFor, nodesOf, withNodes, withList, withHeader, loadOf}
 use Rattle.stages.specs.Stages.{unlessRefused, scratched, listed, Noded, noded, nodesAfter, isRefusal, clearedIf}
 

@@ -9,10 +9,11 @@ use Rattle.store.specs.Store.{Store}
 use Rattle.store.specs.Lent.{Part, old, new, oldStore, newStore}
 use Rattle.evaluation.specs.declared.Evaluation.{Evaluation}
 use Rattle.evaluation.specs.Evaluated.{ofEvaluation}
-use Rattle.header.specs.declared.load.Loaded.{Loaded}
+use Rattle.header.specs.declared.Loaded.{Loaded}
 use Rattle.header.specs.Kinds.{ofLoaded}
-use Rattle.export_header.specs.Tables.{lent}
-use Rattle.exporter.specs.Settings.{Settings, ofSettings}
+use Rattle.heading.specs.Tables.{lent}
+use Rattle.exported.specs.Settings.{Settings}
+use Rattle.exporter.specs.Settings.{ofSettings}
 use Rattle.exporter.specs.declared.ExportSettings.{ExportSettings}
 use Rattle.exporter.specs.declared.Exported.{Exported}
 use Rattle.calls.specs.Load as calls

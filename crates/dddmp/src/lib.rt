@@ -5,8 +5,8 @@ use edges::Index;
 use evaluation::Evaluation;
 use exporter::ExportSettings;
 use exporter::Exported;
-use header::load::DumpHeader;
-use header::load::Loaded;
+use header::DumpHeader;
+use header::Loaded;
 
 // Loads a file into the store. `list` is the level list, one level of the store for each support variable. Beside the store are lent: the
 // lists of the header, that is `.ids`, the support order, `.permids`, `.auxids`, the variables' names as starts and lengths, the roots, the
@@ -47,7 +47,7 @@ pub fn load(
         rootlens.len(),
     );
     let found = stages::store_fault(lists, levels, *count, level, then, els, next, heads);
-    let before = header::before::length_fault(found, f.len());
+    let before = stages::length_fault(found, f.len());
     let read = DumpHeader::load(
         f,
         before,
@@ -63,7 +63,7 @@ pub fn load(
     );
     let room = stages::check_scratch(read, edges.len(), seats.len());
     let ready = stages::check_list(room, levels, list);
-    let answer = stages::load_nodes(
+    let answer = last_stages::load_nodes(
         ready,
         f,
         levels,
@@ -78,7 +78,7 @@ pub fn load(
         edges,
         seats,
     );
-    stages::finish(
+    last_stages::finish(
         answer,
         ids,
         order,

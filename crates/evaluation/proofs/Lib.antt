@@ -1,3 +1,4 @@
 pub mod Walk
 pub mod Stretch
 pub mod Evaluating
+pub mod SettingBytes

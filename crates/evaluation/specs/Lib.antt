@@ -1,3 +1,4 @@
 pub mod Evaluation
 pub mod Evaluated
 pub mod Promises
+pub mod SettingBytes

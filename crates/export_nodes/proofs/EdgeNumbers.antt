@@ -13,7 +13,7 @@ use Rattle.codes.specs.Limits.{nodeLimit}
 use Rattle.edges.specs.Edge.{minus}
 use Rattle.edges.proofs.Edge.{abs-neg}
 use Rattle.edges.proofs.Signed.{edge-fits, edge-back}
-use Rattle.readers.specs.Edges.{signed}
+use Rattle.read_edges.specs.Edges.{signed}
 use Rattle.export_nodes.specs.Tables.{numberOf}
 
 -- its magnitude is the number

@@ -3,15 +3,15 @@ use mathlib.Core.Path.{_≡_, refl}
 use mathlib.Core.Bool.{true, false}
 use mathlib.Core.List.{[], _∷_}
 use Rattle.edges.specs.Edge.{minus}
-use Rattle.checks.specs.Seats.{seatOf}
+use Rattle.seats.specs.Seats.{seatOf}
 use Rattle.writers.specs.Decimal.{digits, decimal, edgeText}
 use Rattle.writers.specs.Words.{spaced}
 use Rattle.writers.specs.Binary.{escaped, escapedAll, groupsBy, groups, sevenBit}
-use Rattle.numbering.specs.Walk.{meetBy, meet, meetAll}
+use Rattle.reached.specs.Walk.{meetBy, meet, meetAll}
 use Rattle.numbering.specs.Numbering.{atDepth, deepestFirst, numbering}
 use Rattle.numbering.specs.Support.{supportFrom}
 use Rattle.export_nodes.specs.Lines.{renumbered, lineFor, linesFor}
-use Rattle.export_nodes.specs.Encoded.{textBytes, childCode, variableCode, innerBytes, binBytes, encodeFrom, nodeBytes}
+use Rattle.node_writers.specs.Encoded.{textBytes, childCode, variableCode, innerBytes, binBytes, encodeFrom, nodeBytes}
 use Rattle.export_nodes.specs.Examples.{bytesFrom, example, exampleNodes, exampleLines, exampleText, exampleBinary, mixed, mixedRoots}
 
 -- document 01's example: its lines, as text and in binary

@@ -9,20 +9,20 @@ use lib.IntN.{ℤ, natAbs}
 use borrow.Author.Tests.{ne-eqb}
 use Rattle.codes.specs.Limits.{varLimit, nodeLimit}
 use Rattle.store.specs.Store.{Store, levelAt, thenAt, elseAt, slots}
-use Rattle.checks.specs.Seats.{Seats}
-use Rattle.checks.proofs.Seating.{seat-most}
-use Rattle.lines.specs.Line.{terminal}
+use Rattle.seats.specs.Seats.{Seats}
+use Rattle.seats.proofs.Seating.{seat-most}
+use Rattle.node_lines.specs.Line.{terminal}
 use Rattle.numbering.specs.Numbering.{Numbers}
 use Rattle.numbering.specs.Support.{supportOf}
 use Rattle.export_nodes.specs.Lines.{renumbered, lineFor, linesFor}
-use Rattle.export_nodes.specs.Encoded.{nodeBytes}
+use Rattle.node_writers.specs.Encoded.{nodeBytes}
 use Rattle.export_nodes.specs.Tables.{lineBy, linesBy, Child, Lined}
 use Rattle.export_nodes.specs.Exported.{Exported}
 use Rattle.export_nodes.proofs.TableLines.{map-at}
 use Rattle.export_nodes.proofs.Renumbered.{seat-back, Numbered, renumbered-abs, NodeAt, terminalAt, innerAt, entry-node, lines-few, inner-at, node-at}
 use Rattle.export_nodes.proofs.Support.{support-few, level-seated, position-low}
 use Rattle.export_nodes.proofs.FilledTables.{number-seat, lines-by-tables}
-use Rattle.export_nodes.proofs.LineLengths.{Small, nodes-short}
+use Rattle.node_writers.proofs.LineLengths.{Small, nodes-short}
 
 -- tables of the numbers of an export's nodes and of the seats of its levels
 pub record Filled (σ : Store) (ns numbers seats : List ℕ) : Type 0 where

@@ -8,9 +8,9 @@ use lib.ListN.{length, getD}
 use lib.IntN.{ℤ, natAbs}
 use borrow.Author.Tests.{ne-eqb}
 use Rattle.edges.specs.Edge.{minus}
-use Rattle.readers.specs.Edges.{signed}
+use Rattle.read_edges.specs.Edges.{signed}
 use Rattle.store.specs.Store.{Store, levelAt, thenAt, elseAt}
-use Rattle.checks.specs.Seats.{seatOf, Seats}
+use Rattle.seats.specs.Seats.{seatOf, Seats}
 use Rattle.numbering.specs.Numbering.{Numbers}
 use Rattle.numbering.specs.Support.{supportOf}
 use Rattle.export_nodes.specs.Lines.{renumbered, lineFor, linesFor}

@@ -1,11 +1,7 @@
-pub mod LineCodes
-pub mod Parts
-pub mod LineBytes
 pub mod EdgeNumbers
 pub mod NodeLine
 pub mod TableLines
 pub mod Writing
-pub mod LineLengths
 pub mod Renumbered
 pub mod Support
 pub mod FilledTables

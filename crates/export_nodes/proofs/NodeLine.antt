@@ -10,9 +10,9 @@ use borrow.Author.Tests.{ne-eqb}
 use Rattle.codes.specs.Limits.{nodeLimit}
 use Rattle.codes.specs.declared.Code.the-variants.{Terminal}
 use Rattle.store.specs.Store.{Store, levelAt, thenAt, elseAt}
-use Rattle.lines.specs.Line.{terminal, inner}
+use Rattle.node_lines.specs.Line.{terminal, inner}
 use Rattle.writers.specs.Binary.{escaped}
-use Rattle.export_nodes.specs.Encoded.{smaller, codeByte, textBytes, innerBytes, binBytes}
+use Rattle.node_writers.specs.Encoded.{smaller, codeByte, textBytes, innerBytes, binBytes}
 use Rattle.export_nodes.specs.Tables.{numberOf, Numbered, seatBy, innerBy, nodeBy, Seated, Child}
 use Rattle.export_nodes.proofs.EdgeNumbers.{number-abs}
 

@@ -12,12 +12,12 @@ use Rattle.store.specs.Store.{Store, levelAt, thenAt, elseAt}
 use Rattle.store.specs.Rules.{depth, Fits}
 use Rattle.store.specs.Growth.{EdgeOf}
 use Rattle.store.proofs.Meaning.{depth-node, then-edge, else-edge}
-use Rattle.checks.specs.Seats.{seatOf}
-use Rattle.checks.proofs.Seating.{seat-most}
-use Rattle.numbering.specs.Reached.{Reached, root, then, els}
-use Rattle.numbering.proofs.Members.{Among}
-use Rattle.numbering.proofs.Few.{few}
-use Rattle.numbering.proofs.EntrySeats.{seat-entry, of-entry}
+use Rattle.seats.specs.Seats.{seatOf}
+use Rattle.seats.proofs.Seating.{seat-most}
+use Rattle.reached.specs.Reached.{Reached, root, then, els}
+use Rattle.reached.proofs.Members.{Among}
+use Rattle.reached.proofs.Few.{few}
+use Rattle.reached.proofs.EntrySeats.{seat-entry, of-entry}
 use Rattle.export_nodes.specs.Lines.{renumbered}
 use Rattle.export_nodes.specs.Exported.{Exported}
 use Rattle.export_nodes.proofs.EdgeNumbers.{signed-abs}

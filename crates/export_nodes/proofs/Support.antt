@@ -6,11 +6,11 @@ use Prim.Native.Nat.{ℕ, zero, suc, _+_, _-_, _≤_, _<_}
 use native.Mathlib.Omega.{arith}
 use lib.ListN.{length, getD}
 use Rattle.store.specs.Store.{Store, levelAt}
-use Rattle.checks.specs.Seats.{seatOf}
-use Rattle.checks.proofs.Seating.{seat-most}
+use Rattle.seats.specs.Seats.{seatOf}
+use Rattle.seats.proofs.Seating.{seat-most}
 use Rattle.numbering.specs.Numbering.{atDepth}
 use Rattle.numbering.specs.Support.{some, supportFrom, leveled, supportOf}
-use Rattle.numbering.proofs.SupportLevels.{support-has}
+use Rattle.export_support.proofs.SupportLevels.{support-has}
 use Rattle.export_nodes.proofs.Renumbered.{seat-back, InnerAt}
 
 -- of k levels there are k at most

@@ -9,8 +9,8 @@ use lib.ListN.{length, getD, length-map}
 use lib.IntN.{ℤ, natAbs}
 use borrow.Author.Tests.{ne-eqb}
 use Rattle.store.specs.Store.{Store, thenAt, elseAt}
-use Rattle.lines.specs.Line.{seatOf}
-use Rattle.export_nodes.specs.Encoded.{binBytes, lineBytes}
+use Rattle.node_lines.specs.Line.{seatOf}
+use Rattle.node_writers.specs.Encoded.{binBytes, lineBytes}
 use Rattle.export_nodes.specs.Tables.{numberOf, lineBy, linesBy, seatBy, innerBy, nodeBy, Child, Lined}
 use Rattle.export_nodes.proofs.EdgeNumbers.{number-abs}
 

@@ -9,7 +9,7 @@ use lib.ListN.{length, getD, drop, length-append, drop-of-length-le}
 use lib.Seq.{sets, drop-cons}
 use Rattle.store.specs.Store.{Store}
 use Rattle.writers.proofs.Sets.{Wrote, sets-append}
-use Rattle.export_nodes.specs.Encoded.{lineBytes, encodeFrom, nodeBytes}
+use Rattle.node_writers.specs.Encoded.{lineBytes, encodeFrom, nodeBytes}
 use Rattle.export_nodes.specs.Tables.{linesBy, nodeBy, Lined}
 use Rattle.export_nodes.proofs.TableLines.{lineSeats, node-line}
 

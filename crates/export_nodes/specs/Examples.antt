@@ -5,7 +5,7 @@ use Prim.Native.String.{String, len, charAt}
 use mathlib.Core.List.{List, [], _∷_}
 use lib.IntN.{ℤ, pos, negsuc}
 use Rattle.store.specs.Store.{Store, store}
-use Rattle.lines.specs.Line.{Line, terminal, inner}
+use Rattle.node_lines.specs.Line.{Line, terminal, inner}
 use Rattle.numbering.specs.Numbering.{numbering}
 
 -- the bytes of a text in ASCII

@@ -6,7 +6,7 @@ use lib.IntN.{ℤ, pos}
 use Rattle.store.specs.Store.{Store}
 use Rattle.store.specs.Rules.{limits, Rules}
 use Rattle.store.specs.Growth.{EdgeOf}
-use Rattle.numbering.specs.Reached.{Allowed}
+use Rattle.numbering.specs.Allowed.{Allowed}
 
 -- a store that keeps the rules, roots that are its edges, and a numbering that document 01 allows
 pub record Exported (σ : Store) (roots : List ℤ) (ns : List ℕ) : Type 0 where

@@ -1,5 +1,4 @@
 pub mod Lines
-pub mod Encoded
 pub mod Tables
 pub mod Exported
 pub mod Examples

@@ -5,10 +5,10 @@ use mathlib.Core.List.{List, map}
 use lib.Dec.{eqb}
 use lib.IntN.{ℤ, natAbs}
 use Rattle.edges.specs.Edge.{minus}
-use Rattle.readers.specs.Edges.{signed}
+use Rattle.read_edges.specs.Edges.{signed}
 use Rattle.store.specs.Store.{Store, levelAt, thenAt, elseAt}
-use Rattle.checks.specs.Seats.{seatOf}
-use Rattle.lines.specs.Line.{Line, terminal, inner}
+use Rattle.seats.specs.Seats.{seatOf}
+use Rattle.node_lines.specs.Line.{Line, terminal, inner}
 use Rattle.numbering.specs.Support.{supportOf}
 
 -- an edge to a node, as an edge to that node's line: lines are numbered from 1 in the order of the nodes ns

@@ -8,10 +8,10 @@ use lib.ListN.{length, getD}
 use lib.IntN.{ℤ, natAbs}
 use Rattle.codes.specs.Limits.{nodeLimit}
 use Rattle.edges.specs.Edge.{minus}
-use Rattle.readers.specs.Edges.{signed}
+use Rattle.read_edges.specs.Edges.{signed}
 use Rattle.store.specs.Store.{Store, levelAt, thenAt, elseAt}
-use Rattle.lines.specs.Line.{Line, terminal, inner}
-use Rattle.export_nodes.specs.Encoded.{smaller, textBytes, innerBytes, lineBytes}
+use Rattle.node_lines.specs.Line.{Line, terminal, inner}
+use Rattle.node_writers.specs.Encoded.{smaller, textBytes, innerBytes, lineBytes}
 
 -- the table's number of an edge's node, with the edge's sign
 unfoldable pub numberOf : List ℕ → ℤ → ℤ

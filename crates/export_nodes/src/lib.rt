@@ -1,4 +1,134 @@
-// The node lines of an export, written into a lent part.
-pub mod binary;
-pub mod nodes;
-pub mod text;
+// The node lines of an export, in their order.
+ghost use mathlib.Core.Path.{_≡_};
+ghost use Prim.Native.Nat.{_+_, _≤_};
+ghost use mathlib.Core.List.{[]};
+ghost use lib.ListN.{length};
+ghost use lib.Seq.{sets};
+ghost use lib.IntN.{natAbs};
+ghost use Rattle.codes.specs.Limits.{nodeLimit};
+ghost use Rattle.store.specs.Store.{slots};
+ghost use Rattle.node_writers.specs.Encoded.{nodeBytes};
+ghost use Rattle.export_nodes.specs.Tables.{numberOf, Numbered, linesBy, seatBy, innerBy, nodeBy, Seated, Inner, Lined};
+use edges::Edge;
+use edges::Index;
+
+// An edge to a node, as an edge to that node's line.
+pub fn number_of(numbers: &[Index], e: Edge) -> Edge
+    requires { ⌜ Numbered (now numbers) (natAbs e) ⌝ }
+    ensures { λ r. ⌜ r ≡ numberOf (now (numbers .entry)) e ⌝ }
+{
+    let n = numbers[edges::magnitude(e) as usize - 1] as Edge;
+    if edges::is_minus(e) {
+        edges::negate(n)
+    } else {
+        n
+    }
+}
+
+// The seat of an edge's node in the support: that of its level, and 0 of the terminal.
+fn seat_of(level: &[u16], seats: &[u16], e: Edge) -> u16
+    requires { ⌜ Seated (now level) (now seats) (natAbs e) ⌝ }
+    ensures { λ r. ⌜ r ≡ seatBy (slots (now (level .entry)) [] []) (now (seats .entry)) (natAbs e) ⌝ }
+{
+    let n = edges::magnitude(e);
+    if n == 1 {
+        return 0;
+    }
+    seats[level[n as usize - 1] as usize]
+}
+
+// Writes an inner node as line n.
+fn put_inner(
+    ascii: bool,
+    level: &[u16],
+    then: &[Edge],
+    els: &[Edge],
+    numbers: &[Index],
+    seats: &[u16],
+    out: &mut [u8],
+    at: usize,
+    n: Index,
+    node: Index,
+) -> usize
+    requires { ⌜ (2 ≤ node) × (n ≤ nodeLimit) × Inner (slots (now level) (now then) (now els)) (now numbers) (now seats) n node ⌝ }
+    requires { ⌜ at + length (innerBy ascii (slots (now level) (now then) (now els)) (now numbers) (now seats) n node) ≤ length (now out) ⌝ }
+    ensures { λ r. ⌜ r ≡ at + length (innerBy ascii (slots (now (level .entry)) (now (then .entry)) (now (els .entry))) (now (numbers .entry)) (now (seats .entry)) n node) ⌝ }
+    ensures { λ _. ⌜ now (out .exit) ≡ sets (now (out .entry)) at (innerBy ascii (slots (now (level .entry)) (now (then .entry)) (now (els .entry))) (now (numbers .entry)) (now (seats .entry)) n node) ⌝ }
+{
+    let i = node as usize - 1;
+    let t = then[i];
+    let e = els[i];
+    let p = seats[level[i] as usize] - 1;
+    let then_line = number_of(numbers, t);
+    let else_line = number_of(numbers, e);
+    if ascii {
+        return node_writers::text::put_inner(out, at, n, p, then_line, else_line);
+    }
+    let seat = node_writers::binary::smaller(seat_of(level, seats, t), seat_of(level, seats, e));
+    node_writers::binary::put_inner(out, at, n, p, then_line, else_line, seat)
+}
+
+// Writes a node as line n.
+fn put_node(
+    ascii: bool,
+    level: &[u16],
+    then: &[Edge],
+    els: &[Edge],
+    numbers: &[Index],
+    seats: &[u16],
+    out: &mut [u8],
+    at: usize,
+    n: Index,
+    node: Index,
+) -> usize
+    requires { ⌜ (1 ≤ node) × (n ≤ nodeLimit) × (2 ≤ node → Inner (slots (now level) (now then) (now els)) (now numbers) (now seats) n node) ⌝ }
+    requires { ⌜ at + length (nodeBy ascii (slots (now level) (now then) (now els)) (now numbers) (now seats) n node) ≤ length (now out) ⌝ }
+    ensures { λ r. ⌜ r ≡ at + length (nodeBy ascii (slots (now (level .entry)) (now (then .entry)) (now (els .entry))) (now (numbers .entry)) (now (seats .entry)) n node) ⌝ }
+    ensures { λ _. ⌜ now (out .exit) ≡ sets (now (out .entry)) at (nodeBy ascii (slots (now (level .entry)) (now (then .entry)) (now (els .entry))) (now (numbers .entry)) (now (seats .entry)) n node) ⌝ }
+{
+    if node != 1 {
+        return put_inner(ascii, level, then, els, numbers, seats, out, at, n, node);
+    }
+    if ascii {
+        return node_writers::text::put_terminal(out, at, n);
+    }
+    node_writers::binary::put_terminal(out, at)
+}
+
+// Writes the lines of nodes, in their order, by the number of each node's line and the seat of each level in the support.
+pub fn write_nodes(
+    ascii: bool,
+    level: &[u16],
+    then: &[Edge],
+    els: &[Edge],
+    nodes: &[Index],
+    numbers: &[Index],
+    seats: &[u16],
+    out: &mut [u8],
+    at: usize,
+) -> usize
+    requires { ⌜ Lined (slots (now level) (now then) (now els)) (now nodes) (now numbers) (now seats) ⌝ }
+    requires { ⌜ at + length (nodeBytes ascii (linesBy (slots (now level) (now then) (now els)) (now numbers) (now seats) (now nodes))) ≤ length (now out) ⌝ }
+    ensures { λ r. ⌜ r ≡ at + length (nodeBytes ascii (linesBy (slots (now (level .entry)) (now (then .entry)) (now (els .entry))) (now (numbers .entry)) (now (seats .entry)) (now (nodes .entry)))) ⌝ }
+    ensures { λ _. ⌜ now (out .exit) ≡ sets (now (out .entry)) at (nodeBytes ascii (linesBy (slots (now (level .entry)) (now (then .entry)) (now (els .entry))) (now (numbers .entry)) (now (seats .entry)) (now (nodes .entry)))) ⌝ }
+{
+    let mut next = at;
+    let mut i: usize = 0;
+    while i < nodes.len() {
+        let n = (i + 1) as Index;
+        next = put_node(
+            ascii,
+            level,
+            then,
+            els,
+            numbers,
+            seats,
+            out,
+            next,
+            n,
+            nodes[i],
+        );
+        i += 1;
+    }
+    next
+}

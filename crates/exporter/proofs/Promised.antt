@@ -9,16 +9,17 @@ use Rattle.codes.specs.Answer.{value}
 use Rattle.codes.specs.Limits.{varLimit}
 use Rattle.codes.specs.Lent.{laid}
 use Rattle.store.specs.Store.{Store}
-use Rattle.checks.specs.Seats.{Seats}
-use Rattle.numbering.specs.Reached.{bare}
+use Rattle.seats.specs.Seats.{Seats}
+use Rattle.reached.specs.Reached.{bare}
 use Rattle.numbering.specs.Numbering.{numbering}
-use Rattle.export_header.specs.Tables.{Lent}
+use Rattle.heading.specs.Tables.{Lent}
 use Rattle.exporter.specs.declared.Exported.the-variants.{Written, Refused}
-use Rattle.exporter.specs.Settings.{Settings}
-use Rattle.exporter.specs.Export.{exportFault, fileOf}
-use Rattle.exporter.specs.Promise.{Exports, VarsIf}
-use Rattle.exporter.proofs.Accepted.{accepted}
-use Rattle.exporter.proofs.Prepared.{exported}
+use Rattle.exported.specs.Settings.{Settings}
+use Rattle.exported.specs.Export.{exportFault, fileOf}
+use Rattle.exporter.specs.Promise.{Exports}
+use Rattle.exported.specs.Export.{VarsIf}
+use Rattle.exported.proofs.Accepted.{accepted}
+use Rattle.exported.proofs.Prepared.{exported}
 
 -- a list of zeros, by its own length
 pub own-zeros : {n : ℕ} {l : List ℕ} → length l ≡ n → l ≡ replicate n 0 → l ≡ replicate (length l) 0

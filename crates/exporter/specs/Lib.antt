@@ -1,3 +1,2 @@
 pub mod Settings
-pub mod Export
 pub mod Promise

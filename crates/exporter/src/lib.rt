@@ -1,18 +1,15 @@
 // Exports of diagrams to DDDMP files.
 ghost use mathlib.Core.Path.{_≡_};
 ghost use mathlib.Core.Bool.{true, false};
-ghost use Rattle.readers.specs.Text.{place};
-ghost use Rattle.exporter.specs.Settings.{settings, defaults, ofSettings};
+ghost use Rattle.read_text.specs.Text.{place};
+ghost use Rattle.exported.specs.Settings.{settings, defaults};
+ghost use Rattle.exporter.specs.Settings.{ofSettings};
 ghost use Rattle.exporter.specs.Promise.{ExportPromise};
 use codes::DDDMPVersion;
 use codes::limits::VAR_LIMIT;
 use edges::Edge;
 use edges::Index;
-use values::Place;
-
-pub mod faults;
-pub mod file;
-pub mod lists;
+use read_text::Place;
 
 // The length of a file that was written, or a refusal.
 pub enum Exported {
@@ -124,11 +121,11 @@ impl ExportSettings {
     {
         let dd = self.dd;
         let version = self.version;
-        crate::lists::clear_marks(slots);
-        crate::lists::clear_marks(numbers);
-        crate::lists::clear_bytes(out);
+        zeros::clear_marks(slots);
+        zeros::clear_marks(numbers);
+        zeros::clear_bytes(out);
         let mut vars = [0u16; VAR_LIMIT];
-        let refused = crate::faults::export_fault(
+        let refused = export_faults::export_fault(
             levels,
             count,
             level,
@@ -152,7 +149,7 @@ impl ExportSettings {
         if refused != 0 {
             return Exported::Refused(refused);
         }
-        let n = crate::file::write_file(
+        let n = export_file::write_file(
             version,
             self.ascii,
             dd,
@@ -175,8 +172,8 @@ impl ExportSettings {
             numbers,
             out,
         );
-        crate::lists::clear_marks(slots);
-        crate::lists::clear_marks(numbers);
+        zeros::clear_marks(slots);
+        zeros::clear_marks(numbers);
         Exported::Written(n)
     }
 }

@@ -4,14 +4,15 @@ use mathlib.Core.Path.{_≡_, subst}
 use mathlib.Core.List.{List}
 use lib.IntN.{ℤ}
 use Rattle.store.specs.Store.{Store}
-use Rattle.export_header.specs.Tables.{lent}
+use Rattle.heading.specs.Tables.{lent}
 use Rattle.exporter.specs.declared.Exported.{Exported}
 use Rattle.exporter.specs.declared.ExportSettings.{ExportSettings}
-use Rattle.exporter.specs.Settings.{Settings, ofSettings}
+use Rattle.exported.specs.Settings.{Settings}
+use Rattle.exporter.specs.Settings.{ofSettings}
 use Rattle.exporter.specs.Promise.{ofExported}
 use Rattle.calls.specs.Calls.{exportInto, Exports}
-use Rattle.firmware.specs.declared.ExportAnswer.{ExportAnswer}
-use Rattle.firmware.specs.Answers.{ofLength, Exporting}
+use Rattle.c_answers.specs.declared.ExportAnswer.{ExportAnswer}
+use Rattle.c_answers.specs.Answers.{ofLength, Exporting}
 
 -- what an export by equal settings promises is promised, and the answer is its answer in C's form
 pub exported-as : {t : Settings} {roots : List ℤ} {order bytes starts lens rootstarts rootlens out : List ℕ} {slots numbers room : ℕ}

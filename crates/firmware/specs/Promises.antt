@@ -9,11 +9,11 @@ use Rattle.calls.specs.Load as calls
 use Rattle.calls.specs.Load.{Parts, lengthsOf, partsOf}
 use Rattle.calls.specs.Calls.{evaluateOf}
 use Rattle.dddmp.specs.Promises as dddmp
-use Rattle.firmware.specs.declared.LoadAnswer.{LoadAnswer}
-use Rattle.firmware.specs.declared.EvaluateAnswer.{EvaluateAnswer}
-use Rattle.firmware.specs.declared.ExportAnswer.{ExportAnswer}
-use Rattle.firmware.specs.Answers.{ofAnswer, ofEvaluated, Exporting}
-use Rattle.firmware.specs.Settings.{settingsOf}
+use Rattle.c_answers.specs.declared.LoadAnswer.{LoadAnswer}
+use Rattle.c_answers.specs.declared.EvaluateAnswer.{EvaluateAnswer}
+use Rattle.c_answers.specs.declared.ExportAnswer.{ExportAnswer}
+use Rattle.c_answers.specs.Answers.{ofAnswer, ofEvaluated, Exporting}
+use Rattle.c_answers.specs.Settings.{settingsOf}
 
 module _ (file list : Part (List ℕ)) (levels : ℕ) (count : Part ℕ) (level : Part (List ℕ)) (then els : Part (List ℤ))
     (next heads ids order permids auxids names lens : Part (List ℕ)) (roots : Part (List ℤ)) (rootnames rootlens : Part (List ℕ))

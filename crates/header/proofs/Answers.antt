@@ -5,19 +5,20 @@ use mathlib.Core.List.{List, map}
 use Prim.Native.Nat.{ℕ, zero, suc, _≤_}
 use lib.ListN.{length, replicate}
 use Rattle.codes.specs.declared.VarInfo.{VarInfo}
-use Rattle.fields.specs.Sweep.{Span, keys, spanStart, spanEnd, Table, EndWithin, atNodes, refusedAt, linesOf, endOf, sound, lasts}
-use Rattle.fields.specs.declared.sweep.Swept.{Swept}
-use Rattle.fields.specs.declared.sweep.Swept.the-variants as swept
-use Rattle.fields.specs.Kinds.{ofSwept}
-use Rattle.fields.proofs.Tables.{table-none}
-use Rattle.fields.proofs.Lines.{sound-all}
-use Rattle.values.specs.declared.Place.{Place}
-use Rattle.values.specs.Kinds.{ofVarInfo, ofPlace}
-use Rattle.values.specs.Values.{spans, nnodesIn, nvarsIn, nsuppvarsIn, nrootsIn, asciiIn, varinfoIn, ddIn}
-use Rattle.values.proofs.Spanned.{spans-parts}
-use Rattle.whole.specs.Whole.{wholeFault}
+use Rattle.header_lines.specs.Sweep.{Span, keys, spanStart, spanEnd, Table, EndWithin, atNodes, refusedAt, linesOf, endOf, sound, lasts}
+use Rattle.header_lines.specs.declared.Swept.{Swept}
+use Rattle.header_lines.specs.declared.Swept.the-variants as swept
+use Rattle.header_lines.specs.Kinds.{ofSwept}
+use Rattle.header_lines.proofs.Tables.{table-none}
+use Rattle.header_lines.proofs.Lines.{sound-all}
+use Rattle.read_text.specs.declared.Place.{Place}
+use Rattle.header_values.specs.Kinds.{ofVarInfo, ofPlace}
+use Rattle.header_values.specs.Values.{spans, nnodesIn, nvarsIn, nsuppvarsIn, nrootsIn, asciiIn, varinfoIn, ddIn}
+use Rattle.header_values.proofs.Spanned.{spans-parts}
+use Rattle.header_checks.specs.Whole.{wholeFault}
 use Rattle.header.specs.Kinds.{ofHeader}
-use Rattle.header.specs.Header.{Header, Answer, header, refusal, headerIn, tableOf, settled, judged, readOf, after, tableBy, Settled, NextWithin}
+use Rattle.header.specs.Header.{Header, Answer, header, refusal, headerIn, tableOf, settled, judged, readOf, after, tableBy, NextWithin}
+use Rattle.header_lists.specs.Settled.{Settled}
 use Rattle.header.proofs.NoValues.{none-settled}
 use Rattle.header.proofs.Faultless.{faultless-settled}
 

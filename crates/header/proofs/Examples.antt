@@ -2,22 +2,25 @@
 use mathlib.Core.Path.{_≡_, refl}
 use Rattle.codes.specs.Machine.{run}
 use Rattle.codes.specs.Bytes.{isBlank, isDigit, isLineEnd}
-use Rattle.readers.specs.Line.{isOf, seek, trim, feedAt, lineOf, keyEnd, valueStart, valueEnd, fieldOf}
-use Rattle.readers.specs.Number.{digit, number, single}
-use Rattle.readers.specs.Lists.{judge, u32List}
-use Rattle.readers.specs.Words.{wordsFrom, words}
-use Rattle.readers.specs.Edges.{entryStep, edgeAt, edgeEnd, edgeList}
-use Rattle.readers.specs.Text.{utf8Next, isUtf8, nameList, textAt}
-use Rattle.fields.specs.Keys.{alike, lookup, keyOf}
-use Rattle.fields.specs.Judge.{versionFault, modeFault, varinfoFault, textFault, singleFault, u32ListFault, rootListFault, nameListFault, faultOf}
-use Rattle.fields.specs.Sweep.{linesFrom, linesOf, endFrom, endOf, allOf, sound, lastFrom, lastOf, lasts, stepAt}
-use Rattle.checks.specs.Seats.{seatOf}
-use Rattle.checks.specs.Support.{ascending, lastBelow, idsFit, allBelow, distinct, permidsFit, orderFrom, supportOrder}
-use Rattle.checks.specs.Names.{places, sameBytes, sameName, sameNames, chosen, freeFrom, orderedFrom, orderedSeats, suppFrom, suppSeats, variableNames}
-use Rattle.checks.specs.Roots.{rootsFault, edgeOf}
-use Rattle.values.specs.Values.{spans, numberIn, asciiIn, varinfoIn, ddIn, u32sIn, namesIn, rootsIn}
-use Rattle.whole.specs.Names.{upFrom, agree, variableNamesIn}
-use Rattle.whole.specs.Whole.{firstFault, numberFaults, supportFaults, nameCountFaults, nameFaults, rootFaults, wholeFault}
+use Rattle.read_lines.specs.Line.{isOf, seek, trim, feedAt, lineOf, keyEnd, valueStart, valueEnd, fieldOf}
+use Rattle.read_numbers.specs.Number.{digit, number, single}
+use Rattle.read_lists.specs.Lists.{judge, u32List}
+use Rattle.read_lines.specs.Words.{wordsFrom, words}
+use Rattle.read_edges.specs.Edges.{entryStep, edgeAt, edgeEnd, edgeList}
+use Rattle.read_text.specs.Text.{utf8Next, isUtf8, nameList, textAt}
+use Rattle.read_text.specs.Alike.{alike}
+use Rattle.header_keys.specs.Keys.{lookup, keyOf}
+use Rattle.header_faults.specs.Judge.{versionFault, modeFault, varinfoFault, textFault, singleFault, u32ListFault, rootListFault, nameListFault, faultOf}
+use Rattle.header_lines.specs.Sweep.{linesFrom, linesOf, endFrom, endOf, allOf, sound, lastFrom, lastOf, lasts, stepAt}
+use Rattle.seats.specs.Seats.{seatOf}
+use Rattle.seats.specs.Ordered.{ascending, distinct}
+use Rattle.support.specs.Support.{lastBelow, idsFit, allBelow, permidsFit, orderFrom, supportOrder}
+use Rattle.variable_names.specs.Names.{places, sameBytes, sameName, sameNames, chosen, freeFrom, orderedFrom, orderedSeats, suppFrom, suppSeats, variableNames}
+use Rattle.file_roots.specs.Roots.{rootsFault, edgeOf}
+use Rattle.header_values.specs.Values.{spans, numberIn, asciiIn, varinfoIn, ddIn, u32sIn, namesIn, rootsIn}
+use Rattle.header_checks.specs.Names.{upFrom, agree, variableNamesIn}
+use Rattle.codes.specs.Faults.{firstFault}
+use Rattle.header_checks.specs.Whole.{numberFaults, supportFaults, nameCountFaults, nameFaults, rootFaults, wholeFault}
 use Rattle.header.specs.Header.{tableOf, readOf, lengthFault, loadOf}
 use Rattle.header.specs.Examples.{bytesFrom, loaded, example, exampleLoaded, starred, starredLoaded, All, refusals}
 

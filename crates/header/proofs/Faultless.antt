@@ -4,15 +4,15 @@ use mathlib.Core.List.{List, map}
 use Prim.Native.Nat.{ℕ}
 use native.Mathlib.Omega.{arith}
 use Rattle.codes.specs.Limits.{varLimit}
-use Rattle.fields.specs.Sweep.{Span}
-use Rattle.fields.specs.declared.keys.Key.the-variants.{Permids}
-use Rattle.checks.specs.Roots.{edgeOf}
-use Rattle.checks.proofs.Distinct.{permids-limit}
-use Rattle.checks.proofs.RootEdges.{faultless-edges}
-use Rattle.values.specs.Values.{nvarsIn, nnodesIn, u32sIn, rootsIn}
-use Rattle.whole.specs.Whole.{wholeFault}
-use Rattle.whole.proofs.Accepted.{accepted}
-use Rattle.header.specs.Header.{Settled}
+use Rattle.header_lines.specs.Sweep.{Span}
+use Rattle.header_keys.specs.declared.Key.the-variants.{Permids}
+use Rattle.file_roots.specs.Roots.{edgeOf}
+use Rattle.support.proofs.Distinct.{permids-limit}
+use Rattle.file_roots.proofs.RootEdges.{faultless-edges}
+use Rattle.header_values.specs.Values.{nvarsIn, nnodesIn, u32sIn, rootsIn}
+use Rattle.header_checks.specs.Whole.{wholeFault}
+use Rattle.header_checks.proofs.Accepted.{accepted}
+use Rattle.header_lists.specs.Settled.{Settled}
 
 module _ (f : List ℕ) (t : List Span) (h : wholeFault f t ≡ 0) where
   -- what it leans on

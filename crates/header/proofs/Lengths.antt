@@ -8,9 +8,9 @@ use lib.ListN.{length, getD, drop, drop-of-length-le}
 use lib.Seq.{drop-cons}
 use borrow.Author.Tests.{le-leb, lt-leb, not-true, not-false}
 use Rattle.codes.specs.Limits.{varLimit, rootLimit, inputLimit}
-use Rattle.whole.specs.Whole.{firstFault}
-use Rattle.whole.proofs.FirstFault.{refuses, first-none, rest-none}
-use Rattle.whole.proofs.Refusals.{over-refuses, within-passes, within-none}
+use Rattle.codes.specs.Faults.{firstFault}
+use Rattle.codes.proofs.Faults.{refuses, first-none, rest-none}
+use Rattle.codes.proofs.Refusals.{over-refuses, within-passes, within-none}
 use Rattle.header.specs.Header.{atLeast, listsFault, lengthFault, lengthAfter, MayRead}
 
 -- The first i lengths are enough, so that the others decide.

@@ -4,6 +4,3 @@ pub mod Faultless
 pub mod Answers
 pub mod Loading
 pub mod Examples
-pub mod Cleared
-pub mod Filling
-pub mod Naming

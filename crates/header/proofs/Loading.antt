@@ -7,15 +7,16 @@ use lib.IntN.{ℤ, pos}
 use lib.ListN.{length, replicate}
 use Rattle.codes.specs.Lent.{laid}
 use Rattle.codes.specs.Limits.{rootLimit}
-use Rattle.readers.specs.Text.{startOf, lenOf}
-use Rattle.fields.specs.Sweep.{Span, End, atNodes, refusedAt, endOf, linesOf}
-use Rattle.fields.specs.declared.keys.Key.the-variants.{Ids, Permids, Auxids, Rootnames}
-use Rattle.checks.specs.Roots.{edgeOf}
-use Rattle.checks.specs.Support.{supportOrder}
-use Rattle.values.specs.Values.{spans, pad, nvarsIn, u32sIn, namesIn, rootsIn}
-use Rattle.whole.specs.Names.{variableNamesIn}
-use Rattle.whole.specs.Whole.{wholeFault}
-use Rattle.header.specs.Header.{Header, Answer, header, refusal, tableOf, settled, judged, readOf, after, Loaded, listsIn, listsBy, loadOf, tableBy, Settled, NextWithin}
+use Rattle.read_text.specs.Text.{startOf, lenOf}
+use Rattle.header_lines.specs.Sweep.{Span, End, atNodes, refusedAt, endOf, linesOf}
+use Rattle.header_keys.specs.declared.Key.the-variants.{Ids, Permids, Auxids, Rootnames}
+use Rattle.file_roots.specs.Roots.{edgeOf}
+use Rattle.support.specs.Support.{supportOrder}
+use Rattle.header_values.specs.Values.{spans, pad, nvarsIn, u32sIn, namesIn, rootsIn}
+use Rattle.header_checks.specs.Names.{variableNamesIn}
+use Rattle.header_checks.specs.Whole.{wholeFault}
+use Rattle.header.specs.Header.{Header, Answer, header, refusal, tableOf, settled, judged, readOf, after, Loaded, listsIn, listsBy, loadOf, tableBy, NextWithin}
+use Rattle.header_lists.specs.Settled.{Settled}
 use Rattle.header.proofs.NoValues.{no-lists}
 use Rattle.header.proofs.Faultless.{faultless-roots}
 use Rattle.header.proofs.Answers.{Promised, spans-of}

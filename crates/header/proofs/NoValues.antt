@@ -5,17 +5,18 @@ use Prim.Native.Nat.{ℕ}
 use native.Mathlib.Omega.{arith}
 use lib.ListN.{replicate}
 use Rattle.codes.specs.Machine.{run}
-use Rattle.readers.specs.Number.{single}
-use Rattle.readers.specs.Words.{wordsFrom, words}
-use Rattle.readers.specs.Lists.{judge, u32List}
-use Rattle.readers.specs.Edges.{edgeEnd, edgeList}
-use Rattle.readers.specs.Text.{nameList}
-use Rattle.fields.specs.Sweep.{Span, none, keys}
-use Rattle.checks.specs.Support.{orderFrom, supportOrder}
-use Rattle.checks.specs.Names.{variableNames}
-use Rattle.values.specs.Values.{u32sIn, namesIn, rootsIn, numberIn}
-use Rattle.whole.specs.Names.{variableNamesIn}
-use Rattle.header.specs.Header.{Answer, nothing, listsIn, Settled}
+use Rattle.read_numbers.specs.Number.{single}
+use Rattle.read_lines.specs.Words.{wordsFrom, words}
+use Rattle.read_lists.specs.Lists.{judge, u32List}
+use Rattle.read_edges.specs.Edges.{edgeEnd, edgeList}
+use Rattle.read_text.specs.Text.{nameList}
+use Rattle.header_lines.specs.Sweep.{Span, none, keys}
+use Rattle.support.specs.Support.{orderFrom, supportOrder}
+use Rattle.variable_names.specs.Names.{variableNames}
+use Rattle.header_values.specs.Values.{u32sIn, namesIn, rootsIn, numberIn}
+use Rattle.header_checks.specs.Names.{variableNamesIn}
+use Rattle.header.specs.Header.{Answer, nothing, listsIn}
+use Rattle.header_lists.specs.Settled.{Settled}
 
 -- the table of no values
 abbrev pub noValues : List Span

@@ -7,7 +7,7 @@ use mathlib.Core.List.{List, [], _∷_, _++_}
 use mathlib.Core.Bool.{true}
 use lib.ListN.{length}
 use lib.IntN.{pos, negsuc}
-use Rattle.readers.specs.Text.{place}
+use Rattle.read_text.specs.Text.{place}
 use Rattle.header.specs.Header.{Loaded, header, refusal, nothing, lengthFault, loadOf}
 
 -- the bytes of a text in ASCII

@@ -7,14 +7,14 @@ use lib.ListN.{length, replicate}
 use lib.IntN.{ℤ}
 use lib.Dec.{leb, ltb}
 use Rattle.codes.specs.Limits.{varLimit, rootLimit, inputLimit}
-use Rattle.readers.specs.Text.{Place}
-use Rattle.fields.specs.Sweep.{Span, none, keys, End, atNodes, refusedAt, linesOf, allOf, endOf, lasts}
-use Rattle.fields.specs.declared.keys.Key.the-variants.{Ids, Permids, Auxids, Rootnames}
-use Rattle.checks.specs.Support.{supportOrder}
-use Rattle.checks.specs.Seats.{Below}
-use Rattle.values.specs.Values.{nnodesIn, nvarsIn, nsuppvarsIn, nrootsIn, asciiIn, varinfoIn, ddIn, u32sIn, namesIn, rootsIn}
-use Rattle.whole.specs.Names.{variableNamesIn}
-use Rattle.whole.specs.Whole.{firstFault, when, unless, wholeFault}
+use Rattle.read_text.specs.Text.{Place}
+use Rattle.header_lines.specs.Sweep.{Span, none, keys, End, atNodes, refusedAt, linesOf, allOf, endOf, lasts}
+use Rattle.header_keys.specs.declared.Key.the-variants.{Ids, Permids, Auxids, Rootnames}
+use Rattle.support.specs.Support.{supportOrder}
+use Rattle.header_values.specs.Values.{nnodesIn, nvarsIn, nsuppvarsIn, nrootsIn, asciiIn, varinfoIn, ddIn, u32sIn, namesIn, rootsIn}
+use Rattle.header_checks.specs.Names.{variableNamesIn}
+use Rattle.codes.specs.Faults.{firstFault, when, unless}
+use Rattle.header_checks.specs.Whole.{wholeFault}
 
 -- the numbers of a header: mode A or not, varinfo, the place of the diagram's name, the counts, the position after `.nodes`' line, and the
 -- number of lines
@@ -136,11 +136,6 @@ loadOf found f = listsBy f (after found f)
 abbrev pub tableBy : List ℕ → Answer → List Span
 tableBy f (header h) = tableOf f
 tableBy f (refusal n line) = replicate keys none
-
--- what that phase leans on
-pub record Settled (f : List ℕ) (t : List Span) : Type 0 where
-  pub few : nvarsIn f t ≤ varLimit
-  pub below : Below varLimit (u32sIn f t Permids)
 
 -- the position after `.nodes`' line lies inside the file
 abbrev pub NextWithin : List ℕ → Answer → Type 0

@@ -1,9 +1,9 @@
 -- What the answers of the code stand for: for each case its values, or its number of document 01 with its line.
 use Rattle.header.specs.Header as header
-use Rattle.values.specs.Kinds.{ofVarInfo, ofPlace}
-use Rattle.header.specs.declared.load.DumpHeader.{DumpHeader}
-use Rattle.header.specs.declared.load.Loaded.{Loaded}
-use Rattle.header.specs.declared.load.Loaded.the-variants as loaded
+use Rattle.header_values.specs.Kinds.{ofVarInfo, ofPlace}
+use Rattle.header.specs.declared.DumpHeader.{DumpHeader}
+use Rattle.header.specs.declared.Loaded.{Loaded}
+use Rattle.header.specs.declared.Loaded.the-variants as loaded
 
 abbrev pub ofHeader : DumpHeader → header.Header
 ofHeader h = record {

@@ -1,6 +1,143 @@
-// The header of a file: what is judged before it is read (`before`), and `DumpHeader::load`, in three phases. The sweep of `fields` judges
-// each line and keeps the place of each key's last value; `whole` checks the header as a whole; `fill` reads each list from its place into
-// the lent one.
-pub mod before;
-pub mod fill;
-pub mod load;
+// The header of a file: `DumpHeader::load`, in three phases. `header_lines` judges each line and keeps the place of each key's last value;
+// `header_checks` checks the header as a whole; `header_lists` reads each list from its place into the lent one.
+ghost use mathlib.Core.Path.{_≡_};
+ghost use mathlib.Core.List.{map};
+ghost use lib.IntN.{pos};
+ghost use lib.ListN.{length, replicate};
+ghost use Rattle.codes.specs.Lent.{laid};
+ghost use Rattle.read_text.specs.Text.{startOf, lenOf};
+ghost use Rattle.header_lines.specs.Sweep.{Table, keys, spanStart, spanEnd};
+ghost use Rattle.header.specs.Kinds.{ofHeader, ofLoaded};
+ghost use Rattle.header_values.specs.Values.{spans, pad};
+ghost use Rattle.header.specs.Header.{headerIn, MayRead, after, tableBy, loadOf, NextWithin};
+ghost use Rattle.header_lists.specs.Settled.{Settled};
+use codes::VarInfo;
+use codes::limits;
+use edges::Edge;
+use header_keys::Key;
+use header_lines::Swept;
+use read_text::Place;
+
+// The numbers of a header: mode, varinfo, the place of the diagram's name, the counts, the position after `.nodes`' line and the number
+// of lines.
+pub struct DumpHeader {
+    pub ascii: bool,
+    pub varinfo: VarInfo,
+    pub dd: Place,
+    pub nnodes: u64,
+    pub nvars: u32,
+    pub nsuppvars: u32,
+    pub nroots: u64,
+    pub next: usize,
+    pub lines: usize,
+}
+
+// A header, or a refusal and its line.
+pub enum Loaded {
+    Header(DumpHeader),
+    Refused(u8, usize),
+}
+
+// The numbers, by the last value of each key.
+fn header_in(f: &[u8], starts: &[u32], ends: &[u32], next: usize, lines: usize) -> DumpHeader
+    requires { ⌜ Table (now f) (now starts) (now ends) ⌝ }
+    ensures { λ r. ⌜ ofHeader r ≡ headerIn (now (f .entry)) (spans (now (starts .entry)) (now (ends .entry))) next lines ⌝ }
+{
+    DumpHeader {
+        ascii: header_values::ascii_in(f, starts, ends),
+        varinfo: header_values::varinfo_in(f, starts, ends),
+        dd: header_values::dd_in(f, starts, ends),
+        nnodes: header_values::u64_in(f, starts, ends, Key::Nnodes),
+        nvars: header_values::u32_in(f, starts, ends, Key::Nvars),
+        nsuppvars: header_values::u32_in(f, starts, ends, Key::Nsuppvars),
+        nroots: header_values::u64_in(f, starts, ends, Key::Nroots),
+        next,
+        lines,
+    }
+}
+
+// Judges a file's header, where nothing was found before. The two lists, zeros at first, hold the span of each key's last value, and zeros
+// on a refusal.
+fn judge(f: &[u8], found: u8, starts: &mut [u32], ends: &mut [u32]) -> Loaded
+    requires { ⌜ MayRead found (now f) ⌝ }
+    requires { ⌜ now starts ≡ replicate keys 0 ⌝ }
+    requires { ⌜ now ends ≡ replicate keys 0 ⌝ }
+    ensures { λ r. ⌜ ofLoaded r ≡ after found (now (f .entry)) ⌝ }
+    ensures { λ r. ⌜ now (starts .exit) ≡ map spanStart (tableBy (now (f .entry)) (ofLoaded r)) ⌝ }
+    ensures { λ r. ⌜ now (ends .exit) ≡ map spanEnd (tableBy (now (f .entry)) (ofLoaded r)) ⌝ }
+    ensures { λ _. ⌜ Table (now (f .entry)) (now (starts .exit)) (now (ends .exit)) ⌝ }
+    ensures { λ r. ⌜ Settled (now (f .entry)) (tableBy (now (f .entry)) (ofLoaded r)) ⌝ }
+    ensures { λ r. ⌜ NextWithin (now (f .entry)) (ofLoaded r) ⌝ }
+{
+    if found != 0 {
+        return Loaded::Refused(found, 0);
+    }
+    match header_lines::sweep(f, starts, ends) {
+        Swept::Refused(n, line) => {
+            zeros::clear_numbers(starts);
+            zeros::clear_numbers(ends);
+            Loaded::Refused(n, line)
+        }
+        Swept::Nodes(next, lines) => {
+            let n = header_checks::whole_fault(f, starts, ends);
+            if n != 0 {
+                zeros::clear_numbers(starts);
+                zeros::clear_numbers(ends);
+                return Loaded::Refused(n, 0);
+            }
+            Loaded::Header(header_in(f, starts, ends, next, lines))
+        }
+    }
+}
+
+impl DumpHeader {
+    // Loads the header of a file. `found` is what was found wrong before, 0 for nothing; the input's length is among what is judged there,
+    // by `length_fault` of `stages`. The lists: `.ids`, the support order, `.permids`, `.auxids`, the variables' names as starts and lengths,
+    // `.rootids`, the roots' names as starts and lengths.
+    pub fn load(
+        f: &[u8],
+        found: u8,
+        ids: &mut [u32],
+        order: &mut [u32],
+        permids: &mut [u32],
+        auxids: &mut [u32],
+        names: &mut [u32],
+        lens: &mut [u32],
+        roots: &mut [Edge],
+        rootnames: &mut [u32],
+        rootlens: &mut [u32],
+    ) -> Loaded
+        requires { ⌜ MayRead found (now f) ⌝ }
+        ensures { λ r. ⌜ ofLoaded r ≡ loadOf found (now (f .entry)) .answer ⌝ }
+        ensures { λ r. ⌜ NextWithin (now (f .entry)) (ofLoaded r) ⌝ }
+        ensures { λ _. ⌜ now (ids .exit) ≡ pad (length (now (ids .entry))) (loadOf found (now (f .entry)) .ids) ⌝ }
+        ensures { λ _. ⌜ now (order .exit) ≡ pad (length (now (order .entry))) (loadOf found (now (f .entry)) .order) ⌝ }
+        ensures { λ _. ⌜ now (permids .exit) ≡ pad (length (now (permids .entry))) (loadOf found (now (f .entry)) .permids) ⌝ }
+        ensures { λ _. ⌜ now (auxids .exit) ≡ pad (length (now (auxids .entry))) (loadOf found (now (f .entry)) .auxids) ⌝ }
+        ensures { λ _. ⌜ now (names .exit) ≡ pad (length (now (names .entry))) (map startOf (loadOf found (now (f .entry)) .names)) ⌝ }
+        ensures { λ _. ⌜ now (lens .exit) ≡ pad (length (now (lens .entry))) (map lenOf (loadOf found (now (f .entry)) .names)) ⌝ }
+        ensures { λ _. ⌜ now (roots .exit) ≡ laid (loadOf found (now (f .entry)) .roots) (replicate (length (now (roots .entry))) (pos 0)) ⌝ }
+        ensures { λ _. ⌜ now (rootnames .exit) ≡ pad (length (now (rootnames .entry))) (map startOf (loadOf found (now (f .entry)) .rootnames)) ⌝ }
+        ensures { λ _. ⌜ now (rootlens .exit) ≡ pad (length (now (rootlens .entry))) (map lenOf (loadOf found (now (f .entry)) .rootnames)) ⌝ }
+    {
+        let mut starts = [0u32; header_keys::KEYS];
+        let mut ends = [0u32; header_keys::KEYS];
+        let loaded = judge(f, found, &mut starts, &mut ends);
+        header_values::u32s_in(f, &starts, &ends, Key::Ids, ids);
+        header_lists::fill_order(f, &starts, &ends, order);
+        header_values::u32s_in(f, &starts, &ends, Key::Permids, permids);
+        header_values::u32s_in(f, &starts, &ends, Key::Auxids, auxids);
+        header_lists::fill_names(f, &starts, &ends, names, lens);
+        header_lists::fill_roots(f, &starts, &ends, roots);
+        header_values::names_in(
+            f,
+            &starts,
+            &ends,
+            Key::Rootnames,
+            limits::ROOT_LIMIT,
+            rootnames,
+            rootlens,
+        );
+        loaded
+    }
+}

@@ -3,13 +3,13 @@ use mathlib.Core.Path.{_≡_, refl}
 use mathlib.Core.Bool.{true, false}
 use Rattle.codes.specs.Machine.{run}
 use Rattle.codes.specs.Bytes.{isBlank, isDigit, isLineEnd}
-use Rattle.readers.specs.Line.{isOf, seek, trim, feedAt, lineOf}
-use Rattle.readers.specs.Number.{digit, number, single, first}
-use Rattle.readers.specs.Words.{wordsFrom, words}
-use Rattle.readers.specs.Edges.{entryStep, edgeAt, edgeEnd, edgeList, children}
-use Rattle.fields.specs.Keys.{alike}
-use Rattle.lines.specs.Line.{deeper, childFault}
-use Rattle.lines.specs.Decode.{decodeFrom}
+use Rattle.read_lines.specs.Line.{isOf, seek, trim, feedAt, lineOf}
+use Rattle.read_numbers.specs.Number.{digit, number, single, first}
+use Rattle.read_lines.specs.Words.{wordsFrom, words}
+use Rattle.read_edges.specs.Edges.{entryStep, edgeAt, edgeEnd, edgeList, children}
+use Rattle.read_text.specs.Alike.{alike}
+use Rattle.node_lines.specs.Line.{deeper, childFault}
+use Rattle.node_lines.specs.Decode.{decodeFrom}
 use Rattle.import_ascii.specs.Text.{wordFrom, numbered, afterExtra, variableWord, textLine, textLineAt}
 use Rattle.import_ascii.specs.Examples.{bytesFrom, decoded, example, exampleLines, own, ownLines, short, shortLines, All, accepted, refusals, firsts, extras}
 

@@ -13,9 +13,9 @@ use mir.Val.{SFits, hbits, toZ, ofZ}
 use mir.ValLaws.{toZ-ofZ}
 use Rattle.codes.specs.Limits.{nodeLimit}
 use Rattle.codes.specs.Answer.{value, refused}
-use Rattle.checks.specs.Roots.{edgeOf}
-use Rattle.checks.proofs.RootEdges.{edge-same, edge-read}
-use Rattle.lines.specs.Line.{Line, inner, deeper, childFault}
+use Rattle.file_roots.specs.Roots.{edgeOf}
+use Rattle.file_roots.proofs.RootEdges.{edge-same, edge-read}
+use Rattle.node_lines.specs.Line.{Line, inner, deeper, childFault}
 use Rattle.import_ascii.specs.Text.{faultless, variable}
 
 -- A child of magnitude m of the line n, at a level.

@@ -9,13 +9,13 @@ use lib.Seq.{take-all}
 use lib.IntN.{ℤ, natAbs}
 use borrow.Author.Tests.{lt-ltb, le-ltb, eq-eqb, ne-eqb}
 use Rattle.codes.specs.Answer.{Read, value, refused, got, fails}
-use Rattle.readers.specs.Number.{single}
-use Rattle.readers.specs.Edges.{Pair, pair, children}
-use Rattle.readers.specs.Line.{lineOf}
-use Rattle.readers.specs.declared.lines.Line as bounds
-use Rattle.fields.specs.Keys.{alike}
-use Rattle.fields.specs.Sweep.{part}
-use Rattle.lines.specs.Line.{Line, terminal}
+use Rattle.read_numbers.specs.Number.{single}
+use Rattle.read_edges.specs.Edges.{Pair, pair, children}
+use Rattle.read_lines.specs.Line.{lineOf}
+use Rattle.read_lines.specs.declared.Line as bounds
+use Rattle.read_text.specs.Alike.{alike}
+use Rattle.header_lines.specs.Sweep.{part}
+use Rattle.node_lines.specs.Line.{Line, terminal}
 use Rattle.import_ascii.specs.Text.{variableWord, describedT, variable, described, textLine, textLineAt}
 
 module _ (word : List ℕ) {b : Bool} (e : b ≡ alike word (0x54 ∷ [])) where

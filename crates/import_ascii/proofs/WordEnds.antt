@@ -7,11 +7,11 @@ use native.Mathlib.Omega.{arith}
 use lib.ListN.{length, take, drop}
 use borrow.Author.Tests.{lt-ltb, le-ltb, eq-eqb, ne-eqb}
 use Rattle.codes.specs.Answer.{Read, value, refused, Step, got, fails}
-use Rattle.readers.specs.Line.{isOf, seek}
-use Rattle.readers.specs.Number.{single, endsAt, first}
-use Rattle.readers.specs.declared.lines.Class.the-variants.{Blank, NonBlank}
-use Rattle.readers.proofs.Line.{found}
-use Rattle.readers.proofs.Words.{first-word}
+use Rattle.read_lines.specs.Line.{isOf, seek}
+use Rattle.read_numbers.specs.Number.{single, endsAt, first}
+use Rattle.read_lines.specs.declared.Class.the-variants.{Blank, NonBlank}
+use Rattle.read_lines.proofs.Searches.{found}
+use Rattle.read_numbers.proofs.Words.{first-word}
 use Rattle.import_ascii.specs.declared.Word.{Word}
 use Rattle.import_ascii.specs.declared.Word.the-variants as word
 use Rattle.import_ascii.specs.Kinds.{WordWithin}

@@ -8,8 +8,8 @@ use mathlib.Core.Bool.{Bool, false}
 use lib.ListN.{length}
 use lib.IntN.{pos, negsuc}
 use Rattle.codes.specs.Answer.{Step, got, fails}
-use Rattle.lines.specs.Line.{Line, terminal, inner}
-use Rattle.lines.specs.Decode.{NodeLines, nodeLines, allRead, stopped, decodeFrom}
+use Rattle.node_lines.specs.Line.{Line, terminal, inner}
+use Rattle.node_lines.specs.Decode.{NodeLines, nodeLines, allRead, stopped, decodeFrom}
 use Rattle.import_ascii.specs.Text.{textLineAt}
 
 -- the bytes of a text in ASCII

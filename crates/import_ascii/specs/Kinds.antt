@@ -3,7 +3,7 @@ use Prim.Native.Nat.{ℕ, _≤_}
 use mathlib.Core.List.{List}
 use lib.ListN.{length}
 use Rattle.codes.specs.Answer.{Read, value, refused, Step, got, fails}
-use Rattle.lines.specs.Line.{Line, terminal, inner}
+use Rattle.node_lines.specs.Line.{Line, terminal, inner}
 use Rattle.import_ascii.specs.declared.Word.{Word}
 use Rattle.import_ascii.specs.declared.Word.the-variants as word
 use Rattle.import_ascii.specs.declared.Parsed.{Parsed}

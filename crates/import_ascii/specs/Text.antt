@@ -6,13 +6,13 @@ use lib.ListN.{length, take, drop, getD}
 use lib.IntN.{ℤ, natAbs}
 use lib.Dec.{ltb, eqb}
 use Rattle.codes.specs.Answer.{Read, value, refused, Step, got, fails, then}
-use Rattle.readers.specs.Line.{isOf, seek, lineOf}
-use Rattle.readers.specs.Number.{first, single}
-use Rattle.readers.specs.Edges.{Pair, children}
-use Rattle.readers.specs.declared.lines.Class.the-variants.{Blank, NonBlank}
-use Rattle.fields.specs.Keys.{alike}
-use Rattle.fields.specs.Sweep.{part}
-use Rattle.lines.specs.Line.{Line, terminal, inner, childFault}
+use Rattle.read_lines.specs.Line.{isOf, seek, lineOf}
+use Rattle.read_numbers.specs.Number.{first, single}
+use Rattle.read_edges.specs.Edges.{Pair, children}
+use Rattle.read_lines.specs.declared.Class.the-variants.{Blank, NonBlank}
+use Rattle.read_text.specs.Alike.{alike}
+use Rattle.header_lines.specs.Sweep.{part}
+use Rattle.node_lines.specs.Line.{Line, terminal, inner, childFault}
 
 -- the word from a position of a line on: where it starts, and where it ends
 abbrev pub wordStart : List ℕ → ℕ → ℕ

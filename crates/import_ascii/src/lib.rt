@@ -4,19 +4,19 @@ ghost use Prim.Native.Nat.{_≤_, _<_, _^_};
 ghost use lib.ListN.{length};
 ghost use lib.IntN.{natAbs};
 ghost use Rattle.codes.specs.Answer.{value};
-ghost use Rattle.lines.specs.Kinds.{ofDecoded};
-ghost use Rattle.lines.specs.Line.{childFault};
-ghost use Rattle.readers.specs.Kinds.{ofChildren};
+ghost use Rattle.node_lines.specs.Kinds.{ofDecoded};
+ghost use Rattle.node_lines.specs.Line.{childFault};
+ghost use Rattle.read_edges.specs.Kinds.{ofChildren};
 ghost use Rattle.import_ascii.specs.Kinds.{ofWord, ofParsed, WordWithin};
 ghost use Rattle.import_ascii.specs.Text.{wordFrom, numbered, afterExtra, variableWord, describedT, variable, described, textLine, textLineAt};
 use codes::refusal;
 use edges::Edge;
 use edges::Index;
-use lines::Decoded;
-use readers::edges::Children;
-use readers::lines::Class;
-use readers::numbers::First64;
-use readers::numbers::Number32;
+use node_lines::Decoded;
+use read_edges::Children;
+use read_lines::Class;
+use read_numbers::First64;
+use read_numbers::Number32;
 
 // Where a word starts and ends, or a refusal.
 pub enum Word {
@@ -37,8 +37,8 @@ fn word_from(s: &[u8], at: usize) -> Word
     ensures { λ r. ⌜ ofWord r ≡ wordFrom (now (s .entry)) at ⌝ }
     ensures { λ r. ⌜ WordWithin (now (s .entry)) r ⌝ }
 {
-    let start = readers::lines::forward(s, at, s.len(), Class::NonBlank);
-    let end = readers::lines::forward(s, start, s.len(), Class::Blank);
+    let start = read_lines::forward(s, at, s.len(), Class::NonBlank);
+    let end = read_lines::forward(s, start, s.len(), Class::Blank);
     if end < s.len() {
         return Word::At(start, end);
     }
@@ -50,7 +50,7 @@ fn numbered(node: Index, s: &[u8]) -> Word
     ensures { λ r. ⌜ ofWord r ≡ numbered node (now (s .entry)) ⌝ }
     ensures { λ r. ⌜ WordWithin (now (s .entry)) r ⌝ }
 {
-    match readers::numbers::parse_u64(s) {
+    match read_numbers::parse_u64(s) {
         First64::Value(v, at) => {
             if v == node as u64 {
                 return Word::At(at, at);
@@ -92,11 +92,11 @@ fn child_fault(levels: &[u16], seats: &[u16], node: Index, level: u16, child: i6
     requires { ⌜ 1 ≤ natAbs child ⌝ }
     ensures { λ r. ⌜ r ≡ childFault (now (levels .entry)) (now (seats .entry)) node level child ⌝ }
 {
-    let m = checks::roots::magnitude(child);
+    let m = file_roots::magnitude(child);
     if (node as u64) <= m {
         return refusal::BAD_CHILD;
     }
-    if lines::deeper(levels, seats, level, m as Index) {
+    if node_lines::deeper(levels, seats, level, m as Index) {
         return 0;
     }
     refusal::BAD_LEVEL
@@ -106,7 +106,7 @@ fn child_fault(levels: &[u16], seats: &[u16], node: Index, level: u16, child: i6
 fn terminal(word: &[u8]) -> Parsed
     ensures { λ r. ⌜ ofParsed r ≡ describedT (now (word .entry)) ⌝ }
 {
-    if fields::keys::same(word, b"T") {
+    if read_text::same(word, b"T") {
         return Parsed::Terminal;
     }
     Parsed::Refused(refusal::BAD_TERMINAL)
@@ -130,11 +130,7 @@ fn at_position(levels: &[u16], seats: &[u16], node: Index, p: u32, t: i64, e: i6
     if e_fault != 0 {
         return Parsed::Refused(e_fault);
     }
-    Parsed::Inner(
-        p as u16,
-        checks::roots::edge_of(t),
-        checks::roots::edge_of(e),
-    )
+    Parsed::Inner(p as u16, file_roots::edge_of(t), file_roots::edge_of(e))
 }
 
 // A line of a variable word and its children, which were read whole before.
@@ -147,13 +143,13 @@ fn described(word: &[u8], c: Children, levels: &[u16], seats: &[u16], node: Inde
             if n != 2 {
                 return Parsed::Refused(refusal::BAD_LINE);
             }
-            if checks::roots::magnitude(t) == 0 {
+            if file_roots::magnitude(t) == 0 {
                 return terminal(word);
             }
-            if checks::roots::magnitude(e) == 0 {
+            if file_roots::magnitude(e) == 0 {
                 return terminal(word);
             }
-            match readers::numbers::parse_single_u32(word) {
+            match read_numbers::parse_single_u32(word) {
                 Number32::Value(p) => at_position(levels, seats, node, p, t, e),
                 Number32::Refused(k) => Parsed::Refused(k),
             }
@@ -169,7 +165,7 @@ fn text_line(extra: bool, levels: &[u16], seats: &[u16], node: Index, s: &[u8]) 
 {
     match variable_word(extra, node, s) {
         Word::At(start, end) => {
-            let c = readers::edges::parse_children(&s[end..]);
+            let c = read_edges::parse_children(&s[end..]);
             described(&s[start..end], c, levels, seats, node)
         }
         Word::Refused(k) => Parsed::Refused(k),
@@ -192,7 +188,7 @@ pub fn line_at(
     if f.len() <= at {
         return Decoded::Refused(refusal::ENDS_EARLY);
     }
-    let line = readers::lines::line_at(f, at);
+    let line = read_lines::line_at(f, at);
     let end = line.end;
     let next = line.next;
     match text_line(extra, levels, seats, node, &f[at..end]) {

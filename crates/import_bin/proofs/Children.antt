@@ -10,9 +10,9 @@ use Rattle.codes.specs.Answer.{Step, got, fails, then}
 use Rattle.codes.specs.declared.Code.{Code}
 use Rattle.codes.specs.declared.Code.the-variants.{Terminal, AbsoluteID, RelativeID, Relative1}
 use Rattle.codes.proofs.Code.{the-type}
-use Rattle.readers.specs.declared.binary.Number.{Number}
-use Rattle.readers.specs.Kinds.{ofNumber}
-use Rattle.readers.specs.Binary.{numberAt}
+use Rattle.read_binary.specs.declared.Number.{Number}
+use Rattle.read_binary.specs.Kinds.{ofNumber}
+use Rattle.read_binary.specs.Binary.{numberAt}
 use Rattle.import_bin.specs.declared.Read.{Read}
 use Rattle.import_bin.specs.declared.Read.the-variants as read
 use Rattle.import_bin.specs.Kinds.{ReadBelow}

@@ -10,11 +10,11 @@ use Rattle.codes.specs.Codes.{codeOf}
 use Rattle.codes.specs.declared.Code.{Code}
 use Rattle.codes.specs.declared.Code.the-variants.{Terminal, AbsoluteID, RelativeID, Relative1}
 use Rattle.codes.proofs.Code.{the-type}
-use Rattle.readers.specs.declared.binary.Byte.{Byte}
-use Rattle.readers.specs.declared.binary.Byte.the-variants as byte
-use Rattle.readers.specs.Kinds.{ofByte}
-use Rattle.readers.specs.Binary.{byteAt}
-use Rattle.lines.specs.Line.{Line, terminal}
+use Rattle.read_binary.specs.declared.Byte.{Byte}
+use Rattle.read_binary.specs.declared.Byte.the-variants as byte
+use Rattle.read_binary.specs.Kinds.{ofByte}
+use Rattle.read_binary.specs.Binary.{byteAt}
+use Rattle.node_lines.specs.Line.{Line, terminal}
 use Rattle.import_bin.specs.Bin.{idAt, below, childAt, variableAt, resolved, innerAt, byCode, binLineAt}
 use Rattle.import_bin.proofs.Children.{child-after}
 use Rattle.import_bin.proofs.Steps.{then-then, refusal-on, refusal-kept}

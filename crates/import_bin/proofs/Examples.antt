@@ -1,9 +1,9 @@
 -- The definitions compute to what document 01 says.
 use mathlib.Core.Path.{_≡_, refl}
 use Rattle.codes.specs.Codes.{codeOf}
-use Rattle.readers.specs.Binary.{meant, byteAt, groupsFrom, numberAt}
-use Rattle.lines.specs.Line.{deeper}
-use Rattle.lines.specs.Decode.{decodeFrom}
+use Rattle.read_binary.specs.Binary.{meant, byteAt, groupsFrom, numberAt}
+use Rattle.node_lines.specs.Line.{deeper}
+use Rattle.node_lines.specs.Decode.{decodeFrom}
 use Rattle.import_bin.specs.Bin.{idAt, childAt, variableAt, binLineAt}
 use Rattle.import_bin.specs.Examples.{decoded, example, exampleLines, ReadSo, readings, RefusedSo, refusals}
 

@@ -18,8 +18,8 @@ use Rattle.codes.specs.declared.Code.the-variants.{Terminal, AbsoluteID, Relati
 use Rattle.codes.proofs.Code.{the-type}
 use Rattle.edges.proofs.Edge.{abs-neg}
 use Rattle.edges.proofs.Signed.{edge-back, negation-fits, negation-back}
-use Rattle.readers.specs.Edges.{signed}
-use Rattle.lines.specs.Line.{Line, inner, deeper}
+use Rattle.read_edges.specs.Edges.{signed}
+use Rattle.node_lines.specs.Line.{Line, inner, deeper}
 use Rattle.import_bin.specs.declared.Read.{Read}
 use Rattle.import_bin.specs.declared.Read.the-variants as read
 use Rattle.import_bin.specs.Kinds.{ofRead}

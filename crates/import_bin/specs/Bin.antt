@@ -11,9 +11,9 @@ use Rattle.codes.specs.Answer.{Step, got, fails, then}
 use Rattle.codes.specs.Codes.{codeOf}
 use Rattle.codes.specs.declared.Code.{Code}
 use Rattle.codes.specs.declared.Code.the-variants.{Terminal, AbsoluteID, RelativeID, Relative1}
-use Rattle.readers.specs.Binary.{byteAt, numberAt}
-use Rattle.readers.specs.Edges.{signed}
-use Rattle.lines.specs.Line.{Line, terminal, inner, deeper}
+use Rattle.read_binary.specs.Binary.{byteAt, numberAt}
+use Rattle.read_edges.specs.Edges.{signed}
+use Rattle.node_lines.specs.Line.{Line, terminal, inner, deeper}
 
 -- The number of a child of line n. 'Codes: 0 terminal (node 1), 1 absolute, 2 relative (that many before), 3 one before.' A distance above n
 -- leaves 0, the number of no line.

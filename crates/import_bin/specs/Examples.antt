@@ -4,8 +4,8 @@ use Prim.Native.Nat.{ℕ}
 use mathlib.Core.List.{List, [], _∷_, _++_}
 use lib.ListN.{length, replicate}
 use lib.IntN.{pos, negsuc}
-use Rattle.lines.specs.Line.{terminal, inner}
-use Rattle.lines.specs.Decode.{NodeLines, nodeLines, allRead, stopped, decodeFrom}
+use Rattle.node_lines.specs.Line.{terminal, inner}
+use Rattle.node_lines.specs.Decode.{NodeLines, nodeLines, allRead, stopped, decodeFrom}
 use Rattle.import_bin.specs.Bin.{binLineAt}
 
 -- the first lines of a file whose support positions 0 and 1 have the levels 0 and 1, by the store's level count

@@ -4,17 +4,17 @@ ghost use Prim.Native.Nat.{_-_, _≤_, _<_, _^_};
 ghost use lib.ListN.{length, getD};
 ghost use lib.IntN.{pos};
 ghost use Rattle.codes.specs.Answer.{then};
-ghost use Rattle.lines.specs.Kinds.{ofDecoded};
-ghost use Rattle.readers.specs.Edges.{signed};
+ghost use Rattle.node_lines.specs.Kinds.{ofDecoded};
+ghost use Rattle.read_edges.specs.Edges.{signed};
 ghost use Rattle.import_bin.specs.Kinds.{ofRead, ReadBelow};
 ghost use Rattle.import_bin.specs.Bin.{idAt, below, variableAt, countsFrom, positionBy, placed, resolved, innerAt, binLineAt};
 use codes::Code;
 use codes::refusal;
 use edges::Edge;
 use edges::Index;
-use lines::Decoded;
-use readers::binary::Byte;
-use readers::binary::Number;
+use node_lines::Decoded;
+use read_binary::Byte;
+use read_binary::Number;
 
 // A number and the position after it, or a refusal.
 pub enum Read {
@@ -40,11 +40,11 @@ fn id_at(code: Code, node: Index, f: &[u8], at: usize) -> Read
 {
     match code {
         Code::Terminal => Read::Number(1, at),
-        Code::AbsoluteID => match readers::binary::decode_7bit(f, at) {
+        Code::AbsoluteID => match read_binary::decode_7bit(f, at) {
             Number::Value(id, next) => Read::Number(id, next),
             Number::Refused(k) => Read::Refused(k),
         },
-        Code::RelativeID => match readers::binary::decode_7bit(f, at) {
+        Code::RelativeID => match read_binary::decode_7bit(f, at) {
             Number::Value(d, next) => Read::Number(before(node, d), next),
             Number::Refused(k) => Read::Refused(k),
         },
@@ -88,7 +88,7 @@ fn variable_at(code: Code, f: &[u8], at: usize) -> Read
     match code {
         Code::Terminal => Read::Number(0, at),
         Code::Relative1 => Read::Number(1, at),
-        _ => match readers::binary::decode_7bit(f, at) {
+        _ => match read_binary::decode_7bit(f, at) {
             Number::Value(v, next) => Read::Number(v, next),
             Number::Refused(k) => Read::Refused(k),
         },
@@ -153,10 +153,10 @@ fn placed(
         return Decoded::Refused(refusal::BAD_VARIABLE);
     }
     let level = levels[p as usize];
-    if !lines::deeper(levels, seats, level, t) {
+    if !node_lines::deeper(levels, seats, level, t) {
         return Decoded::Refused(refusal::BAD_LEVEL);
     }
-    if !lines::deeper(levels, seats, level, e) {
+    if !node_lines::deeper(levels, seats, level, e) {
         return Decoded::Refused(refusal::BAD_LEVEL);
     }
     Decoded::Inner(p as u16, signed(false, t), els, next)
@@ -251,7 +251,7 @@ pub fn line_at(
     requires { ⌜ (node < 2 ^ 15) × (length (now levels) < 2 ^ 16) ⌝ }
     ensures { λ r. ⌜ ofDecoded r ≡ binLineAt count (now (levels .entry)) (now (seats .entry)) node (now (f .entry)) at ⌝ }
 {
-    match readers::binary::read_unescape(f, at) {
+    match read_binary::read_unescape(f, at) {
         Byte::Value(b, next) => {
             let code = Code::from_bits(b / 32);
             match code {

@@ -1,14 +1,3 @@
-pub mod Entries
-pub mod Members
-pub mod Few
-pub mod Run
-pub mod Meeting
-pub mod Laid
-pub mod Marks
-pub mod NodeWalk
-pub mod RootWalk
-pub mod WalkExamples
-pub mod EntrySeats
 pub mod Deepest
 pub mod Placed
 pub mod DepthCounts
@@ -16,6 +5,4 @@ pub mod NodeNumbers
 pub mod NodeSlots
 pub mod Numbered
 pub mod Allowed
-pub mod SupportLevels
-pub mod LevelSeats
 pub mod NumberingExamples

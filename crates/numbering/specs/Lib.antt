@@ -1,5 +1,4 @@
-pub mod Reached
-pub mod Walk
 pub mod Numbering
 pub mod Support
 pub mod Depths
+pub mod Allowed

@@ -8,18 +8,18 @@ use native.Mathlib.Omega.{arith}
 use lib.ListN.{length}
 use lib.IntN.{ℤ}
 use Rattle.codes.specs.Limits.{inputLimit}
-use Rattle.readers.specs.Each.{Each, none, each}
+use Rattle.read_lines.specs.Each.{Each, none, each}
 use Rattle.store.specs.Store.{Store}
-use Rattle.names.specs.Names.{nameAt, fitName, listFits}
-use Rattle.names.specs.Size.{sum, exportSize}
-use Rattle.names.proofs.FitNames.{fit-most}
-use Rattle.names.proofs.FitLists.{place-fit, place-length, list-count, list-names, list-sum}
+use Rattle.export_names.specs.Names.{nameAt, fitName, listFits}
+use Rattle.export_size.specs.Size.{sum, exportSize}
+use Rattle.export_names.proofs.FitNames.{fit-most}
+use Rattle.export_names.proofs.FitLists.{place-fit, place-length, list-count, list-names, list-sum}
 use Rattle.export_nodes.specs.Exported.{Exported}
-use Rattle.export_header.specs.Tables.{Lent}
-use Rattle.exporter.specs.Settings.{Settings}
-use Rattle.exporter.specs.Export.{fileOf}
-use Rattle.exporter.proofs.Accepted.{Accepted}
-use Rattle.exporter.proofs.FileParts.{file-short}
+use Rattle.heading.specs.Tables.{Lent}
+use Rattle.exported.specs.Settings.{Settings}
+use Rattle.exported.specs.Export.{fileOf}
+use Rattle.exported.proofs.Accepted.{Accepted}
+use Rattle.exported.proofs.FileParts.{file-short}
 
 -- names have 255 bytes each at most
 names-short : {names : List (List ℕ)} → Each (λ name. fitName false name ≡ true) names → sum (map length names) ≤ 255 * length names

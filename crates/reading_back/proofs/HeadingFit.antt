@@ -5,16 +5,16 @@ use native.Mathlib.Omega.{arith}
 use lib.ListN.{length, getD, length-map}
 use lib.IntN.{ℤ, pos, natAbs}
 use Rattle.store.specs.Store.{Store}
-use Rattle.names.proofs.FitLists.{place-fit, list-count, list-names}
-use Rattle.numbering.proofs.SupportLevels.{support-fits}
+use Rattle.export_names.proofs.FitLists.{place-fit, list-count, list-names}
+use Rattle.export_support.proofs.SupportLevels.{support-fits}
 use Rattle.export_nodes.specs.Exported.{Exported}
 use Rattle.export_nodes.specs.Lines.{renumbered}
 use Rattle.export_nodes.proofs.Renumbered.{lines-few}
 use Rattle.export_nodes.proofs.TableLines.{map-at}
-use Rattle.export_header.specs.Tables.{Lent}
-use Rattle.exporter.specs.Settings.{Settings}
-use Rattle.exporter.specs.Export.{headingOf}
-use Rattle.exporter.proofs.Accepted.{Accepted}
+use Rattle.heading.specs.Tables.{Lent}
+use Rattle.exported.specs.Settings.{Settings}
+use Rattle.exported.specs.Export.{headingOf}
+use Rattle.exported.proofs.Accepted.{Accepted}
 use Rattle.reading_header.specs.HeaderBack.{Fit}
 use Rattle.reading_nodes.proofs.RootsBack.{root-some, root-low}
 

@@ -5,14 +5,14 @@ use mathlib.Core.List.{List}
 use Prim.Native.Nat.{ℕ}
 use lib.IntN.{ℤ}
 use Rattle.codes.specs.declared.DDDMPVersion.{DDDMPVersion}
-use Rattle.readers.specs.Text.{Place}
+use Rattle.read_text.specs.Text.{Place}
 use Rattle.store.specs.Store.{Store}
 use Rattle.header.specs.Header.{Header, header, answerOf}
-use Rattle.numbering.specs.Reached.{Allowed}
+use Rattle.numbering.specs.Allowed.{Allowed}
 use Rattle.numbering.specs.Support.{supportOf}
-use Rattle.export_header.specs.Tables.{Lent}
-use Rattle.exporter.specs.Settings.{Settings, settings}
-use Rattle.exporter.specs.Export.{exportFault, headingOf, fileOf}
+use Rattle.heading.specs.Tables.{Lent}
+use Rattle.exported.specs.Settings.{Settings, settings}
+use Rattle.exported.specs.Export.{exportFault, headingOf, fileOf}
 use Rattle.reading_header.specs.HeaderBack.{headerFor}
 use Rattle.reading_back.specs.ReadsBack.{ReadsBack, importBy, GivesBack, Alike}
 use Rattle.reading_back.proofs.ReadsBack.{reads-back}

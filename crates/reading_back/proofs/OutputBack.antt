@@ -7,16 +7,17 @@ use lib.ListN.{length, take, replicate, length-replicate}
 use lib.IntN.{ℤ}
 use Rattle.codes.specs.Answer.{value}
 use Rattle.store.specs.Store.{Store}
-use Rattle.values.proofs.Padded.{take-laid}
-use Rattle.export_header.specs.Tables.{Lent}
-use Rattle.exporter.specs.Settings.{Settings}
-use Rattle.exporter.specs.Export.{exportFault, fileOf}
+use Rattle.header_values.proofs.Padded.{take-laid}
+use Rattle.heading.specs.Tables.{Lent}
+use Rattle.exported.specs.Settings.{Settings}
+use Rattle.exported.specs.Export.{exportFault, fileOf}
 use Rattle.exporter.specs.Promise.{ofExported, Writes, Exports}
 use Rattle.exporter.specs.declared.Exported.{Exported}
-use Rattle.exporter.proofs.Accepted.{Accepted, accepted}
-use Rattle.exporter.proofs.FileParts.{file-short}
+use Rattle.exported.proofs.Accepted.{Accepted, accepted}
+use Rattle.exported.proofs.FileParts.{file-short}
 use Rattle.reading_back.specs.ReadsBack.{OutputBack}
-use Rattle.reading_back.proofs.ReadsBack.{exported, accepted-back}
+use Rattle.exported.proofs.Started.{exported}
+use Rattle.reading_back.proofs.ReadsBack.{accepted-back}
 
 module _ {s : Settings} {σ : Store} {roots : List ℤ} {order : List ℕ} {p : Lent} (slots numbers lent : ℕ) (r : Exported) {out : List ℕ} {n : ℕ}
     (is : ofExported r ≡ value n) where

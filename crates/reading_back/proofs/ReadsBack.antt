@@ -8,30 +8,26 @@ use lib.Seq.{drop-append-seam}
 use lib.IntN.{ℤ}
 use borrow.Author.Tests.{eq-eqb}
 use Rattle.store.specs.Store.{Store}
-use Rattle.numbering.specs.Reached.{Allowed}
+use Rattle.numbering.specs.Allowed.{Allowed}
 use Rattle.numbering.specs.Support.{supportOf}
-use Rattle.numbering.proofs.SupportLevels.{support-fits}
+use Rattle.export_support.proofs.SupportLevels.{support-fits}
 use Rattle.export_nodes.specs.Exported.{Exported}
 use Rattle.export_nodes.specs.Lines.{linesFor}
-use Rattle.export_nodes.specs.Encoded.{nodeBytes, endText}
+use Rattle.node_writers.specs.Encoded.{nodeBytes, endText}
 use Rattle.export_nodes.proofs.Renumbered.{lines-few}
-use Rattle.import.specs.List.{listFits}
-use Rattle.export_header.specs.Heading.{headText}
-use Rattle.export_header.specs.Tables.{Lent}
-use Rattle.exporter.specs.Settings.{Settings}
-use Rattle.exporter.specs.Export.{exportFault, headingOf, fileOf}
-use Rattle.exporter.proofs.Accepted.{Accepted, accepted}
+use Rattle.level_list.specs.List.{listFits}
+use Rattle.heading.specs.Heading.{headText}
+use Rattle.heading.specs.Tables.{Lent}
+use Rattle.exported.specs.Settings.{Settings}
+use Rattle.exported.specs.Export.{exportFault, headingOf, fileOf}
+use Rattle.exported.proofs.Accepted.{Accepted, accepted}
 use Rattle.reading_header.proofs.HeaderBack.{header-back}
 use Rattle.reading_nodes.specs.Back.{Stand}
 use Rattle.reading_nodes.proofs.NodesBack.{nodes-read-back}
 use Rattle.reading_back.specs.ReadsBack.{ReadsBack}
 use Rattle.reading_back.proofs.HeadingFit.{heading-fit}
 use Rattle.reading_back.proofs.FileShort.{input-short}
-
--- what an accepted export starts from, with any numbering that document 01 allows
-pub exported : {σ : Store} {roots : List ℤ} {order ns : List ℕ} {p : Lent} {slots numbers out : ℕ} → Accepted σ roots order p slots numbers out
-    → Allowed σ roots ns → Exported σ roots ns
-exported A allowed = record { rules = A .rules; roots-there = A .roots-there; allowed = allowed }
+use Rattle.exported.proofs.Started.{exported}
 
 module _ {σ : Store} {roots : List ℤ} {order : List ℕ} {p : Lent} {slots numbers out : ℕ} (A : Accepted σ roots order p slots numbers out)
     {ns : List ℕ} (allowed : Allowed σ roots ns) (s : Settings) where

@@ -11,12 +11,12 @@ use Rattle.codes.specs.Lent.{laid}
 use Rattle.store.specs.Store.{Store}
 use Rattle.header.specs.Header.{Header}
 use Rattle.numbering.specs.Support.{supportOf}
-use Rattle.import.specs.List.{listFits}
-use Rattle.import.specs.Import.{Imported, setup, nodes, importOf}
-use Rattle.export_header.specs.Heading.{headLines, headText}
-use Rattle.export_header.specs.Tables.{Lent}
-use Rattle.exporter.specs.Settings.{Settings}
-use Rattle.exporter.specs.Export.{headingOf, fileOf}
+use Rattle.level_list.specs.List.{listFits}
+use Rattle.imported.specs.Import.{Imported, setup, nodes, importOf}
+use Rattle.heading.specs.Heading.{headLines, headText}
+use Rattle.heading.specs.Tables.{Lent}
+use Rattle.exported.specs.Settings.{Settings}
+use Rattle.exported.specs.Export.{headingOf, fileOf}
 use Rattle.reading_header.specs.HeaderBack.{loadedFrom, HeaderBack}
 use Rattle.reading_nodes.specs.Back.{NodesBack}
 

@@ -8,12 +8,12 @@ use lib.Dec.{eqb}
 use lib.ListN.{length, getD, drop, length-map, List·getD-map}
 use lib.Seq.{getD-take, getD-drop}
 use borrow.Author.Tests.{eq-eqb}
-use Rattle.readers.specs.Text.{Place}
-use Rattle.checks.specs.Names.{empty, sameBytes, sameName, sameNames}
-use Rattle.checks.specs.Names as places
-use Rattle.names.specs.Names.{nameAt}
-use Rattle.whole.specs.Names.{agree}
-use Rattle.export_header.specs.Heading.{chosen}
+use Rattle.read_text.specs.Text.{Place}
+use Rattle.variable_names.specs.Names.{empty, sameBytes, sameName, sameNames}
+use Rattle.variable_names.specs.Names as places
+use Rattle.export_names.specs.Names.{nameAt}
+use Rattle.header_checks.specs.Names.{agree}
+use Rattle.heading.specs.Heading.{chosen}
 use Rattle.reading_header.specs.ValuesBack.{Named}
 
 -- bytes that are the same, one by one

@@ -5,10 +5,10 @@ use mathlib.Core.List.{List, [], _∷_}
 use Prim.Native.Nat.{ℕ}
 use lib.ListN.{take, drop}
 use Rattle.codes.specs.Answer.{value}
-use Rattle.readers.specs.Text.{placed, textAt}
-use Rattle.fields.specs.Judge.{textFault}
-use Rattle.names.specs.Names.{nameAt, fitName}
-use Rattle.names.proofs.FitNames.{fit-utf8}
+use Rattle.read_text.specs.Text.{placed, textAt}
+use Rattle.header_faults.specs.Judge.{textFault}
+use Rattle.export_names.specs.Names.{nameAt, fitName}
+use Rattle.export_names.proofs.FitNames.{fit-utf8}
 use Rattle.reading_header.specs.Joined.{trimmed}
 use Rattle.reading_header.proofs.Standing.{has-part, has-front}
 use Rattle.reading_header.proofs.Trimming.{trimmed-utf8}

@@ -9,16 +9,16 @@ use lib.ListN.{length}
 use Rattle.codes.specs.Answer.{value}
 use Rattle.codes.specs.Limits.{rootLimit}
 use Rattle.edges.specs.Edge.{minus}
-use Rattle.readers.specs.Each.{Each, none, each}
-use Rattle.readers.specs.Words.{word}
-use Rattle.readers.specs.Digits.{Says}
-use Rattle.readers.specs.Digits as read
-use Rattle.readers.specs.Lists.{listed}
-use Rattle.readers.specs.Edges.{signed, edgeList}
-use Rattle.readers.specs.EdgeWords.{Lone, Lones}
-use Rattle.readers.specs.EdgeWords
-use Rattle.readers.proofs.EdgeWords.{edge-values}
-use Rattle.fields.specs.Judge.{rootListFault}
+use Rattle.read_lines.specs.Each.{Each, none, each}
+use Rattle.read_lines.specs.Words.{word}
+use Rattle.read_numbers.specs.Digits.{Says}
+use Rattle.read_numbers.specs.Digits as read
+use Rattle.read_lists.specs.Lists.{listed}
+use Rattle.read_edges.specs.Edges.{signed, edgeList}
+use Rattle.read_edges.specs.EdgeWords.{Lone, Lones}
+use Rattle.read_edges.specs.EdgeWords
+use Rattle.read_edges.proofs.EdgeWords.{edge-values}
+use Rattle.header_faults.specs.Judge.{rootListFault}
 use Rattle.writers.specs.Decimal.{decimal, edgeText}
 use Rattle.writers.proofs.Decimal.{decimal-some, decimal-says, edge-signed}
 use Rattle.reading_header.specs.Joined.{joined, Plain}

@@ -4,7 +4,7 @@ use mathlib.Core.List.{List, [], _∷_, _++_, map}
 use Prim.Native.Nat.{ℕ, zero, suc, _<_}
 use native.Mathlib.Omega.{arith}
 use lib.ListN.{length, getD}
-use Rattle.readers.specs.Each.{Each, none, each}
+use Rattle.read_lines.specs.Each.{Each, none, each}
 
 module _ {A : Type 0} {P : A → Type 0} where
   pub each-by : {Q : A → Type 0} {l : List A} → ((a : A) → P a → Q a) → Each P l → Each Q l

@@ -9,13 +9,13 @@ use lib.ListN.{length, getD, List·getD-eq-default}
 use borrow.Author.Tests.{eqb-true, eqb-false}
 use Rattle.codes.specs.declared.DDDMPVersion.{DDDMPVersion}
 use Rattle.codes.specs.declared.DDDMPVersion.the-variants.{«V2_0», «V3_0»}
-use Rattle.readers.specs.Text.{Place}
-use Rattle.checks.specs.Seats.{seatOf}
-use Rattle.checks.specs.Names.{empty, variableNames}
-use Rattle.whole.specs.Names.{upFrom, agree}
-use Rattle.whole.proofs.Agreeing.{first-missing}
-use Rattle.names.specs.Names.{nameAt}
-use Rattle.export_header.specs.Heading.{Heading, chosen}
+use Rattle.read_text.specs.Text.{Place}
+use Rattle.seats.specs.Seats.{seatOf}
+use Rattle.variable_names.specs.Names.{empty, variableNames}
+use Rattle.header_checks.specs.Names.{upFrom, agree}
+use Rattle.header_checks.proofs.Agreeing.{first-missing}
+use Rattle.export_names.specs.Names.{nameAt}
+use Rattle.heading.specs.Heading.{Heading, chosen}
 use Rattle.reading_header.specs.HeadWords.{idsOf, levelsOf, allNames, suppNames, orderedNames, named, varnameWords, suppvarnameWords, orderedvarnameWords}
 use Rattle.reading_header.specs.HeaderBack.{Fit, AllOrNone}
 use Rattle.reading_header.specs.ValuesBack.{Named}

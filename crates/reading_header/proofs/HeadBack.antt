@@ -4,12 +4,12 @@ use mathlib.Core.List.{List, _++_}
 use Prim.Native.Nat.{ℕ}
 use native.Mathlib.Omega.{arith}
 use lib.ListN.{length}
-use Rattle.readers.specs.Each.{Each, none, each}
-use Rattle.fields.specs.Sweep.{linesOf, endOf, atNodes}
-use Rattle.values.specs.Values.{valueIn}
+use Rattle.read_lines.specs.Each.{Each, none, each}
+use Rattle.header_lines.specs.Sweep.{linesOf, endOf, atNodes}
+use Rattle.header_values.specs.Values.{valueIn}
 use Rattle.header.specs.Header.{tableOf}
-use Rattle.export_header.specs.Lines.{linesText}
-use Rattle.export_header.specs.Heading.{Heading, headLines, headText}
+use Rattle.heading.specs.Lines.{linesText}
+use Rattle.heading.specs.Heading.{Heading, headLines, headText}
 use Rattle.reading_header.specs.HeaderBack.{Fit}
 use Rattle.reading_header.proofs.Elements.{each-by, each-append}
 use Rattle.reading_header.proofs.LineBack.{Written}

@@ -11,12 +11,12 @@ use borrow.Author.Tests.{eqb-true}
 use Rattle.codes.specs.Limits.{varLimit, rootLimit}
 use Rattle.codes.specs.declared.DDDMPVersion.{DDDMPVersion}
 use Rattle.codes.specs.declared.DDDMPVersion.the-variants.{«V2_0», «V3_0»}
-use Rattle.readers.specs.Each.{Each, none, each}
-use Rattle.checks.specs.Seats.{seatOf}
-use Rattle.checks.proofs.Seating.{seat-most}
-use Rattle.checks.proofs.Ascending.{ids-below}
-use Rattle.checks.proofs.Distinct.{permids-below}
-use Rattle.export_header.specs.Heading.{Heading, variablesFrom, chosen}
+use Rattle.read_lines.specs.Each.{Each, none, each}
+use Rattle.seats.specs.Seats.{seatOf}
+use Rattle.seats.proofs.Seating.{seat-most}
+use Rattle.support.proofs.Ascending.{ids-below}
+use Rattle.support.proofs.Distinct.{permids-below}
+use Rattle.heading.specs.Heading.{Heading, variablesFrom, chosen}
 use Rattle.reading_header.specs.HeadWords.{idsOf, levelsOf, allNames, suppNames, orderedNames, named, varnameWords, suppvarnameWords, orderedvarnameWords, FewNames}
 use Rattle.reading_header.specs.HeaderBack.{AllOrNone, Fit}
 use Rattle.reading_header.proofs.Elements.{each-by, each-map, each-at, each-by-position}

@@ -7,11 +7,11 @@ use lib.ListN.{length}
 use lib.IntN.{ℤ}
 use Rattle.codes.specs.declared.DDDMPVersion.{DDDMPVersion}
 use Rattle.codes.specs.declared.DDDMPVersion.the-variants.{«V2_0», «V3_0»}
-use Rattle.readers.specs.Each.{Each, none, each}
-use Rattle.fields.specs.declared.keys.Key.the-variants.{Ver, Mode, Varinfo, Dd, Nnodes, Nvars, Nsuppvars, Nroots, Varnames, Suppvarnames, Orderedvarnames, Ids, Permids, Rootids, Rootnames}
+use Rattle.read_lines.specs.Each.{Each, none, each}
+use Rattle.header_keys.specs.declared.Key.the-variants.{Ver, Mode, Varinfo, Dd, Nnodes, Nvars, Nsuppvars, Nroots, Varnames, Suppvarnames, Orderedvarnames, Ids, Permids, Rootids, Rootnames}
 use Rattle.writers.specs.Decimal.{decimal, edgeText}
-use Rattle.export_header.specs.Lines.{HeaderLine, line}
-use Rattle.export_header.specs.Heading.{Heading, idsFrom, permidsOf, versionText, modeText, unlessEmpty, varnameLines, namedLines, introLines, countLines, idLines, rootLines, headLines}
+use Rattle.heading.specs.Lines.{HeaderLine, line}
+use Rattle.heading.specs.Heading.{Heading, idsFrom, permidsOf, versionText, modeText, unlessEmpty, varnameLines, namedLines, introLines, countLines, idLines, rootLines, headLines}
 use Rattle.reading_header.specs.Joined.{Plain}
 use Rattle.reading_header.specs.HeadWords.{idsOf, levelsOf, allNames, suppNames, orderedNames, named, varnameWords, suppvarnameWords, orderedvarnameWords}
 use Rattle.reading_header.proofs.Elements.{each-append}

@@ -8,15 +8,15 @@ use lib.Dec.{eqb}
 use lib.ListN.{length}
 use Rattle.codes.specs.declared.DDDMPVersion.{DDDMPVersion}
 use Rattle.codes.specs.declared.DDDMPVersion.the-variants.{«V2_0», «V3_0»}
-use Rattle.readers.specs.Each.{Each, none, each}
-use Rattle.fields.specs.declared.keys.Key.{Key}
-use Rattle.fields.specs.declared.keys.Key.the-variants.{Ver, Mode, Varinfo, Dd, Nnodes, Nvars, Nsuppvars, Nroots, Nodes, Varnames, Suppvarnames, Orderedvarnames, Ids, Permids, Rootids, Rootnames}
-use Rattle.fields.specs.Keys.{slotOf}
-use Rattle.fields.specs.Judge.{faultOf}
-use Rattle.values.specs.Values.{Known}
-use Rattle.export_header.specs.Lines.{HeaderLine, line}
-use Rattle.export_header.specs.Heading.{Heading, versionText, modeText}
-use Rattle.names.proofs.FitNames.{fit-line}
+use Rattle.read_lines.specs.Each.{Each, none, each}
+use Rattle.header_keys.specs.declared.Key.{Key}
+use Rattle.header_keys.specs.declared.Key.the-variants.{Ver, Mode, Varinfo, Dd, Nnodes, Nvars, Nsuppvars, Nroots, Nodes, Varnames, Suppvarnames, Orderedvarnames, Ids, Permids, Rootids, Rootnames}
+use Rattle.header_keys.specs.Keys.{slotOf}
+use Rattle.header_faults.specs.Judge.{faultOf}
+use Rattle.header_values.specs.Values.{Known}
+use Rattle.heading.specs.Lines.{HeaderLine, line}
+use Rattle.heading.specs.Heading.{Heading, versionText, modeText}
+use Rattle.export_names.proofs.FitNames.{fit-line}
 use Rattle.reading_header.specs.Joined.{Plain, joined}
 use Rattle.reading_header.specs.HeadWords.{FewNames}
 use Rattle.reading_header.specs.HeaderBack.{Fit}

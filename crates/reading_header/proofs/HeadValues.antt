@@ -9,14 +9,14 @@ use lib.ListN.{length, getD}
 use borrow.Author.Tests.{ne-eqb}
 use Rattle.codes.specs.declared.DDDMPVersion.{DDDMPVersion}
 use Rattle.codes.specs.declared.DDDMPVersion.the-variants.{«V2_0», «V3_0»}
-use Rattle.readers.specs.Each.{Each, none, each}
-use Rattle.fields.specs.declared.keys.Key.{Key}
-use Rattle.fields.specs.declared.keys.Key.the-variants.{Mode, Varinfo, Dd, Nnodes, Nvars, Nsuppvars, Nroots, Varnames, Suppvarnames, Orderedvarnames, Ids, Permids, Auxids, Rootids, Rootnames}
-use Rattle.fields.specs.Keys.{slotOf}
-use Rattle.values.specs.Values.{Known}
+use Rattle.read_lines.specs.Each.{Each, none, each}
+use Rattle.header_keys.specs.declared.Key.{Key}
+use Rattle.header_keys.specs.declared.Key.the-variants.{Mode, Varinfo, Dd, Nnodes, Nvars, Nsuppvars, Nroots, Varnames, Suppvarnames, Orderedvarnames, Ids, Permids, Auxids, Rootids, Rootnames}
+use Rattle.header_keys.specs.Keys.{slotOf}
+use Rattle.header_values.specs.Values.{Known}
 use Rattle.writers.specs.Decimal.{decimal, edgeText}
-use Rattle.export_header.specs.Lines.{HeaderLine, line}
-use Rattle.export_header.specs.Heading.{Heading, modeText, unlessEmpty, varnameLines, namedLines, introLines, countLines, idLines, rootLines}
+use Rattle.heading.specs.Lines.{HeaderLine, line}
+use Rattle.heading.specs.Heading.{Heading, modeText, unlessEmpty, varnameLines, namedLines, introLines, countLines, idLines, rootLines}
 use Rattle.reading_header.specs.Joined.{Plain, joined, withoutFront, withoutBack, trimmed}
 use Rattle.reading_header.specs.Spans.{valueFrom}
 use Rattle.reading_header.specs.HeadWords.{idsOf, levelsOf, allNames, suppNames, orderedNames, named, varnameWords, suppvarnameWords, orderedvarnameWords}

@@ -4,13 +4,13 @@ use mathlib.Core.List.{List, _++_}
 use Prim.Native.Nat.{ℕ, _-_, _≤_}
 use lib.ListN.{length}
 use Rattle.codes.specs.Limits.{inputLimit}
-use Rattle.fields.specs.Sweep.{Span}
-use Rattle.fields.specs.declared.keys.Key.the-variants.{Dd}
-use Rattle.values.specs.Values.{spanIn, valueIn, asciiIn, varinfoIn, ddIn}
-use Rattle.names.specs.Names.{nameAt}
+use Rattle.header_lines.specs.Sweep.{Span}
+use Rattle.header_keys.specs.declared.Key.the-variants.{Dd}
+use Rattle.header_values.specs.Values.{spanIn, valueIn, asciiIn, varinfoIn, ddIn}
+use Rattle.export_names.specs.Names.{nameAt}
 use Rattle.header.specs.Header.{header, tableOf, readOf, answerOf}
 use Rattle.header.proofs.Lengths.{none-length}
-use Rattle.export_header.specs.Heading.{Heading, headText}
+use Rattle.heading.specs.Heading.{Heading, headText}
 use Rattle.reading_header.specs.Joined.{trimmed}
 use Rattle.reading_header.specs.HeaderBack.{Fit, headerFor, HeaderBack}
 use Rattle.reading_header.specs.ValuesBack.{ValuesBack}

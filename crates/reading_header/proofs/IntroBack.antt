@@ -4,10 +4,10 @@ use mathlib.Core.Bool.{Bool, true, false, not}
 use mathlib.Core.List.{[], _∷_}
 use Rattle.codes.specs.declared.DDDMPVersion.{DDDMPVersion}
 use Rattle.codes.specs.declared.DDDMPVersion.the-variants.{«V2_0», «V3_0»}
-use Rattle.fields.specs.Keys.{alike}
-use Rattle.fields.specs.Judge.{modeB, versionFault, modeFault, varinfoFault}
-use Rattle.values.specs.Values.{varinfoOf}
-use Rattle.export_header.specs.Heading.{versionText, modeText}
+use Rattle.read_text.specs.Alike.{alike}
+use Rattle.header_faults.specs.Judge.{modeB, versionFault, modeFault, varinfoFault}
+use Rattle.header_values.specs.Values.{varinfoOf}
+use Rattle.heading.specs.Heading.{versionText, modeText}
 
 -- None has a fault.
 pub version-faultless : (v : DDDMPVersion) → versionFault (versionText v) ≡ 0

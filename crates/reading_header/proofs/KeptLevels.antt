@@ -10,12 +10,13 @@ use lib.Dec.{ltb}
 use lib.ListN.{length, getD}
 use borrow.Author.Tests.{ne-eqb, lt-ltb}
 use Rattle.codes.proofs.Bytes.{both}
-use Rattle.checks.specs.Seats.{seatOf}
-use Rattle.checks.specs.Support.{ascending, lastBelow, idsFit, allBelow, distinct, permidsFit}
-use Rattle.numbering.specs.Walk.{isIn}
-use Rattle.numbering.proofs.Entries.{never, in-cons, in-here, in-rest, once-head, once-tail, once-cons}
-use Rattle.numbering.proofs.Members.{in-none, cons-cases}
-use Rattle.export_header.specs.Heading.{idsFrom, permidsOf}
+use Rattle.seats.specs.Seats.{seatOf}
+use Rattle.seats.specs.Ordered.{ascending, distinct}
+use Rattle.support.specs.Support.{lastBelow, idsFit, allBelow, permidsFit}
+use Rattle.reached.specs.Walk.{isIn}
+use Rattle.reached.proofs.Entries.{never, in-cons, in-here, in-rest, once-head, once-tail, once-cons}
+use Rattle.reached.proofs.Members.{in-none, cons-cases}
+use Rattle.heading.specs.Heading.{idsFrom, permidsOf}
 use Rattle.reading_header.specs.HeaderBack.{variableAt}
 
 -- what holds of both lists holds of the chosen one

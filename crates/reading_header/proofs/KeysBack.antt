@@ -1,11 +1,12 @@
 -- The keys: each is a plain word, and is found again by its bytes.
 use mathlib.Core.Path.{_≡_, refl}
 use native.Mathlib.Omega.{arith}
-use Rattle.fields.specs.declared.keys.Key.{Key}
-use Rattle.fields.specs.declared.keys.Key.the-variants.{Ver, Mode, Varinfo, Dd, Nnodes, Nvars, Nsuppvars, Nroots, Nodes, Varnames, Suppvarnames, Orderedvarnames, Ids, Permids, Auxids, Rootids, Rootnames, Unknown}
-use Rattle.fields.specs.Keys.{alike, lookup, keyOf}
-use Rattle.values.specs.Values.{Known}
-use Rattle.export_header.specs.Lines.{keyText}
+use Rattle.header_keys.specs.declared.Key.{Key}
+use Rattle.header_keys.specs.declared.Key.the-variants.{Ver, Mode, Varinfo, Dd, Nnodes, Nvars, Nsuppvars, Nroots, Nodes, Varnames, Suppvarnames, Orderedvarnames, Ids, Permids, Auxids, Rootids, Rootnames, Unknown}
+use Rattle.read_text.specs.Alike.{alike}
+use Rattle.header_keys.specs.Keys.{lookup, keyOf}
+use Rattle.header_values.specs.Values.{Known}
+use Rattle.heading.specs.Lines.{keyText}
 use Rattle.reading_header.specs.Joined.{Plain}
 use Rattle.reading_header.proofs.Plain.{literal-plain}
 

@@ -8,14 +8,14 @@ use lib.Dec.{eqb}
 use lib.ListN.{length, drop, length-append}
 use lib.Seq.{take-append-seam}
 use Rattle.codes.specs.Bytes.{isBlank, isLineEnd}
-use Rattle.readers.specs.Each.{Each, none, each}
-use Rattle.readers.specs.Line.{isOf, seek, trim, lineOf, fieldOf}
-use Rattle.readers.specs.declared.lines.Class.the-variants.{Feed, LineEnd, Blank}
-use Rattle.readers.proofs.Line.{seek-found, seek-end, line-ended, field-parts}
-use Rattle.fields.specs.Sweep.{part, keyAt, valueAt}
-use Rattle.values.specs.Values.{Known}
+use Rattle.read_lines.specs.Each.{Each, none, each}
+use Rattle.read_lines.specs.Line.{isOf, seek, trim, lineOf, fieldOf}
+use Rattle.read_lines.specs.declared.Class.the-variants.{Feed, LineEnd, Blank}
+use Rattle.read_lines.proofs.Searches.{seek-found, seek-end, line-ended, field-parts}
+use Rattle.header_lines.specs.Sweep.{part, keyAt, valueAt}
+use Rattle.header_values.specs.Values.{Known}
 use Rattle.writers.specs.Words.{spaced}
-use Rattle.export_header.specs.Lines.{HeaderLine, keyText, lineText}
+use Rattle.heading.specs.Lines.{HeaderLine, keyText, lineText}
 use Rattle.reading_header.specs.Joined.{OnLine, Plain, trimmed, withoutFront, withoutBack}
 use Rattle.reading_header.specs.Spans.{indent, valueOf, startAt, spanOf}
 use Rattle.reading_header.proofs.Elements.{each-by, each-append}

@@ -6,10 +6,10 @@ use Prim.Native.Nat.{ℕ, _<_}
 use native.Mathlib.Omega.{arith}
 use lib.ListN.{length, length-append}
 use Rattle.codes.specs.Bytes.{isBlank}
-use Rattle.readers.specs.Each.{Each, none, each}
-use Rattle.fields.specs.declared.keys.Key.{Key}
+use Rattle.read_lines.specs.Each.{Each, none, each}
+use Rattle.header_keys.specs.declared.Key.{Key}
 use Rattle.writers.specs.Words.{spaced}
-use Rattle.export_header.specs.Lines.{HeaderLine, line}
+use Rattle.heading.specs.Lines.{HeaderLine, line}
 use Rattle.reading_header.specs.Joined.{joined, Plain, kept, withoutFront, withoutBack, trimmed}
 use Rattle.reading_header.specs.Spans.{valueOf}
 use Rattle.reading_header.proofs.Elements.{each-at}

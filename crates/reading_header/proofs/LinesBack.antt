@@ -7,13 +7,13 @@ use native.Mathlib.Omega.{arith}
 use lib.Dec.{eqb}
 use lib.ListN.{length, drop, length-append}
 use borrow.Author.Tests.{lt-ltb}
-use Rattle.readers.specs.Each.{Each, none, each}
-use Rattle.fields.specs.declared.keys.Key.the-variants.{Nodes}
-use Rattle.fields.specs.Keys.{slotOf}
-use Rattle.fields.specs.Judge.{faultOf}
-use Rattle.fields.specs.Sweep.{Said, Lines, nodes, atNodes, linesFrom, linesOf, endFrom, endOf, allOf}
-use Rattle.fields.specs.Sweep as sweep
-use Rattle.export_header.specs.Lines.{HeaderLine, line, lineText, linesText}
+use Rattle.read_lines.specs.Each.{Each, none, each}
+use Rattle.header_keys.specs.declared.Key.the-variants.{Nodes}
+use Rattle.header_keys.specs.Keys.{slotOf}
+use Rattle.header_faults.specs.Judge.{faultOf}
+use Rattle.header_lines.specs.Sweep.{Said, Lines, nodes, atNodes, linesFrom, linesOf, endFrom, endOf, allOf}
+use Rattle.header_lines.specs.Sweep as sweep
+use Rattle.heading.specs.Lines.{HeaderLine, line, lineText, linesText}
 use Rattle.reading_header.specs.Spans.{valueOf, spanOf, saidFrom}
 use Rattle.reading_header.proofs.Standing.{stands-after}
 use Rattle.reading_header.proofs.LineBack.{Written, LineBack, line-back}

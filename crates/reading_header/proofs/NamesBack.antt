@@ -6,16 +6,16 @@ use Prim.Native.Nat.{ℕ, _+_}
 use native.Mathlib.Omega.{arith}
 use lib.ListN.{length, getD, take, drop, length-map, List·getD-map}
 use Rattle.codes.specs.Answer.{value}
-use Rattle.readers.specs.Each.{Each, none, each}
-use Rattle.readers.specs.Text.{isUtf8, place, lenOf, nameOf, nameList}
-use Rattle.readers.specs.Lists.{listed}
-use Rattle.readers.specs.Judged.{Reads}
-use Rattle.readers.specs.Judged
-use Rattle.readers.proofs.Judge.{name-good}
-use Rattle.fields.specs.Judge.{nameListFault}
+use Rattle.read_lines.specs.Each.{Each, none, each}
+use Rattle.read_text.specs.Text.{isUtf8, place, lenOf, nameOf, nameList}
+use Rattle.read_lists.specs.Lists.{listed}
+use Rattle.read_lists.specs.Judged.{Reads}
+use Rattle.read_lists.specs.Judged
+use Rattle.read_text.proofs.NameLists.{name-good}
+use Rattle.header_faults.specs.Judge.{nameListFault}
 use Rattle.writers.specs.Words.{spaced}
-use Rattle.names.specs.Names.{nameAt}
-use Rattle.names.proofs.FitNames.{fit-utf8}
+use Rattle.export_names.specs.Names.{nameAt}
+use Rattle.export_names.proofs.FitNames.{fit-utf8}
 use Rattle.reading_header.specs.Joined.{joined}
 use Rattle.reading_header.specs.Standing.{wordsAt, placesAt}
 use Rattle.reading_header.specs.HeadWords.{FewNames}

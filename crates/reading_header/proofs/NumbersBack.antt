@@ -6,12 +6,12 @@ use native.Mathlib.Omega.{arith}
 use lib.ListN.{length}
 use Rattle.codes.specs.Answer.{value}
 use Rattle.codes.specs.Limits.{varLimit}
-use Rattle.readers.specs.Each.{Each, none, each}
-use Rattle.readers.specs.Number.{single}
-use Rattle.readers.specs.Lists.{listed, u32Of, u32List}
-use Rattle.readers.specs.Judged.{Reads}
-use Rattle.readers.specs.Judged
-use Rattle.fields.specs.Judge.{singleFault, u32ListFault}
+use Rattle.read_lines.specs.Each.{Each, none, each}
+use Rattle.read_numbers.specs.Number.{single}
+use Rattle.read_lists.specs.Lists.{listed, u32Of, u32List}
+use Rattle.read_lists.specs.Judged.{Reads}
+use Rattle.read_lists.specs.Judged
+use Rattle.header_faults.specs.Judge.{singleFault, u32ListFault}
 use Rattle.writers.specs.Decimal.{decimal}
 use Rattle.writers.proofs.Decimal.{decimal-some, decimal-digits, decimal-value, decimal-single}
 use Rattle.reading_header.specs.Joined.{joined, Plain}

@@ -9,10 +9,10 @@ use lib.ListN.{length}
 use borrow.Author.Tests.{ltb-true, ne-eqb}
 use Rattle.codes.specs.Bytes.{isBlank, isLineEnd}
 use Rattle.codes.proofs.Bytes.{both, digit-bounds}
-use Rattle.readers.specs.Each.{Each, none, each}
-use Rattle.readers.specs.Digits.{Digits}
-use Rattle.names.specs.Names.{fitName}
-use Rattle.names.proofs.FitNames.{fit-text, fit-line}
+use Rattle.read_lines.specs.Each.{Each, none, each}
+use Rattle.read_numbers.specs.Digits.{Digits}
+use Rattle.export_names.specs.Names.{fitName}
+use Rattle.export_names.proofs.FitNames.{fit-text, fit-line}
 use Rattle.reading_header.specs.Joined.{Plain}
 use Rattle.reading_header.proofs.Elements.{each-by}
 

@@ -6,7 +6,7 @@ use native.Mathlib.Omega.{arith}
 use lib.IntN.{ℤ, pos, natAbs}
 use lib.ListN.{length, getD}
 use borrow.Author.Tests.{ne-eqb, le-ltb}
-use Rattle.checks.specs.Roots.{rootsFault}
+use Rattle.file_roots.specs.Roots.{rootsFault}
 
 -- 'per root 25 zero, 26 magnitude above `.nnodes`': none of both
 pub roots-pass : (nnodes : ℕ) (rs : List ℤ)

@@ -6,10 +6,10 @@ use Prim.Native.Nat.{ℕ, zero, suc, _+_, _-_, _≤_, _<_}
 use native.Mathlib.Omega.{arith}
 use lib.ListN.{length, getD, take, drop}
 use Rattle.codes.specs.Bytes.{isBlank}
-use Rattle.readers.specs.Each.{Each, none, each}
-use Rattle.readers.specs.Line.{isOf, seek, trim}
-use Rattle.readers.specs.declared.lines.Class.the-variants.{Blank, NonBlank}
-use Rattle.readers.proofs.Line.{seek-found, seek-past, seek-end, trim-found}
+use Rattle.read_lines.specs.Each.{Each, none, each}
+use Rattle.read_lines.specs.Line.{isOf, seek, trim}
+use Rattle.read_lines.specs.declared.Class.the-variants.{Blank, NonBlank}
+use Rattle.read_lines.proofs.Searches.{seek-found, seek-past, seek-end, trim-found}
 use Rattle.reading_header.specs.Joined.{withoutFront, kept, withoutBack}
 use Rattle.reading_header.specs.Spans.{indent}
 use Rattle.reading_header.proofs.Elements.{each-at}

@@ -9,20 +9,21 @@ use lib.Dec.{eqb, ltb}
 use lib.ListN.{length, getD, length-map}
 use borrow.Author.Tests.{ltb-true}
 use Rattle.codes.proofs.Bytes.{both}
-use Rattle.checks.specs.Seats.{seatOf}
-use Rattle.checks.specs.Support.{ascending, lastBelow, idsFit, permidsFit, seated, orderFrom, supportOrder}
-use Rattle.checks.proofs.Seating.{seat-most}
-use Rattle.checks.proofs.Ascending.{ids-below}
-use Rattle.whole.specs.Names.{upFrom}
-use Rattle.numbering.specs.Walk.{isIn}
-use Rattle.numbering.proofs.Entries.{in-here, in-seat}
-use Rattle.numbering.proofs.EntrySeats.{seat-in, out-seat}
-use Rattle.numbering.proofs.Members.{in-none}
-use Rattle.names.specs.Order.{isOrder}
-use Rattle.names.proofs.Seats.{seat-found}
-use Rattle.names.proofs.Permutation.{few-differ, order-distinct, variable-seat, level-seated}
+use Rattle.seats.specs.Seats.{seatOf}
+use Rattle.seats.specs.Ordered.{ascending}
+use Rattle.support.specs.Support.{lastBelow, idsFit, permidsFit, seated, orderFrom, supportOrder}
+use Rattle.seats.proofs.Seating.{seat-most}
+use Rattle.support.proofs.Ascending.{ids-below}
+use Rattle.header_checks.specs.Names.{upFrom}
+use Rattle.reached.specs.Walk.{isIn}
+use Rattle.reached.proofs.Entries.{in-here, in-seat}
+use Rattle.reached.proofs.EntrySeats.{seat-in, out-seat}
+use Rattle.reached.proofs.Members.{in-none}
+use Rattle.variable_order.specs.Order.{isOrder}
+use Rattle.seats.proofs.NumberSeats.{seat-found}
+use Rattle.variable_order.proofs.Permutation.{few-differ, order-distinct, variable-seat, level-seated}
 use Rattle.export_nodes.proofs.TableLines.{map-at}
-use Rattle.export_header.specs.Heading.{Heading, idsFrom, permidsOf}
+use Rattle.heading.specs.Heading.{Heading, idsFrom, permidsOf}
 use Rattle.reading_header.specs.HeadWords.{idsOf, levelsOf}
 use Rattle.reading_header.specs.HeaderBack.{Fit, variableAt}
 use Rattle.reading_header.proofs.KeptLevels.{in-other, kept-in, kept-fit, ids-fit, variables-from, none-kept, kept-same, kept-more}

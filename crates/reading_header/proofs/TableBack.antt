@@ -5,15 +5,15 @@ use mathlib.Core.List.{List, [], _∷_, _++_}
 use Prim.Native.Nat.{ℕ, _+_}
 use lib.Dec.{eqb}
 use lib.ListN.{length}
-use Rattle.readers.specs.Each.{Each}
-use Rattle.fields.specs.declared.keys.Key.{Key}
-use Rattle.fields.specs.Keys.{slotOf}
-use Rattle.fields.specs.Sweep.{Span, part, lastFrom, lastOf}
-use Rattle.fields.specs.Sweep as sweep
-use Rattle.fields.proofs.Lasts.{last-at}
-use Rattle.values.specs.Values.{Known, valueIn}
+use Rattle.read_lines.specs.Each.{Each}
+use Rattle.header_keys.specs.declared.Key.{Key}
+use Rattle.header_keys.specs.Keys.{slotOf}
+use Rattle.header_lines.specs.Sweep.{Span, part, lastFrom, lastOf}
+use Rattle.header_lines.specs.Sweep as sweep
+use Rattle.header_lines.proofs.Lasts.{last-at}
+use Rattle.header_values.specs.Values.{Known, valueIn}
 use Rattle.header.specs.Header.{tableOf}
-use Rattle.export_header.specs.Lines.{HeaderLine, lineText}
+use Rattle.heading.specs.Lines.{HeaderLine, lineText}
 use Rattle.reading_header.specs.Spans.{valueOf, spanOf, saidFrom, valueFrom}
 use Rattle.reading_header.proofs.LinesBack.{LinesBack, then, Early, closing, all-back}
 

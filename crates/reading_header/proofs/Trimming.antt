@@ -8,10 +8,10 @@ use lib.Dec.{ltb, leb, eqb}
 use borrow.Author.Tests.{eqb-true}
 use Rattle.codes.specs.Bytes.{isBlank}
 use Rattle.codes.specs.Machine.{Next, go, stop, after, run}
-use Rattle.readers.specs.declared.text.Utf8.{Utf8}
-use Rattle.readers.specs.declared.text.Utf8.the-variants.{Whole, Tail}
-use Rattle.readers.specs.Text.{lead, tail, utf8Next, utf8End, isUtf8}
-use Rattle.readers.proofs.Texts.{lead-one, tail-low}
+use Rattle.read_text.specs.declared.Utf8.{Utf8}
+use Rattle.read_text.specs.declared.Utf8.the-variants.{Whole, Tail}
+use Rattle.read_text.specs.Text.{lead, tail, utf8Next, utf8End, isUtf8}
+use Rattle.read_text.proofs.Texts.{lead-one, tail-low}
 use Rattle.reading_header.specs.Joined.{withoutFront, kept, withoutBack, trimmed}
 
 -- a blank is a character by itself

@@ -5,13 +5,13 @@ use Prim.Native.Nat.{ℕ, _-_, _^_, _≤_, _<_}
 use native.Mathlib.Omega.{arith}
 use lib.ListN.{length}
 use Rattle.codes.specs.Limits.{varLimit, rootLimit}
-use Rattle.readers.specs.Each.{Each, none}
-use Rattle.fields.specs.Sweep.{Span}
-use Rattle.fields.specs.declared.keys.Key.{Key}
-use Rattle.fields.specs.declared.keys.Key.the-variants.{Nnodes, Nvars, Nsuppvars, Nroots, Varnames, Suppvarnames, Orderedvarnames, Ids, Permids, Auxids, Rootnames}
-use Rattle.values.specs.Values.{spanIn, valueIn, numberIn, u32sIn, namesIn, rootsIn}
+use Rattle.read_lines.specs.Each.{Each, none}
+use Rattle.header_lines.specs.Sweep.{Span}
+use Rattle.header_keys.specs.declared.Key.{Key}
+use Rattle.header_keys.specs.declared.Key.the-variants.{Nnodes, Nvars, Nsuppvars, Nroots, Varnames, Suppvarnames, Orderedvarnames, Ids, Permids, Auxids, Rootnames}
+use Rattle.header_values.specs.Values.{spanIn, valueIn, numberIn, u32sIn, namesIn, rootsIn}
 use Rattle.writers.specs.Decimal.{decimal}
-use Rattle.export_header.specs.Heading.{Heading}
+use Rattle.heading.specs.Heading.{Heading}
 use Rattle.reading_header.specs.Joined.{joined}
 use Rattle.reading_header.specs.HeadWords.{FewNames}
 use Rattle.reading_header.specs.HeaderBack.{Fit}

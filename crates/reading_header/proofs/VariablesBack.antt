@@ -10,20 +10,21 @@ use lib.ListN.{length, getD, drop, drop-of-length-le, List·getD-map}
 use lib.Seq.{drop-cons}
 use borrow.Author.Tests.{ltb-true}
 use Rattle.codes.proofs.Bytes.{both}
-use Rattle.readers.specs.Text.{Place}
-use Rattle.checks.specs.Seats.{seatOf}
-use Rattle.checks.specs.Support.{allBelow, distinct, permidsFit}
-use Rattle.checks.specs.Names.{empty, freeFrom, orderedFrom, orderedSeats, variableNames}
-use Rattle.checks.specs.Names as places
-use Rattle.checks.proofs.Seating.{seat-most}
-use Rattle.checks.proofs.Ascending.{ids-below}
-use Rattle.checks.proofs.Distinct.{permids-below}
-use Rattle.whole.specs.Names.{upFrom}
-use Rattle.names.specs.Order.{isOrder}
-use Rattle.names.specs.Names.{nameAt}
-use Rattle.names.proofs.Seats.{seat-found}
-use Rattle.names.proofs.Permutation.{order-length}
-use Rattle.export_header.specs.Heading.{idsFrom, permidsOf, variablesFrom, chosen}
+use Rattle.read_text.specs.Text.{Place}
+use Rattle.seats.specs.Seats.{seatOf}
+use Rattle.support.specs.Support.{allBelow, permidsFit}
+use Rattle.seats.specs.Ordered.{distinct}
+use Rattle.variable_names.specs.Names.{empty, freeFrom, orderedFrom, orderedSeats, variableNames}
+use Rattle.variable_names.specs.Names as places
+use Rattle.seats.proofs.Seating.{seat-most}
+use Rattle.support.proofs.Ascending.{ids-below}
+use Rattle.support.proofs.Distinct.{permids-below}
+use Rattle.header_checks.specs.Names.{upFrom}
+use Rattle.variable_order.specs.Order.{isOrder}
+use Rattle.export_names.specs.Names.{nameAt}
+use Rattle.seats.proofs.NumberSeats.{seat-found}
+use Rattle.variable_order.proofs.Permutation.{order-length}
+use Rattle.heading.specs.Heading.{idsFrom, permidsOf, variablesFrom, chosen}
 use Rattle.reading_header.specs.HeaderBack.{variableAt}
 use Rattle.reading_header.specs.ValuesBack.{Named}
 use Rattle.reading_header.proofs.KeptLevels.{ids-fit}

@@ -8,20 +8,22 @@ use lib.Dec.{eqb}
 use lib.ListN.{length, getD}
 use borrow.Author.Tests.{eq-eqb}
 use Rattle.codes.specs.declared.DDDMPVersion.the-variants.{«V3_0»}
-use Rattle.readers.specs.Each.{Each, none, each}
-use Rattle.readers.specs.Text.{place}
-use Rattle.fields.specs.Sweep.{Span}
-use Rattle.fields.specs.declared.keys.Key.the-variants.{Ids, Permids}
-use Rattle.checks.specs.Seats.{seatOf}
-use Rattle.checks.specs.Support.{supportOrder}
-use Rattle.values.specs.Values.{nnodesIn, nvarsIn, nsuppvarsIn, u32sIn}
-use Rattle.whole.specs.Names.{varnamesIn, orderedvarnamesIn, suppvarnamesIn, variableNamesIn}
-use Rattle.whole.specs.Whole.{firstFault, givenFault, numberFaults, supportFaults, nameCountFaults, nameFaults, rootFaults, wholeFault}
-use Rattle.whole.proofs.Refusals.{unless-holds, count-right, given-missing}
-use Rattle.whole.proofs.Numbered.{numbers-pass}
-use Rattle.whole.proofs.Checked.{names-passed}
-use Rattle.names.specs.Names.{nameAt}
-use Rattle.export_header.specs.Heading.{Heading}
+use Rattle.read_lines.specs.Each.{Each, none, each}
+use Rattle.read_text.specs.Text.{place}
+use Rattle.header_lines.specs.Sweep.{Span}
+use Rattle.header_keys.specs.declared.Key.the-variants.{Ids, Permids}
+use Rattle.seats.specs.Seats.{seatOf}
+use Rattle.support.specs.Support.{supportOrder}
+use Rattle.header_values.specs.Values.{nnodesIn, nvarsIn, nsuppvarsIn, u32sIn}
+use Rattle.header_checks.specs.Names.{varnamesIn, orderedvarnamesIn, suppvarnamesIn, variableNamesIn}
+use Rattle.codes.specs.Faults.{firstFault}
+use Rattle.header_checks.specs.Whole.{givenFault, numberFaults, supportFaults, nameCountFaults, nameFaults, rootFaults, wholeFault}
+use Rattle.codes.proofs.Refusals.{unless-holds}
+use Rattle.header_checks.proofs.Refusals.{count-right, given-missing}
+use Rattle.header_checks.proofs.Numbered.{numbers-pass}
+use Rattle.header_checks.proofs.Checked.{names-passed}
+use Rattle.export_names.specs.Names.{nameAt}
+use Rattle.heading.specs.Heading.{Heading}
 use Rattle.reading_header.specs.HeadWords.{idsOf}
 use Rattle.reading_header.specs.HeaderBack.{Fit, variableAt}
 use Rattle.reading_header.specs.ValuesBack.{ValuesBack}

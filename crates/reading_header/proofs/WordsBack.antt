@@ -7,13 +7,13 @@ use native.Mathlib.Omega.{arith}
 use lib.ListN.{length}
 use Rattle.codes.specs.Answer.{Read, value}
 use Rattle.codes.specs.Bytes.{isBlank}
-use Rattle.readers.specs.Each.{Each, none, each}
-use Rattle.readers.specs.Words.{Word, words}
-use Rattle.readers.specs.Spaced.{Blanks, Spaced, blanks, last, next}
-use Rattle.readers.specs.Lists.{listed, judge}
-use Rattle.readers.specs.Judged.{Reads, whole}
-use Rattle.readers.proofs.Spaced.{spaced-words}
-use Rattle.readers.proofs.Judged.{judged-judge}
+use Rattle.read_lines.specs.Each.{Each, none, each}
+use Rattle.read_lines.specs.Words.{Word, words}
+use Rattle.read_lines.specs.Spaced.{Blanks, Spaced, blanks, last, next}
+use Rattle.read_lists.specs.Lists.{listed, judge}
+use Rattle.read_lists.specs.Judged.{Reads, whole}
+use Rattle.read_lines.proofs.Spaced.{spaced-words}
+use Rattle.read_lists.proofs.Judged.{judged-judge}
 use Rattle.writers.specs.Words.{spaced}
 use Rattle.reading_header.specs.Joined.{joined, Plain}
 use Rattle.reading_header.specs.Standing.{wordsAt}

@@ -7,9 +7,9 @@ use lib.Dec.{eqb}
 use lib.ListN.{length}
 use Rattle.codes.specs.declared.DDDMPVersion.{DDDMPVersion}
 use Rattle.codes.specs.declared.DDDMPVersion.the-variants.{«V2_0», «V3_0»}
-use Rattle.readers.specs.Each.{Each}
-use Rattle.names.specs.Names.{fitName}
-use Rattle.export_header.specs.Heading.{Heading, idsFrom, permidsOf, variablesFrom, chosen}
+use Rattle.read_lines.specs.Each.{Each}
+use Rattle.export_names.specs.Names.{fitName}
+use Rattle.heading.specs.Heading.{Heading, idsFrom, permidsOf, variablesFrom, chosen}
 
 -- the support variables, and their levels
 abbrev pub idsOf : Heading → List ℕ

@@ -8,14 +8,14 @@ use lib.ListN.{length, getD}
 use lib.IntN.{pos, natAbs}
 use Rattle.codes.specs.Limits.{varLimit, rootLimit, nodeLimit}
 use Rattle.codes.specs.declared.DDDMPVersion.the-variants.{«V3_0»}
-use Rattle.readers.specs.Text.{Place, place}
-use Rattle.readers.specs.Each.{Each}
-use Rattle.checks.specs.Seats.{seatOf}
-use Rattle.checks.specs.Support.{idsFit}
-use Rattle.names.specs.Order.{isOrder}
-use Rattle.names.specs.Names.{nameAt, fitName}
+use Rattle.read_text.specs.Text.{Place, place}
+use Rattle.read_lines.specs.Each.{Each}
+use Rattle.seats.specs.Seats.{seatOf}
+use Rattle.support.specs.Support.{idsFit}
+use Rattle.variable_order.specs.Order.{isOrder}
+use Rattle.export_names.specs.Names.{nameAt, fitName}
 use Rattle.header.specs.Header.{Header, header, answerOf, Loaded, listsBy}
-use Rattle.export_header.specs.Heading.{Heading, idsFrom, permidsOf, headLines, headText}
+use Rattle.heading.specs.Heading.{Heading, idsFrom, permidsOf, headLines, headText}
 use Rattle.reading_header.specs.Joined.{trimmed}
 
 -- no name, or as many as there are variables or roots

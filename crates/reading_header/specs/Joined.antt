@@ -4,8 +4,8 @@ use mathlib.Core.Bool.{false, cond}
 use mathlib.Core.Path.{_≡_}
 use mathlib.Core.List.{List, [], _∷_, _++_}
 use Rattle.codes.specs.Bytes.{isBlank, isLineEnd}
-use Rattle.readers.specs.Each.{Each}
-use Rattle.readers.specs.Spaced.{Text}
+use Rattle.read_lines.specs.Each.{Each}
+use Rattle.read_lines.specs.Spaced.{Text}
 use Rattle.writers.specs.Words.{spaced}
 
 unfoldable pub joined : List (List ℕ) → List ℕ

@@ -5,11 +5,11 @@ use mathlib.Core.List.{List, [], _∷_}
 use lib.Dec.{eqb}
 use lib.ListN.{length}
 use Rattle.codes.specs.Bytes.{isBlank}
-use Rattle.fields.specs.declared.keys.Key.{Key}
-use Rattle.fields.specs.Keys.{slotOf}
-use Rattle.fields.specs.Sweep.{Span, span, Said, said}
+use Rattle.header_keys.specs.declared.Key.{Key}
+use Rattle.header_keys.specs.Keys.{slotOf}
+use Rattle.header_lines.specs.Sweep.{Span, span, Said, said}
 use Rattle.writers.specs.Words.{spaced}
-use Rattle.export_header.specs.Lines.{HeaderLine, keyText, lineText}
+use Rattle.heading.specs.Lines.{HeaderLine, keyText, lineText}
 use Rattle.reading_header.specs.Joined.{trimmed}
 
 -- how many blanks stand first

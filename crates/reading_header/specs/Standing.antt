@@ -2,8 +2,8 @@
 use Prim.Native.Nat.{ℕ, _+_}
 use mathlib.Core.List.{List, [], _∷_}
 use lib.ListN.{length}
-use Rattle.readers.specs.Words.{Word, word}
-use Rattle.readers.specs.Text.{Place, place}
+use Rattle.read_lines.specs.Words.{Word, word}
+use Rattle.read_text.specs.Text.{Place, place}
 
 unfoldable pub wordsAt : ℕ → List (List ℕ) → List Word
 wordsAt at [] = []

@@ -4,13 +4,13 @@ use mathlib.Core.Path.{_≡_}
 use mathlib.Core.List.{List, [], map}
 use lib.ListN.{length, getD}
 use Rattle.codes.specs.Limits.{rootLimit}
-use Rattle.readers.specs.Text.{Place, place}
-use Rattle.fields.specs.Sweep.{Span}
-use Rattle.fields.specs.declared.keys.Key.the-variants.{Ids, Permids, Auxids, Rootnames}
-use Rattle.values.specs.Values.{nnodesIn, nvarsIn, nsuppvarsIn, nrootsIn, u32sIn, namesIn, rootsIn}
-use Rattle.whole.specs.Names.{varnamesIn, orderedvarnamesIn, suppvarnamesIn}
-use Rattle.names.specs.Names.{nameAt}
-use Rattle.export_header.specs.Heading.{Heading}
+use Rattle.read_text.specs.Text.{Place, place}
+use Rattle.header_lines.specs.Sweep.{Span}
+use Rattle.header_keys.specs.declared.Key.the-variants.{Ids, Permids, Auxids, Rootnames}
+use Rattle.header_values.specs.Values.{nnodesIn, nvarsIn, nsuppvarsIn, nrootsIn, u32sIn, namesIn, rootsIn}
+use Rattle.header_checks.specs.Names.{varnamesIn, orderedvarnamesIn, suppvarnamesIn}
+use Rattle.export_names.specs.Names.{nameAt}
+use Rattle.heading.specs.Heading.{Heading}
 use Rattle.reading_header.specs.HeadWords.{idsOf, levelsOf, varnameWords, suppvarnameWords, orderedvarnameWords}
 
 -- places where a file has given names, each as long as its name

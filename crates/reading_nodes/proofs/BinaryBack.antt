@@ -12,17 +12,17 @@ use Rattle.codes.specs.Answer.{got, then}
 use Rattle.codes.specs.Codes.{codeOf}
 use Rattle.codes.specs.declared.Code.{Code}
 use Rattle.edges.specs.Edge.{minus}
-use Rattle.checks.specs.Support.{ascending}
-use Rattle.readers.specs.Binary.{byteAt}
-use Rattle.readers.proofs.Line.{split}
-use Rattle.lines.specs.Line.{Line, terminal, inner, deeper}
-use Rattle.lines.proofs.Depth.{deeper-seat}
+use Rattle.seats.specs.Ordered.{ascending}
+use Rattle.read_binary.specs.Binary.{byteAt}
+use Rattle.read_lines.proofs.Searches.{split}
+use Rattle.node_lines.specs.Line.{Line, terminal, inner, deeper}
+use Rattle.node_lines.proofs.Depth.{deeper-seat}
 use Rattle.import_bin.specs.Bin.{childAt, variableAt, resolved, byCode, binLineAt}
-use Rattle.import.specs.Build.{Inner, Judged}
+use Rattle.imported.specs.Build.{Inner, Judged}
 use Rattle.writers.specs.Binary.{escaped}
 use Rattle.writers.proofs.Decimal.{edge-signed}
 use Rattle.writers.proofs.Escaped.{escaped-reads}
-use Rattle.export_nodes.specs.Encoded.{codeByte, numberFor, childCode, smaller, variableCode, innerBytes, binBytes}
+use Rattle.node_writers.specs.Encoded.{codeByte, numberFor, childCode, smaller, variableCode, innerBytes, binBytes}
 use Rattle.reading_nodes.specs.Back.{ThenPlain}
 use Rattle.reading_nodes.proofs.LevelOrder.{ascending-order}
 use Rattle.reading_nodes.proofs.Standing.{Reads, reads-then}

@@ -13,7 +13,7 @@ use Rattle.codes.specs.declared.Code.the-variants.{Terminal, AbsoluteID, Relati
 use Rattle.import_bin.specs.Bin.{below, idAt, childAt, variableAt, countsFrom, countedDown, positionBy, innerAt, byCode}
 use Rattle.import_bin.proofs.Children.{below-fits}
 use Rattle.writers.proofs.SevenBit.{seven-bit-reads}
-use Rattle.export_nodes.specs.Encoded.{codeBits, codeByte, numberFor, childCode, smaller, variableCode}
+use Rattle.node_writers.specs.Encoded.{codeBits, codeByte, numberFor, childCode, smaller, variableCode}
 use Rattle.reading_nodes.proofs.Standing.{Reads}
 
 -- a code is two bits

@@ -15,7 +15,7 @@ use Rattle.store.specs.Make.{made, placed, insert, make}
 use Rattle.store.proofs.Find.{find-is}
 use Rattle.numbering.specs.Support.{supportOf}
 use Rattle.export_nodes.specs.Lines.{lineFor, linesFor}
-use Rattle.import.specs.Build.{addLine, built, buildOn, build}
+use Rattle.imported.specs.Build.{addLine, built, buildOn, build}
 use Rattle.export_nodes.specs.Exported.{Exported}
 use Rattle.export_nodes.proofs.Renumbered.{InnerAt, NodeAt, terminalAt, innerAt}
 use Rattle.export_nodes.proofs.Support.{level-back}

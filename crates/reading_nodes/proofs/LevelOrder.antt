@@ -8,7 +8,7 @@ use lib.ListN.{length, getD}
 use lib.Dec.{ltb}
 use borrow.Author.Tests.{ltb-true}
 use Rattle.codes.proofs.Bytes.{both}
-use Rattle.checks.specs.Support.{ascending}
+use Rattle.seats.specs.Ordered.{ascending}
 
 -- the first is below all others
 ascending-first : (x : ℕ) (l : List ℕ) → ascending (x ∷ l) ≡ true → (i : ℕ) → i < length l → x < getD l i 0

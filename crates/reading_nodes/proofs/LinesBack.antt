@@ -7,15 +7,15 @@ use native.Mathlib.Omega.{arith}
 use lib.ListN.{length, getD, drop, length-append, List·getD-append}
 use lib.Seq.{drop-drop}
 use Rattle.codes.specs.Bytes.{isBlank, isLineEnd, isWhitespace}
-use Rattle.checks.specs.Support.{ascending}
-use Rattle.fields.specs.Keys.{alike}
-use Rattle.readers.specs.Each.{Each, none, each}
-use Rattle.lines.specs.Line.{Line, seatOf}
-use Rattle.lines.specs.Decode.{nodeLines, allRead, more, decodeFrom}
-use Rattle.import.specs.Build.{Judged, AllJudged, one}
-use Rattle.import.specs.Build as build
-use Rattle.import.specs.Import.{setup, lineBy, linesIn, blankAll, endsWell}
-use Rattle.export_nodes.specs.Encoded.{lineBytes, encodeFrom, nodeBytes, endText}
+use Rattle.seats.specs.Ordered.{ascending}
+use Rattle.read_text.specs.Alike.{alike}
+use Rattle.read_lines.specs.Each.{Each, none, each}
+use Rattle.node_lines.specs.Line.{Line, seatOf}
+use Rattle.node_lines.specs.Decode.{nodeLines, allRead, more, decodeFrom}
+use Rattle.imported.specs.Build.{Judged, AllJudged, one}
+use Rattle.imported.specs.Build as build
+use Rattle.imported.specs.Import.{setup, lineBy, linesIn, blankAll, endsWell}
+use Rattle.node_writers.specs.Encoded.{lineBytes, encodeFrom, nodeBytes, endText}
 use Rattle.reading_nodes.specs.Back.{ThenPlain}
 use Rattle.reading_nodes.proofs.Standing.{stands-after, Reads}
 use Rattle.reading_nodes.proofs.TextBack.{text-line-back}

@@ -11,14 +11,14 @@ use borrow.Author.Tests.{lt-ltb, ne-eqb}
 use Rattle.store.specs.Store.{Store, levelAt, thenAt, elseAt}
 use Rattle.store.specs.Rules.{depth}
 use Rattle.store.proofs.Meaning.{depth-node}
-use Rattle.readers.specs.Each.{Each}
-use Rattle.readers.specs.Each as every
-use Rattle.checks.specs.Seats.{seatOf}
-use Rattle.lines.specs.Line.{Line, inner, seatDeeper, deeper}
-use Rattle.lines.specs.Line as line
+use Rattle.read_lines.specs.Each.{Each}
+use Rattle.read_lines.specs.Each as every
+use Rattle.seats.specs.Seats.{seatOf}
+use Rattle.node_lines.specs.Line.{Line, inner, seatDeeper, deeper}
+use Rattle.node_lines.specs.Line as line
 use Rattle.numbering.specs.Support.{supportOf}
 use Rattle.export_nodes.specs.Lines.{renumbered, lineFor, linesFor}
-use Rattle.import.specs.Build.{Child, Judged, AllJudged, none, one}
+use Rattle.imported.specs.Build.{Child, Judged, AllJudged, none, one}
 use Rattle.export_nodes.specs.Exported.{Exported}
 use Rattle.export_nodes.proofs.Renumbered.{Numbered, renumbered-abs, renumbered-plain, NodeAt, terminalAt, innerAt, seated-node}
 use Rattle.export_nodes.proofs.Support.{level-back, position-low}

@@ -8,12 +8,13 @@ use lib.ListN.{length, length-map}
 use lib.IntN.{ℤ}
 use Rattle.codes.proofs.Bytes.{both}
 use Rattle.store.specs.Store.{Store}
-use Rattle.checks.specs.Support.{ascending, lastBelow, idsFit}
+use Rattle.seats.specs.Ordered.{ascending}
+use Rattle.support.specs.Support.{lastBelow, idsFit}
 use Rattle.numbering.specs.Support.{supportOf}
-use Rattle.numbering.proofs.SupportLevels.{support-fits}
+use Rattle.export_support.proofs.SupportLevels.{support-fits}
 use Rattle.export_nodes.specs.Lines.{linesFor}
-use Rattle.export_nodes.specs.Encoded.{nodeBytes, endText}
-use Rattle.import.specs.Import.{endsWell, linesAnswer, importOf}
+use Rattle.node_writers.specs.Encoded.{nodeBytes, endText}
+use Rattle.imported.specs.Import.{endsWell, linesAnswer, importOf}
 use Rattle.export_nodes.specs.Exported.{Exported}
 use Rattle.export_nodes.proofs.Renumbered.{lines-few}
 use Rattle.export_nodes.proofs.Support.{support-few}

@@ -6,13 +6,13 @@ use native.Mathlib.Omega.{arith}
 use lib.ListN.{length}
 use lib.IntN.{ℤ, pos, negsuc, natAbs}
 use Rattle.edges.specs.Edge.{minus}
-use Rattle.readers.specs.Edges.{signed}
+use Rattle.read_edges.specs.Edges.{signed}
 use Rattle.store.specs.Store.{Store}
-use Rattle.checks.specs.Seats.{seatOf}
+use Rattle.seats.specs.Seats.{seatOf}
 use Rattle.export_nodes.specs.Exported.{Exported}
 use Rattle.export_nodes.specs.Lines.{renumbered}
 use Rattle.export_nodes.proofs.Renumbered.{Numbered, renumbered-abs, NodeAt, node-at}
-use Rattle.import.specs.Build.{turned, edgeFor}
+use Rattle.imported.specs.Build.{turned, edgeFor}
 use Rattle.reading_nodes.proofs.Parts.{Parts, parts-low, parts-here, seat-early}
 
 -- the node of the next line

@@ -5,7 +5,7 @@ use Prim.Native.Nat.{ℕ, _-_, _≤_, _<_}
 use native.Mathlib.Omega.{arith}
 use lib.ListN.{length, getD, length-append, List·getD-append}
 use lib.Seq.{append-snoc, getD-append-seam}
-use Rattle.checks.specs.Seats.{seatOf}
+use Rattle.seats.specs.Seats.{seatOf}
 use Rattle.export_nodes.proofs.Renumbered.{seat-back}
 use Rattle.export_nodes.proofs.TableLines.{map-at}
 

@@ -9,8 +9,8 @@ use borrow.Author.Tests.{ne-eqb}
 use Rattle.codes.specs.Lent.{laid}
 use Rattle.store.specs.Store.{Store}
 use Rattle.export_nodes.specs.Lines.{renumbered}
-use Rattle.import.specs.Build.{edgeFor}
-use Rattle.import.specs.Import.{rootEdge}
+use Rattle.imported.specs.Build.{edgeFor}
+use Rattle.imported.specs.Import.{rootEdge}
 use Rattle.export_nodes.specs.Exported.{Exported}
 use Rattle.export_nodes.proofs.Renumbered.{renumbered-abs, root-numbered}
 use Rattle.reading_nodes.proofs.Parts.{parts-end}

@@ -7,10 +7,10 @@ use native.Mathlib.Omega.{arith}
 use lib.ListN.{length, getD, drop, length-append, length-drop, List·getD-append}
 use lib.Seq.{drop-drop, getD-drop, drop-append-seam, take-append-seam}
 use Rattle.codes.specs.Answer.{Step, got, then}
-use Rattle.fields.specs.Sweep.{part}
-use Rattle.readers.specs.Each.{Each, none, each}
-use Rattle.readers.specs.Line.{seek}
-use Rattle.readers.proofs.Line.{seek-found, seek-past}
+use Rattle.header_lines.specs.Sweep.{part}
+use Rattle.read_lines.specs.Each.{Each, none, each}
+use Rattle.read_lines.specs.Line.{seek}
+use Rattle.read_lines.proofs.Searches.{seek-found, seek-past}
 
 -- What stands from the position on.
 module _ (f : List ℕ) (at : ℕ) where

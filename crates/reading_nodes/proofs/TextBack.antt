@@ -11,25 +11,25 @@ use Rattle.codes.specs.Answer.{value, got}
 use Rattle.codes.specs.Bytes.{isBlank}
 use Rattle.codes.specs.Machine.{run}
 use Rattle.edges.specs.Edge.{minus}
-use Rattle.fields.specs.Keys.{alike}
-use Rattle.fields.specs.Sweep.{part}
-use Rattle.readers.specs.Each.{none, each}
-use Rattle.readers.specs.Edges.{signed, edgeList, pair, children}
-use Rattle.readers.specs.Line.{isOf, lineOf}
-use Rattle.readers.specs.Lists.{listed}
-use Rattle.readers.specs.declared.edges.Entry.the-variants.{Fresh, Digits}
-use Rattle.readers.specs.declared.lines.Class.the-variants.{Feed, LineEnd}
-use Rattle.readers.proofs.EdgeSteps.{entry-blank, edge-goes, edge-ends, end-entry}
-use Rattle.readers.proofs.Line.{trim-found, line-ended}
-use Rattle.lines.specs.Line.{Line, terminal, inner, childFault}
+use Rattle.read_text.specs.Alike.{alike}
+use Rattle.header_lines.specs.Sweep.{part}
+use Rattle.read_lines.specs.Each.{none, each}
+use Rattle.read_edges.specs.Edges.{signed, edgeList, pair, children}
+use Rattle.read_lines.specs.Line.{isOf, lineOf}
+use Rattle.read_lists.specs.Lists.{listed}
+use Rattle.read_edges.specs.declared.Entry.the-variants.{Fresh, Digits}
+use Rattle.read_lines.specs.declared.Class.the-variants.{Feed, LineEnd}
+use Rattle.read_edges.proofs.EdgeSteps.{entry-blank, edge-goes, edge-ends, end-entry}
+use Rattle.read_lines.proofs.Searches.{trim-found, line-ended}
+use Rattle.node_lines.specs.Line.{Line, terminal, inner, childFault}
 use Rattle.import_ascii.specs.Text.{described, textLine, textLineAt}
 use Rattle.import_ascii.proofs.Faults.{fault-none, position-inner}
 use Rattle.import_ascii.proofs.TextLines.{list-position, line-got}
-use Rattle.import.specs.Build.{Child, Judged}
+use Rattle.imported.specs.Build.{Child, Judged}
 use Rattle.writers.specs.Decimal.{decimal, edgeText, digits}
 use Rattle.writers.specs.Words.{spaced}
 use Rattle.writers.proofs.Decimal.{decimal-some, decimal-single, edge-signed, edge-runs}
-use Rattle.export_nodes.specs.Encoded.{wordsOf, textBytes}
+use Rattle.node_writers.specs.Encoded.{wordsOf, textBytes}
 use Rattle.reading_nodes.proofs.Standing.{stands-after, stands-part, stands-at, stands-inside, Reads, seek-over}
 use Rattle.reading_nodes.proofs.TextWords.{From, from-append, from-less, no-feeds, no-line-end, decimal-from, edge-from, variable-back}
 

@@ -12,12 +12,12 @@ use Rattle.codes.specs.Answer.{got}
 use Rattle.codes.specs.Bytes.{isBlank, isLineEnd}
 use Rattle.codes.proofs.Bytes.{digit-bounds}
 use Rattle.edges.specs.Edge.{minus}
-use Rattle.readers.specs.Each.{Each, none, each}
-use Rattle.readers.specs.Line.{isOf}
-use Rattle.readers.specs.Number.{first}
-use Rattle.readers.specs.Spaced.{Text, next}
-use Rattle.readers.specs.declared.lines.Class.the-variants.{Feed, LineEnd, Blank, NonBlank}
-use Rattle.readers.proofs.Spaced.{spaced-words, words-spaced}
+use Rattle.read_lines.specs.Each.{Each, none, each}
+use Rattle.read_lines.specs.Line.{isOf}
+use Rattle.read_numbers.specs.Number.{first}
+use Rattle.read_lines.specs.Spaced.{Text, next}
+use Rattle.read_lines.specs.declared.Class.the-variants.{Feed, LineEnd, Blank, NonBlank}
+use Rattle.read_lines.proofs.Spaced.{spaced-words, words-spaced}
 use Rattle.import_ascii.specs.Text.{wordFrom, variableWord}
 use Rattle.import_ascii.proofs.WordEnds.{word-ends, number-right, extra-none, variable-found}
 use Rattle.writers.specs.Decimal.{decimal, edgeText}

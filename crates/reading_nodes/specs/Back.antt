@@ -7,12 +7,12 @@ use lib.ListN.{length, drop, replicate}
 use lib.IntN.{ℤ, pos, natAbs}
 use Rattle.codes.specs.Lent.{laid}
 use Rattle.store.specs.Store.{Store}
-use Rattle.lines.specs.Line.{Line, terminal, inner}
-use Rattle.lines.specs.Decode.{nodeLines, allRead}
+use Rattle.node_lines.specs.Line.{Line, terminal, inner}
+use Rattle.node_lines.specs.Decode.{nodeLines, allRead}
 use Rattle.numbering.specs.Support.{supportOf}
 use Rattle.export_nodes.specs.Lines.{renumbered, linesFor}
-use Rattle.export_nodes.specs.Encoded.{nodeBytes, endText}
-use Rattle.import.specs.Import.{Setup, setup, linesIn, nodes, importOf}
+use Rattle.node_writers.specs.Encoded.{nodeBytes, endText}
+use Rattle.imported.specs.Import.{Setup, setup, linesIn, nodes, importOf}
 
 -- how the nodes of an export are read: with no extra word, at the levels of the support, after a header of so many lines
 abbrev pub setupFor : Bool → Store → List ℕ → ℕ → Setup

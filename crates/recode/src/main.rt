@@ -16,7 +16,7 @@ fn main() {
         }
         Recoded::Refused(n, line) => {
             let mut text = [0u8; 64];
-            let len = recoding::text::write_refusal(n, line, &mut text);
+            let len = recode_text::write_refusal(n, line, &mut text);
             io::write_all(1, &text[..len]);
         }
     }

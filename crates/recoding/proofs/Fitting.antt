@@ -8,13 +8,13 @@ use lib.Dec.{ltb}
 use lib.ListN.{length}
 use Rattle.codes.specs.Answer.{Read, value, refused}
 use Rattle.store.specs.Store.{Store}
-use Rattle.exporter.specs.Export.{fileOf}
+use Rattle.exported.specs.Export.{fileOf}
 use Rattle.exporter.specs.Promise.{ofExported}
 use Rattle.exporter.specs.Promise as promise
 use Rattle.exporter.specs.declared.Exported.{Exported}
-use Rattle.exporter.proofs.Accepted.{accepted}
-use Rattle.exporter.proofs.FileParts.{file-short}
-use Rattle.reading_back.proofs.ReadsBack.{exported}
+use Rattle.exported.proofs.Accepted.{accepted}
+use Rattle.exported.proofs.FileParts.{file-short}
+use Rattle.exported.proofs.Started.{exported}
 use Rattle.header.specs.Header as head
 use Rattle.calls.specs.Load.{Loaded}
 use Rattle.calls.specs.Calls.{Export, faultOf, Exports}

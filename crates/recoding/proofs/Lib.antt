@@ -1,10 +1,7 @@
-pub mod Taken
-pub mod VariableLevels
 pub mod Passed
 pub mod Said
 pub mod Planned
 pub mod Passing
 pub mod Reloaded
 pub mod Whole
-pub mod RefusalLine
 pub mod Fitting

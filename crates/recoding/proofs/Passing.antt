@@ -10,18 +10,19 @@ use Rattle.codes.specs.Lent.{laid}
 use Rattle.codes.specs.Limits.{varLimit}
 use Rattle.codes.specs.declared.DDDMPVersion.the-variants.{«V2_0»}
 use Rattle.codes.proofs.Lent.{length-laid}
-use Rattle.readers.specs.Text.{place}
-use Rattle.values.proofs.Padded.{take-laid}
-use Rattle.checks.proofs.Free.{length-orderedSeats}
+use Rattle.read_text.specs.Text.{place}
+use Rattle.header_values.proofs.Padded.{take-laid}
+use Rattle.variable_names.proofs.Free.{length-orderedSeats}
 use Rattle.store.specs.Store.{Store}
 use Rattle.header.specs.Header as head
-use Rattle.export_header.specs.Tables.{lent}
-use Rattle.exporter.specs.Settings.{Settings, settings, defaults, ofSettings}
+use Rattle.heading.specs.Tables.{lent}
+use Rattle.exported.specs.Settings.{Settings, settings, defaults}
+use Rattle.exporter.specs.Settings.{ofSettings}
 use Rattle.exporter.specs.Promise.{ofExported}
 use Rattle.exporter.specs.declared.ExportSettings.{ExportSettings}
 use Rattle.exporter.specs.declared.Exported.{Exported}
 use Rattle.calls.specs.Calls.{exportInto, Exports}
-use Rattle.recoding.specs.Levels.{variableLevels, Judged}
+use Rattle.recode_levels.specs.Levels.{variableLevels, Judged}
 use Rattle.recoding.specs.Recode.{slots, allThere, passed, exportWith, Recoded, ofRead, Exporting}
 
 -- the defaults, then text, then the place of the diagram's name

@@ -6,16 +6,16 @@ use native.Mathlib.Omega.{arith}
 use lib.ListN.{length, take}
 use Rattle.codes.specs.Lent.{laid}
 use Rattle.codes.specs.Limits.{varLimit}
-use Rattle.values.specs.Values.{pad}
-use Rattle.values.proofs.Fronts.{front-fits, front-is, front-long}
-use Rattle.whole.specs.Whole.{firstFault}
-use Rattle.whole.proofs.FirstFault.{last-check}
+use Rattle.header_values.specs.Values.{pad}
+use Rattle.header_values.proofs.Fronts.{front-fits, front-is, front-long}
+use Rattle.codes.specs.Faults.{firstFault}
+use Rattle.codes.proofs.Faults.{last-check}
 use Rattle.header.specs.Header as head
 use Rattle.header.specs.Kinds.{ofHeader, ofLoaded}
-use Rattle.header.specs.declared.load.DumpHeader.{DumpHeader}
-use Rattle.header.specs.declared.load.Loaded.{Loaded}
-use Rattle.header.specs.declared.load.Loaded.the-variants as loaded
-use Rattle.recoding.specs.Levels.{levelList}
+use Rattle.header.specs.declared.DumpHeader.{DumpHeader}
+use Rattle.header.specs.declared.Loaded.{Loaded}
+use Rattle.header.specs.declared.Loaded.the-variants as loaded
+use Rattle.recode_levels.specs.Levels.{levelList}
 use Rattle.recoding.specs.Recode.{headOf}
 use Rattle.recoding.specs.Kinds.{planBy, listBy}
 use Rattle.recoding.specs.declared.Plan.{Plan}

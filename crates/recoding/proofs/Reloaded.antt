@@ -7,17 +7,17 @@ use lib.ListN.{length, take, replicate}
 use lib.IntN.{pos}
 use lib.Seq.{length-take-le}
 use Rattle.codes.specs.Limits.{varLimit, rootLimit}
-use Rattle.values.proofs.Fronts.{front-is}
+use Rattle.header_values.proofs.Fronts.{front-is}
 use Rattle.store.specs.Store.{Store, store}
 use Rattle.store.specs.Empty.{empty}
 use Rattle.header.specs.Header as head
 use Rattle.header.specs.Kinds.{ofHeader, ofLoaded}
-use Rattle.header.specs.declared.load.DumpHeader.{DumpHeader}
-use Rattle.header.specs.declared.load.Loaded as declared
-use Rattle.header.specs.declared.load.Loaded.the-variants as loaded
+use Rattle.header.specs.declared.DumpHeader.{DumpHeader}
+use Rattle.header.specs.declared.Loaded as declared
+use Rattle.header.specs.declared.Loaded.the-variants as loaded
 use Rattle.calls.specs.Calls.{Export}
 use Rattle.calls.specs.Load.{Parts, parts, lengthsOf, Loaded, loadInto, partsOf, loadOf}
-use Rattle.recoding.specs.Levels.{Judged}
+use Rattle.recode_levels.specs.Levels.{Judged}
 use Rattle.recoding.specs.Recode.{slots, lists, loadAt, loadedAt, exportWith, exportOf, Recoded, refusal, Exporting, Refuses, Reloads}
 use Rattle.recoding.proofs.Said.{Says, load-says}
 

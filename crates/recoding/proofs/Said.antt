@@ -5,17 +5,17 @@ use Prim.Native.Nat.{ℕ, _≤_}
 use native.Mathlib.Omega.{arith}
 use lib.ListN.{length}
 use Rattle.codes.specs.Limits.{varLimit, rootLimit}
-use Rattle.fields.specs.declared.keys.Key.the-variants.{Ids, Permids}
-use Rattle.values.specs.Values.{u32sIn}
-use Rattle.values.proofs.Counted.{u32s-most, roots-most}
-use Rattle.whole.proofs.Accepted as whole
+use Rattle.header_keys.specs.declared.Key.the-variants.{Ids, Permids}
+use Rattle.header_values.specs.Values.{u32sIn}
+use Rattle.header_values.proofs.Counted.{u32s-most, roots-most}
+use Rattle.header_checks.proofs.Accepted as whole
 use Rattle.store.specs.Store.{Store}
 use Rattle.header.specs.Header.{Header, Answer, header, refusal, tableOf, listsBy, after, loadOf}
 use Rattle.header.proofs.Faultless.{faultless-settled}
 use Rattle.calls.specs.Load as calls
 use Rattle.calls.proofs.HeaderStands.{Sound, no-header, answer-sound}
 use Rattle.calls.proofs.Passes.{load-passes, passes-load}
-use Rattle.recoding.specs.Levels.{Judged}
+use Rattle.recode_levels.specs.Levels.{Judged}
 
 -- the limits, and as many ids and permids as support variables
 pub record Says (h : Header) (ids permids : List ℕ) : Type 0 where

@@ -8,10 +8,10 @@ use borrow.Author.Tests.{le-ltb, lt-ltb}
 use Rattle.codes.specs.Lent.{laid}
 use Rattle.codes.specs.Limits.{varLimit}
 use Rattle.codes.proofs.Lent.{length-laid}
-use Rattle.checks.specs.Seats.{seatOf}
-use Rattle.values.proofs.Padded.{take-laid}
+use Rattle.seats.specs.Seats.{seatOf}
+use Rattle.header_values.proofs.Padded.{take-laid}
 use Rattle.header.specs.Header as head
-use Rattle.recoding.specs.Levels.{takenFrom, levelList}
+use Rattle.recode_levels.specs.Levels.{takenFrom, levelList}
 use Rattle.recoding.specs.Recode.{inputMost, headOf, loadedAt, Recoded, refusal, Reloads, Heads, Sized, Recodes}
 use Rattle.recoding.specs.Kinds.{planBy, listBy}
 use Rattle.recoding.specs.declared.Plan.{Plan}

@@ -3,7 +3,7 @@ use Prim.Native.Nat.{ℕ}
 use lib.ListN.{length}
 use mathlib.Core.List.{List, []}
 use Rattle.header.specs.Header as head
-use Rattle.recoding.specs.Levels.{levelList}
+use Rattle.recode_levels.specs.Levels.{levelList}
 use Rattle.recoding.specs.Recode as recode
 use Rattle.recoding.specs.declared.Recoded.{Recoded}
 use Rattle.recoding.specs.declared.Recoded.the-variants as recoded

@@ -1,4 +1,2 @@
-pub mod Levels
-pub mod Text
 pub mod Recode
 pub mod Kinds

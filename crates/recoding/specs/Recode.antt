@@ -12,13 +12,13 @@ use Rattle.codes.specs.declared.DDDMPVersion.the-variants.{«V2_0»}
 use Rattle.store.specs.Store.{Store}
 use Rattle.store.specs.Empty.{empty}
 use Rattle.header.specs.Header as head
-use Rattle.export_header.specs.Tables.{lent}
-use Rattle.exporter.specs.Settings.{settings}
+use Rattle.heading.specs.Tables.{lent}
+use Rattle.exported.specs.Settings.{settings}
 use Rattle.exporter.specs.Promise.{ofExported}
 use Rattle.exporter.specs.declared.Exported.{Exported}
 use Rattle.calls.specs.Load.{Lengths, Load, Loaded, partsOf, loadOf}
 use Rattle.calls.specs.Calls.{Export, exportInto, Exports}
-use Rattle.recoding.specs.Levels.{levelList, variableLevels}
+use Rattle.recode_levels.specs.Levels.{levelList, variableLevels}
 
 -- 'standard input (65,536 bytes at most ..)'
 abbrev pub inputMost : ℕ

@@ -1,6 +1,4 @@
 // A file read and written again as text, version 2.0: what the program `recode` does.
-mod levels;
-pub mod text;
 
 ghost use mathlib.Core.Path.{_≡_};
 ghost use mathlib.Core.Bool.{cond};
@@ -10,7 +8,7 @@ ghost use Rattle.codes.specs.Lent.{laid};
 ghost use Rattle.codes.specs.Limits.{varLimit};
 ghost use Rattle.store.specs.Store.{store};
 ghost use Rattle.header.specs.Kinds.{ofHeader};
-ghost use Rattle.recoding.specs.Levels.{Judged};
+ghost use Rattle.recode_levels.specs.Levels.{Judged};
 ghost use Rattle.recoding.specs.Recode.{headOf, loadedAt, allThere, exportWith, Exporting, Reloads, Recodes};
 ghost use Rattle.recoding.specs.Kinds.{ofRecoded, planBy, listBy};
 use codes::limits;
@@ -19,8 +17,8 @@ use edges::Edge;
 use edges::Index;
 use exporter::ExportSettings;
 use exporter::Exported;
-use header::load::DumpHeader;
-use header::load::Loaded;
+use header::DumpHeader;
+use header::Loaded;
 
 // The length of the file that is written; or a refusal and its line.
 pub enum Recoded {
@@ -54,7 +52,7 @@ fn plan_levels(f: &[u8], list: &mut [u16]) -> Plan
     let mut roots = [0 as Edge; limits::ROOT_LIMIT];
     let mut rootnames = [0u32; limits::ROOT_LIMIT];
     let mut rootlens = [0u32; limits::ROOT_LIMIT];
-    let found = header::before::length_fault(0, f.len());
+    let found = stages::length_fault(0, f.len());
     let read = DumpHeader::load(
         f,
         found,
@@ -230,7 +228,7 @@ fn reload(f: &[u8], list: &[u16], levels: u16, out: &mut [u8]) -> Recoded
             )
         }
         Loaded::Refused(n, line) => {
-            exporter::lists::clear_bytes(out);
+            zeros::clear_bytes(out);
             Recoded::Refused(n, line)
         }
     }
@@ -241,14 +239,14 @@ pub fn recode(f: &[u8], out: &mut [u8]) -> Recoded
     ensures { λ r. ⌜ Recodes (now (f .entry)) (length (now (out .entry))) (ofRecoded r) (now (out .exit)) ⌝ }
 {
     if INPUT_MOST < f.len() {
-        exporter::lists::clear_bytes(out);
+        zeros::clear_bytes(out);
         return Recoded::Refused(refusal::OVER_LIMIT, 0);
     }
     let mut list = [0u16; limits::VAR_LIMIT];
     match plan_levels(f, &mut list) {
         Plan::Levels(levels, n) => reload(f, &list[..n], levels, out),
         Plan::Refused(n, line) => {
-            exporter::lists::clear_bytes(out);
+            zeros::clear_bytes(out);
             Recoded::Refused(n, line)
         }
     }

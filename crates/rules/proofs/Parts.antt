@@ -10,11 +10,11 @@ use lib.IntN.{ℤ}
 use Rattle.store.specs.Store.{store, slots}
 use Rattle.store.specs.Rules.{limits, Sizes, Alike, Nodes, bucket, Chains, Zero, Zeros}
 use Rattle.store.specs.Keeps.{Decides, says-no, keeps, is-keeps}
-use Rattle.index.specs.Index.{AllAlone}
-use Rattle.rules.specs.Check.{AllFit}
-use Rattle.rules.proofs.Decided.{decides-as}
+use Rattle.unique_table.specs.Index.{AllAlone}
+use Rattle.node_rules.specs.Check.{AllFit}
+use Rattle.node_rules.proofs.Decided.{decides-as}
 use Rattle.store.proofs.Chain.{newest, newest-same, linked-chains, chains-linked}
-use Rattle.rules.proofs.Fit.{fits-same}
+use Rattle.node_rules.proofs.Fit.{fits-same}
 
 module _ (levels count : ℕ) (L : List ℕ) (T E : List ℤ) (X H : List ℕ) where
   -- the nodes

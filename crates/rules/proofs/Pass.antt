@@ -11,7 +11,7 @@ use lib.Seq.{getD-set-same, getD-set-other}
 use Rattle.store.specs.Store.{Store, nextAt, headAt}
 use Rattle.store.specs.Rules.{bucket, Chains}
 use Rattle.store.specs.Keeps.{Decides}
-use Rattle.rules.proofs.Decided.{decides-as}
+use Rattle.node_rules.proofs.Decided.{decides-as}
 use Rattle.store.proofs.Chain.{newest, newest-hit, newest-miss, bucket-small, linked-chains, chains-linked}
 
 -- the nodes below n passed

@@ -9,7 +9,7 @@ use lib.IntN.{ℤ, pos, negsuc, natAbs}
 use Rattle.store.specs.Store.{store}
 use Rattle.store.specs.Rules.{Zero, Zeros}
 use Rattle.store.specs.Keeps.{Decides, says-yes, says-no}
-use Rattle.rules.proofs.Decided.{Tested, tested-start, tested-more, tested-end}
+use Rattle.node_rules.proofs.Decided.{Tested, tested-start, tested-more, tested-end}
 
 -- an edge of magnitude 0
 pub abs-zero : (e : ℤ) → natAbs e ≡ 0 → e ≡ pos 0

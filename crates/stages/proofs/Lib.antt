@@ -1,2 +1,1 @@
 pub mod StageLaws
-pub mod Nodes

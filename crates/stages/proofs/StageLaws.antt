@@ -5,20 +5,20 @@ use mathlib.Core.List.{List}
 use Prim.Native.Nat.{ℕ, _≤_, _<_}
 use lib.ListN.{length, replicate}
 use borrow.Author.Tests.{le-leb, lt-leb, not-true, not-false}
-use Rattle.whole.specs.Whole.{firstFault}
-use Rattle.whole.proofs.FirstFault.{refuses}
+use Rattle.codes.specs.Faults.{firstFault}
+use Rattle.codes.proofs.Faults.{refuses}
 use Rattle.store.specs.Store.{Store}
 use Rattle.store.specs.Rules.{limits}
 use Rattle.store.specs.Keeps.{keeps}
 use Rattle.header.specs.Header.{Header, header, refusal}
 use Rattle.header.specs.Kinds.{ofHeader, ofLoaded}
-use Rattle.header.specs.declared.load.DumpHeader.{DumpHeader}
-use Rattle.header.specs.declared.load.Loaded.{Loaded}
-use Rattle.header.specs.declared.load.Loaded.the-variants as loaded
-use Rattle.import.specs.List.{listFits}
-use Rattle.import.specs.Kinds.{ofImported}
-use Rattle.import.specs.declared.Imported.{Imported}
-use Rattle.import.specs.declared.Imported.the-variants as imported
+use Rattle.header.specs.declared.DumpHeader.{DumpHeader}
+use Rattle.header.specs.declared.Loaded.{Loaded}
+use Rattle.header.specs.declared.Loaded.the-variants as loaded
+use Rattle.level_list.specs.List.{listFits}
+use Rattle.import_steps.specs.Kinds.{ofImported}
+use Rattle.import_steps.specs.declared.Imported.{Imported}
+use Rattle.import_steps.specs.declared.Imported.the-variants as imported
 use Rattle.calls.specs.Load.{scratchFault, listFault}
 use Rattle.stages.specs.Stages.{storeAfter, scratched, listed, withNodes, clearedIf}
 

@@ -5,12 +5,12 @@ use mathlib.Core.Bool.{Bool, true, false}
 use mathlib.Core.List.{List, [], _∷_}
 use lib.ListN.{length, replicate}
 use lib.IntN.{ℤ, pos}
-use Rattle.whole.specs.Whole.{firstFault}
+use Rattle.codes.specs.Faults.{firstFault}
 use Rattle.store.specs.Store.{Store}
 use Rattle.store.specs.Rules.{limits, Rules}
 use Rattle.header.specs.Header.{Header, Answer, header, refusal}
-use Rattle.import.specs.Build.{LevelsOf}
-use Rattle.import.specs.Import as nodes
+use Rattle.imported.specs.Build.{LevelsOf}
+use Rattle.imported.specs.Import as nodes
 use Rattle.calls.specs.Load.{storeFault, scratchFault, listFault, setupFor}
 
 -- '3 the store breaks its rules', after what was found before, 0 of nothing

@@ -3,8 +3,8 @@
 ghost use Prim.Native.Nat.{_≤_};
 ghost use lib.ListN.{length};
 use codes::VarInfo;
-use header::load::DumpHeader;
-use header::load::Loaded;
+use header::DumpHeader;
+use header::Loaded;
 
 // How many bytes the numbers of a refusal take, and those of a header.
 const REFUSAL: usize = 8;

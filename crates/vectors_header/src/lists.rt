@@ -3,8 +3,8 @@ ghost use Prim.Native.Nat.{_+_, _≤_};
 ghost use Rattle.header.specs.Header.{MayRead};
 use crate::answer;
 use edges::Edge;
-use header::before;
-use header::load::DumpHeader;
+use header::DumpHeader;
+use stages;
 
 // What each entry of a lent list is before the call.
 const FILL: u32 = 0x5a5a5a5a;

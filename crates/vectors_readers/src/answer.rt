@@ -1,6 +1,6 @@
 // Stored answers: a byte, the refusal or 0, then numbers of 64 bits, lowest byte first.
 ghost use Prim.Native.Nat.{_≤_};
-use readers::lists::Count;
+use read_lists::Count;
 
 // Whether an answer is just this refusal.
 pub fn is_refusal(stored: &[u8], k: u8) -> bool {

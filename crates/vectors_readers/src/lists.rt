@@ -2,8 +2,8 @@
 ghost use Prim.Native.Nat.{_+_, _<_, _^_};
 ghost use lib.ListN.{length};
 use crate::answer;
-use readers::edges::Children;
-use readers::lists::Count;
+use read_edges::Children;
+use read_lists::Count;
 
 // What each entry of a lent list is before the call.
 const FILL: u32 = 0x5a5a5a5a;
@@ -20,7 +20,7 @@ fn is_u32_answer(stored: &[u8], c: Count, list: &[u32]) -> bool {
 }
 
 fn run_u32(input: &[u8], max: usize, list: &mut [u32], stored: &[u8]) -> bool {
-    let c = readers::lists::parse_u32_list(input, max, list);
+    let c = read_lists::parse_u32_list(input, max, list);
     is_u32_answer(stored, c, list)
 }
 
@@ -44,7 +44,7 @@ fn is_edge_answer(stored: &[u8], c: Count, list: &[i64]) -> bool {
 }
 
 fn run_edges(input: &[u8], max: usize, list: &mut [i64], stored: &[u8]) -> bool {
-    let c = readers::edges::parse_edge_list(input, max, list);
+    let c = read_edges::parse_edge_list(input, max, list);
     is_edge_answer(stored, c, list)
 }
 
@@ -61,7 +61,7 @@ pub fn edge_list(input: &[u8], max: usize, room: usize, stored: &[u8]) -> bool {
 }
 
 pub fn children(input: &[u8], stored: &[u8]) -> bool {
-    match readers::edges::parse_children(input) {
+    match read_edges::parse_children(input) {
         Children::Read(n, a, b) => answer::is_edge_pair(stored, n, a, b),
         Children::Refused(k) => answer::is_refusal(stored, k),
     }
@@ -88,7 +88,7 @@ fn run_names(
 ) -> bool
     requires { ⌜ base + length (now input) < 2 ^ 32 ⌝ }
 {
-    let c = readers::text::parse_str_list(input, base, max, starts, lens);
+    let c = read_text::parse_str_list(input, base, max, starts, lens);
     is_name_answer(stored, c, starts, lens)
 }
 

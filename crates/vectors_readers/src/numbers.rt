@@ -1,33 +1,33 @@
 // Cases of numbers in decimal digits.
 use crate::answer;
-use readers::numbers::First32;
-use readers::numbers::First64;
-use readers::numbers::Number32;
-use readers::numbers::Number64;
+use read_numbers::First32;
+use read_numbers::First64;
+use read_numbers::Number32;
+use read_numbers::Number64;
 
 pub fn single_u32(input: &[u8], stored: &[u8]) -> bool {
-    match readers::numbers::parse_single_u32(input) {
+    match read_numbers::parse_single_u32(input) {
         Number32::Value(v) => answer::is_value(stored, v as u64),
         Number32::Refused(k) => answer::is_refusal(stored, k),
     }
 }
 
 pub fn single_u64(input: &[u8], stored: &[u8]) -> bool {
-    match readers::numbers::parse_single_u64(input) {
+    match read_numbers::parse_single_u64(input) {
         Number64::Value(v) => answer::is_value(stored, v),
         Number64::Refused(k) => answer::is_refusal(stored, k),
     }
 }
 
 pub fn first_u32(input: &[u8], stored: &[u8]) -> bool {
-    match readers::numbers::parse_u32(input) {
+    match read_numbers::parse_u32(input) {
         First32::Value(v, next) => answer::is_pair(stored, v as u64, next as u64),
         First32::Refused(k) => answer::is_refusal(stored, k),
     }
 }
 
 pub fn first_u64(input: &[u8], stored: &[u8]) -> bool {
-    match readers::numbers::parse_u64(input) {
+    match read_numbers::parse_u64(input) {
         First64::Value(v, next) => answer::is_pair(stored, v, next as u64),
         First64::Refused(k) => answer::is_refusal(stored, k),
     }
@@ -39,7 +39,7 @@ pub fn digits(input: &[u8], low: usize, high: usize, foreign: u8, stored: &[u8])
     if max < 9 {
         return false;
     }
-    match readers::numbers::parse_digits(input, max, foreign) {
+    match read_numbers::parse_digits(input, max, foreign) {
         Number64::Value(v) => answer::is_value(stored, v),
         Number64::Refused(k) => answer::is_refusal(stored, k),
     }

@@ -2,8 +2,8 @@
 use crate::answer;
 use codes::Code;
 use codes::limits;
-use readers::lines::Class;
-use readers::text::Str;
+use read_lines::Class;
+use read_text::Str;
 
 // 1 for true, as the answers have it.
 fn bit(b: bool) -> u64 {
@@ -11,13 +11,13 @@ fn bit(b: bool) -> u64 {
 }
 
 pub fn utf8(input: &[u8], stored: &[u8]) -> bool {
-    answer::is_value(stored, bit(readers::text::is_utf8(input)))
+    answer::is_value(stored, bit(read_text::is_utf8(input)))
 }
 
 pub fn text(input: &[u8], base: usize, stored: &[u8]) -> bool {
     if base <= 0xffff_ffff {
         if input.len() <= 0xffff_ffff - base {
-            return match readers::text::parse_str(input, base as u32) {
+            return match read_text::parse_str(input, base as u32) {
                 Str::Place(start, len) => answer::is_pair(stored, start as u64, len as u64),
                 Str::Refused(k) => answer::is_refusal(stored, k),
             };
@@ -39,7 +39,7 @@ pub fn forward(input: &[u8], from: usize, end: usize, class: usize, stored: &[u8
     if from <= end && end <= input.len() {
         return answer::is_value(
             stored,
-            readers::lines::forward(input, from, end, class_of(class)) as u64,
+            read_lines::forward(input, from, end, class_of(class)) as u64,
         );
     }
     false
@@ -49,7 +49,7 @@ pub fn backward(input: &[u8], from: usize, end: usize, class: usize, stored: &[u
     if from <= end && end <= input.len() {
         return answer::is_value(
             stored,
-            readers::lines::backward(input, from, end, class_of(class)) as u64,
+            read_lines::backward(input, from, end, class_of(class)) as u64,
         );
     }
     false
@@ -57,7 +57,7 @@ pub fn backward(input: &[u8], from: usize, end: usize, class: usize, stored: &[u
 
 pub fn line(input: &[u8], at: usize, stored: &[u8]) -> bool {
     if at <= input.len() {
-        let l = readers::lines::line_at(input, at);
+        let l = read_lines::line_at(input, at);
         return answer::is_pair(stored, l.end as u64, l.next as u64);
     }
     false
@@ -65,7 +65,7 @@ pub fn line(input: &[u8], at: usize, stored: &[u8]) -> bool {
 
 pub fn field(input: &[u8], at: usize, end: usize, stored: &[u8]) -> bool {
     if at <= end && end <= input.len() {
-        let d = readers::lines::field_of(input, at, end);
+        let d = read_lines::field_of(input, at, end);
         return answer::is_triple(stored, d.key as u64, d.start as u64, d.end as u64);
     }
     false

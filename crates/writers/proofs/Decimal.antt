@@ -12,19 +12,19 @@ use Rattle.codes.specs.Bytes.{isDigit}
 use Rattle.codes.specs.Machine.{run}
 use Rattle.codes.proofs.Machine.{leads-run}
 use Rattle.edges.specs.Edge.{minus}
-use Rattle.readers.specs.declared.edges.Entry.the-variants.{Fresh}
-use Rattle.readers.specs.declared.edges.Entry.the-variants as entry
-use Rattle.readers.specs.Each.{none, each}
-use Rattle.readers.specs.Value.{valueFrom, valueOf}
-use Rattle.readers.specs.Number.{number, single}
-use Rattle.readers.specs.Digits.{Digits, Says, reads}
-use Rattle.readers.specs.Digits as read
-use Rattle.readers.specs.Edges.{signed, edges, edgeAt, edgeEnd}
-use Rattle.readers.specs.Signed.{Signed, plain}
-use Rattle.readers.specs.Signed
-use Rattle.readers.proofs.Number.{single-some}
-use Rattle.readers.proofs.Digits.{decimal-last, digits-last, answers-number}
-use Rattle.readers.proofs.Signed.{signed-led}
+use Rattle.read_edges.specs.declared.Entry.the-variants.{Fresh}
+use Rattle.read_edges.specs.declared.Entry.the-variants as entry
+use Rattle.read_lines.specs.Each.{none, each}
+use Rattle.read_numbers.specs.Value.{valueFrom, valueOf}
+use Rattle.read_numbers.specs.Number.{number, single}
+use Rattle.read_numbers.specs.Digits.{Digits, Says, reads}
+use Rattle.read_numbers.specs.Digits as read
+use Rattle.read_edges.specs.Edges.{signed, edges, edgeAt, edgeEnd}
+use Rattle.read_edges.specs.Signed.{Signed, plain}
+use Rattle.read_edges.specs.Signed
+use Rattle.read_numbers.proofs.Number.{single-some}
+use Rattle.read_numbers.proofs.Digits.{decimal-last, digits-last, answers-number}
+use Rattle.read_edges.proofs.SignedEntries.{signed-led}
 use Rattle.writers.specs.Decimal.{digits, decimal, edgeText}
 use Rattle.writers.proofs.Sets.{Wrote}
 use Rattle.writers.proofs.Notation.{Notation, written-one, wrote-last, length-last, written-some, written-short, written-by}

@@ -9,8 +9,8 @@ use lib.Seq.{getD-drop}
 use lib.Dec.{eqb}
 use borrow.Author.Tests.{eqb-true, eqb-false, ne-eqb}
 use Rattle.codes.specs.Answer.{got}
-use Rattle.readers.specs.Binary.{meant, byteAt}
-use Rattle.readers.proofs.Decoded.{byte-plain, byte-escaped, meant-00, meant-0a, meant-0d, meant-1a}
+use Rattle.read_binary.specs.Binary.{meant, byteAt}
+use Rattle.read_binary.proofs.Decoded.{byte-plain, byte-escaped, meant-00, meant-0a, meant-0d, meant-1a}
 use Rattle.writers.specs.Binary.{escaped}
 
 -- What a byte is written as: a 00 and a code that stands for it, or the byte itself.

@@ -7,8 +7,8 @@ use lib.ListN.{length, drop, length-append}
 use lib.Seq.{drop-drop, drop-append-seam}
 use borrow.Author.Tests.{lt-ltb, le-ltb}
 use Rattle.codes.specs.Answer.{got}
-use Rattle.readers.specs.Binary.{byteAt, numberAt}
-use Rattle.readers.proofs.Decoded.{Going, number-going, going-last, going-more}
+use Rattle.read_binary.specs.Binary.{byteAt, numberAt}
+use Rattle.read_binary.proofs.Decoded.{Going, number-going, going-last, going-more}
 use Rattle.writers.specs.Binary.{escaped, escapedAll, groupsBy, groups, sevenBit}
 use Rattle.writers.proofs.Sets.{Wrote}
 use Rattle.writers.proofs.Notation.{Notation, written-one, length-last, wrote-last, written-some, written-short, written-by}

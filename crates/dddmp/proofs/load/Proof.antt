@@ -4,7 +4,7 @@ use mathlib.Core.List.{List, map}
 use lib.ListN.{length, replicate}
 use lib.IntN.{ℤ, pos}
 use Rattle.codes.specs.Lent.{laid}
-use Rattle.readers.specs.Text.{startOf, lenOf}
+use Rattle.read_text.specs.Text.{startOf, lenOf}
 use Rattle.store.specs.Store.{Store, store}
 use Rattle.header.specs.Kinds.{ofLoaded}
 use Rattle.header.specs.Header.{Answer}

@@ -1,6 +1,6 @@
 -- `zt_load` meets its contract: it hands everything on, and gives the answer in C's form.
 use mathlib.Core.Path.{ap, _∙_}
-use Rattle.firmware.specs.Answers.{ofAnswer}
+use Rattle.c_answers.specs.Answers.{ofAnswer}
 use Rattle.firmware.proofs.zt_load.Statement.{statement}
 use Rattle.firmware.proofs.zt_load.Tie as tie
 

@@ -4,9 +4,9 @@ use mathlib.Core.Path.{sym, _∙_}
 use lib.Seq.{length-take-le}
 use borrow.Author.Needs.{needs}
 use Rattle.store.specs.Store.{Store, store}
-use Rattle.import.specs.Import.{Setup}
-use Rattle.import.specs.Kinds.{ofSetup}
-use Rattle.import.proofs.Settling.{kept-long, front-edges, stay-settled, import-leaves}
+use Rattle.imported.specs.Import.{Setup}
+use Rattle.import_steps.specs.Kinds.{ofSetup}
+use Rattle.imported.proofs.Settling.{kept-long, front-edges, stay-settled, import-leaves}
 use Rattle.import.proofs.import.Statement.{statement}
 use Rattle.import.proofs.import.Tie as tie
 

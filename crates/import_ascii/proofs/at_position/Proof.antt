@@ -5,7 +5,7 @@ use lib.ListN.{getD}
 use borrow.Author.Needs.{needs}
 use mir.Syntax.{w16, w64}
 use mir.Val.{toZ, ofZ}
-use Rattle.lines.specs.Line.{childFault}
+use Rattle.node_lines.specs.Line.{childFault}
 use Rattle.import_ascii.proofs.Faults.{fault-read, child-below, position-out, position-then, position-else, position-inner, edge-kept}
 use Rattle.import_ascii.proofs.at_position.Statement.{statement}
 use Rattle.import_ascii.proofs.at_position.Tie as tie

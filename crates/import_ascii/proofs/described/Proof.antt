@@ -6,8 +6,8 @@ use mir.Syntax.{w64}
 use mir.Val.{toZ, ofZ}
 use mir.ValLaws.{toZ-ofZ}
 use Rattle.codes.specs.Answer.{value}
-use Rattle.readers.specs.Edges.{pair}
-use Rattle.readers.specs.Kinds.{ofChildren}
+use Rattle.read_edges.specs.Edges.{pair}
+use Rattle.read_edges.specs.Kinds.{ofChildren}
 use Rattle.import_ascii.proofs.TextLines.{list-refused, list-count, list-first, list-second, list-word, list-position}
 use Rattle.import_ascii.proofs.described.Statement.{statement}
 use Rattle.import_ascii.proofs.described.Tie as tie

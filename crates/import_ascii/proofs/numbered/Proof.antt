@@ -4,7 +4,7 @@ use Prim.Native.Nat.{_^_}
 use native.Mathlib.Omega.{arith}
 use borrow.Author.Needs.{needs}
 use Rattle.codes.specs.Answer.{got}
-use Rattle.readers.specs.Number.{first}
+use Rattle.read_numbers.specs.Number.{first}
 use Rattle.import_ascii.proofs.WordEnds.{first-within, number-right, number-wrong, number-none}
 use Rattle.import_ascii.proofs.numbered.Statement.{statement}
 use Rattle.import_ascii.proofs.numbered.Tie as tie

@@ -2,7 +2,7 @@
 use mathlib.Core.Path.{_≡_}
 use mathlib.Core.List.{[], _∷_}
 use borrow.Author.Needs.{needs}
-use Rattle.fields.specs.Keys.{alike}
+use Rattle.read_text.specs.Alike.{alike}
 use Rattle.import_ascii.proofs.TextLines.{word-t, word-other}
 use Rattle.import_ascii.proofs.terminal.Statement.{statement}
 use Rattle.import_ascii.proofs.terminal.Tie as tie

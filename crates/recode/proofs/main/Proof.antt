@@ -7,7 +7,7 @@ use borrow.Author.Needs.{needs}
 use Rattle.recoding.specs.Recode.{written}
 use Rattle.recoding.specs.Kinds.{ofRecoded}
 use Rattle.recoding.proofs.Fitting.{recodes-within}
-use Rattle.recoding.proofs.RefusalLine.{refusal-within}
+use Rattle.recode_text.proofs.RefusalLine.{refusal-within}
 use Rattle.recode.proofs.main.Statement.{statement}
 use Rattle.recode.proofs.main.Tie as tie
 

@@ -4,7 +4,7 @@ use mathlib.Core.Path.{_≡_}
 use Prim.Native.Nat.{_-_}
 use native.Mathlib.Omega.{arith}
 use lib.ListN.{getD}
-use Rattle.rules.proofs.Decided.{Tested, tested-start, tested-more, tested-bad, tested-end, decides-as}
+use Rattle.node_rules.proofs.Decided.{Tested, tested-start, tested-more, tested-bad, tested-end, decides-as}
 use Rattle.rules.proofs.heads_newest.Statement.{statement}
 use Rattle.rules.proofs.heads_newest.Tie as tie
 

@@ -4,13 +4,13 @@ use mathlib.Core.Path.{_≡_, refl, sym, ap, _∙_}
 use mathlib.Core.List.{List}
 use Prim.Native.Nat.{ℕ}
 use lib.ListN.{length, replicate}
-use Rattle.values.specs.Kinds.{ofPlace}
+use Rattle.header_values.specs.Kinds.{ofPlace}
 use Rattle.store.specs.Store.{Store, store}
-use Rattle.export_header.specs.Tables.{Lent, lent}
+use Rattle.heading.specs.Tables.{Lent, lent}
 use Rattle.exporter.specs.declared.Exported.{Exported}
 use Rattle.exporter.specs.declared.Exported.the-variants.{Written, Refused}
 use Rattle.exporter.specs.Settings.{ofSettings}
-use Rattle.exporter.specs.Export.{exportFault}
+use Rattle.exported.specs.Export.{exportFault}
 use Rattle.exporter.specs.Promise.{Exports}
 use Rattle.exporter.proofs.Promised.{own-zeros, vars-filled, promised-none, promised-file}
 use Rattle.exporter.proofs.ExportSettings.export.Statement.{statement}

@@ -5,7 +5,7 @@ use Rattle.vectors_header.proofs.lists.leaves.Tie as tie
 use Rattle.vectors_header.proofs.lists.leaves.Reads as reads
 use Rattle.vectors_header.proofs.lists.leaves.Lts as lts
 use Rattle.vectors_header.proofs.lists.found_before.Reads as found-before-reads
-use Rattle.header.proofs.load.DumpHeader.load.Reads as load-reads
+use Rattle.header.proofs.DumpHeader.load.Reads as load-reads
 use Rattle.vectors_header.proofs.answer.after_list.Reads as after-list-reads
 use Rattle.vectors_header.proofs.answer.after_numbers.Reads as after-numbers-reads
 use Rattle.vectors_header.proofs.answer.is_end.Reads as is-end-reads

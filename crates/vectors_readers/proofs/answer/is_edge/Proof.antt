@@ -2,7 +2,7 @@
 use Prim.Native.Nat.{_+_, _-_}
 use native.Mathlib.Omega.{arith}
 use borrow.Author.Needs.{needs}
-use Rattle.readers.proofs.EdgeList.{minus-fits}
+use Rattle.read_edges.proofs.EdgeList.{minus-fits}
 use Rattle.vectors_readers.proofs.answer.is_edge.Statement.{statement}
 use Rattle.vectors_readers.proofs.answer.is_edge.Tie as tie
 

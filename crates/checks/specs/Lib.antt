@@ -1,4 +1,0 @@
-pub mod Seats
-pub mod Support
-pub mod Names
-pub mod Roots

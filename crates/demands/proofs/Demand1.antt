@@ -1,0 +1,78 @@
+-- Demand 1, of every call on every store: 'On any refusal outputs are all zeros and the store is unchanged.' And: 'Scratch ends as zeros.'
+use mathlib.Core.Path.{_≡_, refl, sym, ap}
+use mathlib.Core.List.{List}
+use Prim.Native.Nat.{ℕ, zero, suc}
+use native.Mathlib.Omega.{arith}
+use lib.ListN.{replicate, length-replicate}
+use lib.IntN.{pos}
+use Rattle.codes.specs.Lent.{laid}
+use Rattle.store.specs.Store.{Store}
+use Rattle.header.specs.Header as head
+use Rattle.exporter.specs.Promise as promise
+use Rattle.exporter.specs.declared.Exported.{Exported}
+use Rattle.calls.specs.Load.{Load, refusedAt, partsOf, loadOf}
+use Rattle.demands.specs.Lists.{Call, leaves}
+use Rattle.calls.specs.Calls.{Export, Exports, faultOf}
+use Rattle.demands.specs.Outcome.{accepted, refusal, ofAnswer, ofRead, numbers, edges, Zeros, AllZeros, Outcome, outputsOf, Leaves}
+use Rattle.demands.specs.Outcome.{loads, evaluates, exports}
+use Rattle.calls.proofs.Passes.{load-refused}
+
+-- a list of zeros holds zeros
+zeros : (n : ℕ) → Zeros (numbers (replicate n 0))
+zeros n = ap (λ k. replicate k 0) (sym (length-replicate n 0))
+
+no-edges : (n : ℕ) → Zeros (edges (replicate n (pos 0)))
+no-edges n = ap (λ k. replicate k (pos 0)) (sym (length-replicate n (pos 0)))
+
+and-zeros : {P : Type 0} (n : ℕ) → P → Zeros (numbers (replicate n 0)) × P
+and-zeros n w = (zeros n, w)
+
+-- what is accepted is not refused
+not-refused : {n line : ℕ} {B : Type 0} → accepted ≡ refusal n line → B
+not-refused q = absurd (let z : _≡_ {A = ℕ} 0 1 = cc in omega arith)
+
+module _ (c : Load) (σ : Store) where
+  -- the lists of a refused load hold zeros
+  refused-zeros : (n line : ℕ) → AllZeros (outputsOf (partsOf (c .lent) (refusedAt c σ n line)))
+  unfolding laid
+  refused-zeros n line =
+      let l = c .lent in
+      and-zeros (l .ids) (and-zeros (l .order) (and-zeros (l .permids) (and-zeros (l .auxids)
+      (and-zeros (l .names) (and-zeros (l .lens) (no-edges (l .roots), and-zeros (l .rootnames) (and-zeros (l .rootlens) tt)))))))
+
+  load-nothing : (n line : ℕ) → ofAnswer (loadOf c σ .answer) ≡ refusal n line
+      → (loadOf c σ .after ≡ σ) × AllZeros (outputsOf (partsOf (c .lent) (loadOf c σ)))
+  load-nothing n line q = go (loadOf c σ .answer) refl q
+    where
+      go : (a : head.Answer) → loadOf c σ .answer ≡ a → ofAnswer a ≡ refusal n line
+          → (loadOf c σ .after ≡ σ) × AllZeros (outputsOf (partsOf (c .lent) (loadOf c σ)))
+      go (head.header h) e q = not-refused q
+      go (head.refusal k at) e q = rw (load-refused c σ k at e) (refl, refused-zeros k at)
+
+-- the output of a refused export holds zeros
+export-nothing : (x : Export) (σ : Store) (r : Exported) (out : List ℕ) (n line : ℕ) → Exports x σ r out
+    → ofRead (promise.ofExported r) ≡ refusal n line → Zeros (numbers out)
+export-nothing x σ r out n line w q = go (faultOf x σ) w
+  where
+    go : (k : ℕ) → promise.Exports k (x .settings) σ (x .roots) (x .order) (x .names) (x .out) r out → Zeros (numbers out)
+    go zero w = not-refused (rw (w .answer) at q)
+    go (suc k) w = rw (w .bytes) (zeros (x .out))
+
+-- Demand 1. The call and the store are arbitrary: nothing is asked of the store, of the file or of any lent list.
+pub demand-1 : {c : Call} {σ : Store} {o : Outcome} → Leaves c σ o → (n line : ℕ) → o .verdict ≡ refusal n line
+    → (o .after ≡ σ) × AllZeros (o .outputs)
+demand-1 (loads c σ) n line q = load-nothing c σ n line q
+demand-1 (evaluates e s σ) n line q = (refl, tt)
+demand-1 (exports x σ r out w) n line q = (refl, (export-nothing x σ r out n line w q, tt))
+
+-- 'Scratch ends as zeros': refused or not.
+pub scratch-zeros : {c : Call} {σ : Store} {o : Outcome} → Leaves c σ o → AllZeros (o .scratch)
+scratch-zeros (loads c σ) = (no-edges (c .lent .edges), (zeros (c .lent .seats), tt))
+scratch-zeros (evaluates e s σ) = tt
+scratch-zeros (exports x σ r out w) = (zeros (x .slots), (zeros (x .numbers), tt))
+
+-- the store that a call leaves is the one that a list of calls goes on with
+pub leaves-after : {c : Call} {σ : Store} {o : Outcome} → Leaves c σ o → o .after ≡ leaves c σ
+leaves-after (loads c σ) = refl
+leaves-after (evaluates e s σ) = refl
+leaves-after (exports x σ r out w) = refl

@@ -1,0 +1,77 @@
+-- Demand 3: of every list of public calls on one store, from an empty one on: two roots are equal as signed numbers exactly where their
+-- files' lines answer alike at every setting. Document 01, 'Agreed between us'.
+use mathlib.Core.Path.{_≡_, sym, _∙_}
+use mathlib.Core.Logic.{_↔_}
+use mathlib.Core.List.{List}
+use Prim.Native.Nat.{ℕ, suc, _≤_}
+use native.Mathlib.Omega.{arith}
+use native.Mathlib.Decide.{decLe}
+use lib.ListN.{take}
+use lib.IntN.{ℤ}
+use Rattle.store.specs.Store.{Store}
+use Rattle.store.specs.Settings.{chosen}
+use Rattle.store.specs.Rules.{limits, Rules}
+use Rattle.store.specs.Growth.{Grows}
+use Rattle.store.specs.Empty.{empty}
+use Rattle.store.proofs.Growth.{grow-edge, grow-answer}
+use Rattle.store.proofs.Canonicity.{canonicity}
+use Rattle.demands.specs.Lists.{Call, leaves, before}
+use Rattle.demands.specs.Roots.{Meaning, Means, Gives, loaded, Root, Alike}
+use Rattle.demands.proofs.RootsAnswer.{roots-answer}
+use Rattle.demands.proofs.Growing.{run-grows, after-grows, after-rules}
+
+-- a call that gives a root leaves a store that keeps the rules, where the root has its meaning
+gives-rules : {c : Call} {σ : Store} {e : ℤ} {m : Meaning} → Gives c σ e m → Rules limits (leaves c σ)
+gives-rules (loaded c σ h i q k) = roots-answer c σ h q .rules
+
+gives-means : {c : Call} {σ : Store} {e : ℤ} {m : Meaning} → Gives c σ e m → Means (leaves c σ) e m
+gives-means (loaded c σ h i q k) = roots-answer c σ h q .root i k
+
+-- an edge keeps its meaning while the store grows
+means-grown : {σ τ : Store} {e : ℤ} {m : Meaning} → Grows σ τ → Rules limits σ → Means σ e m → Means τ e m
+means-grown {e = e} G R M = record { edge = grow-edge G e (M .edge); agrees = λ s. grow-answer G (R .nodes) s e (M .edge) ∙ M .agrees s }
+
+-- two edges of a store that keeps the rules, each with its meaning
+one-store : (levels : ℕ) {τ : Store} (a b : ℤ) (m n : Meaning) → τ .levels ≡ levels → Rules limits τ → Means τ a m → Means τ b n
+    → (a ≡ b) ↔ Alike levels m n
+one-store levels {τ} a b m n v R M N =
+    let C = canonicity τ (R .nodes) a b (M .edge) (N .edge) in (
+      λ q s l. sym (M .agrees (chosen s)) ∙ C .1 q s (l ∙ sym v) ∙ N .agrees (chosen s),
+      λ S. C .0 (λ s l. M .agrees (chosen s) ∙ S s (l ∙ v) ∙ sym (N .agrees (chosen s))),
+    )
+
+module _ (levels slots : ℕ) (cs : List Call) where
+  -- the store after the call at a place
+  abbrev pub after : ℕ → Store
+  after k = before (empty levels slots) cs (suc k)
+
+  -- it has as many levels as the empty one
+  pub levels-after : (k : ℕ) → after k .levels ≡ levels
+  unfolding empty
+  levels-after k = run-grows (empty levels slots) (take (suc k) cs) .levels
+
+  -- from its own place on a root has its meaning
+  pub root-means : (a : Root levels slots cs) (k : ℕ) → a .place ≤ k → Means (after k) (a .edge) (a .meaning)
+  root-means a k h =
+      means-grown (after-grows (empty levels slots) (a .at) (suc k) (omega arith)) (gives-rules (a .given)) (gives-means (a .given))
+
+  -- and the store keeps the rules
+  pub root-rules : (a : Root levels slots cs) (k : ℕ) → a .place ≤ k → Rules limits (after k)
+  root-rules a k h = after-rules (empty levels slots) (a .at) (suc k) (omega arith) (gives-rules (a .given))
+
+  -- so two roots are compared in the store after the later of their calls
+  ordered : (a b : Root levels slots cs) → a .place ≤ b .place → (a .edge ≡ b .edge) ↔ Alike levels (a .meaning) (b .meaning)
+  ordered a b h =
+      one-store levels (a .edge) (b .edge) (a .meaning) (b .meaning) (levels-after (b .place)) (root-rules b (b .place) (omega arith))
+      (root-means a (b .place) h) (root-means b (b .place) (omega arith))
+
+-- Demand 3. The list and the two roots are arbitrary; nothing is asked of the store, of the files or of any answer, beyond that each root
+-- was given by a load that was accepted.
+pub demand-3 : (levels slots : ℕ) (cs : List Call) (a b : Root levels slots cs) → (a .edge ≡ b .edge) ↔ Alike levels (a .meaning) (b .meaning)
+demand-3 levels slots cs a b = go (decLe (a .place) (b .place))
+  where
+    go : Dec (a .place ≤ b .place) → (a .edge ≡ b .edge) ↔ Alike levels (a .meaning) (b .meaning)
+    go (yes h) = ordered levels slots cs a b h
+    go (no f) =
+        let w = ordered levels slots cs b a (omega arith) in
+        (λ q s l. sym (w .0 (sym q) s l), λ S. sym (w .1 (λ s l. sym (S s l))))

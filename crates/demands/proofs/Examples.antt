@@ -1,0 +1,175 @@
+-- The definitions compute to what document 01 says.
+use mathlib.Core.Path.{_≡_, refl, sym, ap, subst, _∙_}
+use mathlib.Core.Bool.{Bool, true, false, _&&_}
+use mathlib.Core.List.{[], _∷_}
+use Prim.Native.Nat.{ℕ, _≤_}
+use native.Mathlib.Omega.{arith}
+use lib.ListN.{replicate}
+use lib.IntN.{pos, negsuc}
+use Rattle.codes.specs.Lent.{laid}
+use Rattle.codes.specs.Limits.{varLimit}
+use Rattle.codes.specs.Machine.{run}
+use Rattle.codes.specs.Bytes.{isBlank, isDigit, isLineEnd, isWhitespace}
+use Rattle.edges.specs.Edge.{minus, turn, eqZ}
+use Rattle.read_lines.specs.Line.{isOf, seek, trim, feedAt, lineOf, keyEnd, valueStart, valueEnd, fieldOf}
+use Rattle.read_numbers.specs.Number.{digit, number, single, first}
+use Rattle.read_lists.specs.Lists.{judge, u32List}
+use Rattle.read_lines.specs.Words.{wordsFrom, words}
+use Rattle.read_edges.specs.Edges.{entryStep, edgeAt, edgeEnd, edgeList, children}
+use Rattle.read_text.specs.Text.{utf8Next, isUtf8, nameList, textAt}
+use Rattle.read_text.specs.Alike.{alike}
+use Rattle.header_keys.specs.Keys.{lookup, keyOf}
+use Rattle.header_faults.specs.Judge.{versionFault, modeFault, varinfoFault, textFault, singleFault, u32ListFault, rootListFault, nameListFault, faultOf}
+use Rattle.header_lines.specs.Sweep.{linesFrom, linesOf, endFrom, endOf, allOf, lastFrom, lastOf, lasts}
+use Rattle.seats.specs.Seats.{seatOf}
+use Rattle.seats.specs.Ordered.{ascending, distinct}
+use Rattle.support.specs.Support.{lastBelow, idsFit, allBelow, permidsFit, orderFrom, supportOrder}
+use Rattle.variable_names.specs.Names.{places, sameBytes, sameName, sameNames, chosen, freeFrom, orderedFrom, orderedSeats, suppFrom, suppSeats, variableNames}
+use Rattle.file_roots.specs.Roots.{rootsFault}
+use Rattle.header_values.specs.Values.{spans, numberIn, asciiIn, varinfoIn, ddIn, u32sIn, namesIn, rootsIn}
+use Rattle.header_checks.specs.Names.{upFrom, agree, variableNamesIn}
+use Rattle.codes.specs.Faults.{unless, firstFault}
+use Rattle.header_checks.specs.Whole.{numberFaults, supportFaults, nameCountFaults, nameFaults, rootFaults, wholeFault}
+use Rattle.store.specs.Make.{findUpTo, find, added, insert, make}
+use Rattle.store.specs.Store.{Store}
+use Rattle.store.specs.Settings as settings
+use Rattle.store.specs.Rules.{limits, Rules}
+use Rattle.store.specs.Keeps.{keeps, says-no, is-keeps, rules-keeps}
+use Rattle.store.specs.Empty.{empty}
+use Rattle.store.proofs.Empty.{empty-keeps}
+use Rattle.header.specs.Header as head
+use Rattle.header.specs.Header.{tableOf, readOf, atLeast}
+use Rattle.header.specs.Examples.{bytesFrom, exampleLoaded}
+use Rattle.node_lines.specs.Line.{terminal, inner, deeper, childFault}
+use Rattle.node_lines.specs.Decode.{decodeFrom}
+use Rattle.node_lines.specs.Says.{saysBy, says}
+use Rattle.import_ascii.specs.Text.{wordFrom, numbered, afterExtra, variableWord, textLine, textLineAt}
+use Rattle.imported.specs.Build.{edgeFor, addLine, buildOn, build}
+use Rattle.imported.specs.Import.{lineBy, linesIn, linesAnswer, blankAll, endsWell, importOf}
+use Rattle.level_list.specs.List.{listFits}
+use Rattle.calls.specs.Load.{Load, refusedAt, listsFault, lengthFault, beforeHeader, scratchFault, listFault, beforeNodes, headerOf, setupOf, nodesOf, withHeader, loadOf}
+use Rattle.demands.specs.Roots.{fileSays}
+use Rattle.demands.specs.Examples.{bare, bareHeader, example, exampleHeader}
+use Rattle.calls.proofs.HeaderStands.{answer-roots}
+use Rattle.calls.proofs.Passes.{Passes, load-refused, passes-load}
+use Rattle.demands.proofs.RootsAnswer.{roots-answer}
+
+-- the header of a load, by whether the store keeps the rules
+abbrev pub headerBy : Load → Bool → head.Loaded
+headerBy c kept = head.loadOf (firstFault (listsFault (c .lent) ∷ unless kept 3 ∷ lengthFault (c .file) ∷ [])) (c .file)
+
+pub header-by : (c : Load) (σ : Store) {b : Bool} → keeps limits σ ≡ b → headerOf c σ ≡ headerBy c b
+unfolding headerOf beforeHeader
+header-by c σ q = ap (headerBy c) q
+
+-- an empty store breaks the rules without a slot, and keeps them with one
+breaks : (levels : ℕ) → keeps limits (empty levels 0) ≡ false
+breaks levels = sym (is-keeps limits (empty levels 0) false (says-no (λ R. omega (arith, empty-keeps levels 0 .0 R .0))))
+
+pub kept : (levels slots : ℕ) → levels ≤ varLimit → 1 ≤ slots → keeps limits (empty levels slots) ≡ true
+kept levels slots h k = rules-keeps limits (empty levels slots) (empty-keeps levels slots .1 (k, h))
+
+-- without a slot a file is refused with 3
+pub bare-breaks : loadOf bare (empty 0 0) ≡ refusedAt bare (empty 0 0) 3 0
+unfolding loadOf head.loadOf head.listsFault firstFault atLeast
+bare-breaks =
+    load-refused bare (empty 0 0) 3 0 (ap (λ r. withHeader bare (empty 0 0) (r .answer) .answer) (header-by bare (empty 0 0) (breaks 0)))
+
+-- with one it is accepted
+bare-header : headerBy bare true .answer ≡ head.header bareHeader
+unfolding run isBlank isLineEnd isOf seek trim feedAt lineOf keyEnd fieldOf single judge u32List wordsFrom words edgeEnd edgeList isUtf8 nameList textAt alike lookup keyOf linesFrom linesOf endFrom endOf allOf lastFrom lastOf lasts ascending lastBelow idsFit allBelow distinct permidsFit rootsFault numberIn asciiIn varinfoIn ddIn u32sIn namesIn rootsIn agree firstFault numberFaults supportFaults nameCountFaults nameFaults rootFaults wholeFault tableOf readOf head.lengthFault atLeast head.listsFault head.loadOf bytesFrom
+bare-header = refl
+
+bare-passes : Passes bare (empty 0 1) bareHeader
+unfolding isBlank isLineEnd isWhitespace alike ascending lastBelow idsFit decodeFrom buildOn build linesIn linesAnswer blankAll endsWell importOf listFits beforeNodes scratchFault listFault firstFault bytesFrom
+bare-passes = record {
+  header-read = ap (λ r. r .answer) (header-by bare (empty 0 1) (kept 0 1 (omega arith) (omega arith))) ∙ bare-header;
+  unrefused = refl;
+  at = 7;
+  nodes-read = refl;
+}
+
+pub bare-loads : loadOf bare (empty 0 1) .answer ≡ head.header bareHeader
+bare-loads = ap (λ r. r .answer) (passes-load bare (empty 0 1) bareHeader bare-passes)
+
+-- the header of document 01's example
+example-header : headerBy example true ≡ exampleLoaded
+unfolding run isBlank isDigit isLineEnd isOf seek trim feedAt lineOf keyEnd valueStart valueEnd fieldOf digit number single judge u32List wordsFrom words entryStep edgeAt edgeEnd edgeList utf8Next isUtf8 nameList textAt alike lookup keyOf versionFault modeFault varinfoFault textFault singleFault u32ListFault rootListFault nameListFault faultOf linesFrom linesOf endFrom endOf allOf lastFrom lastOf lasts seatOf ascending lastBelow idsFit allBelow distinct permidsFit orderFrom supportOrder places sameBytes sameName sameNames chosen freeFrom orderedFrom orderedSeats suppFrom suppSeats variableNames rootsFault spans numberIn asciiIn varinfoIn ddIn u32sIn namesIn rootsIn upFrom agree variableNamesIn firstFault numberFaults supportFaults nameCountFaults nameFaults rootFaults wholeFault tableOf readOf head.lengthFault atLeast head.listsFault head.loadOf bytesFrom
+example-header = refl
+
+example-read : (σ : Store) → keeps limits σ ≡ true → headerOf example σ ≡ exampleLoaded
+example-read σ q = header-by example σ q ∙ example-header
+
+-- it is accepted where there is a slot for each of its nodes
+example-passes : Passes example (empty 2 3) exampleHeader
+unfolding run isBlank isDigit isLineEnd isWhitespace isOf seek trim feedAt lineOf digit number single first wordsFrom words entryStep edgeAt edgeEnd edgeList children alike ascending lastBelow idsFit deeper childFault decodeFrom wordFrom numbered afterExtra variableWord textLine textLineAt minus eqZ empty findUpTo find added insert make edgeFor addLine buildOn build lineBy linesIn linesAnswer blankAll endsWell importOf listFits beforeNodes scratchFault listFault firstFault bytesFrom
+example-passes = record {
+  header-read = ap (λ r. r .answer) (example-read (empty 2 3) (kept 2 3 (omega arith) (omega arith)));
+  unrefused = refl;
+  at = 218;
+  nodes-read = refl;
+}
+
+pub example-loads : loadOf example (empty 2 3) .answer ≡ head.header exampleHeader
+example-loads = ap (λ r. r .answer) (passes-load example (empty 2 3) exampleHeader example-passes)
+
+-- its roots, in an empty store, are 3 and -3
+pub example-roots : loadOf example (empty 2 3) .roots ≡ pos 3 ∷ negsuc 2 ∷ replicate 1022 (pos 0)
+unfolding run isBlank isDigit isLineEnd isWhitespace isOf seek trim feedAt lineOf digit number single first wordsFrom words entryStep edgeAt edgeEnd edgeList children alike ascending lastBelow idsFit deeper childFault decodeFrom wordFrom numbered afterExtra variableWord textLine textLineAt minus eqZ empty findUpTo find added insert make edgeFor addLine buildOn build lineBy linesIn linesAnswer blankAll endsWell importOf listFits beforeNodes scratchFault listFault firstFault bytesFrom laid
+example-roots =
+    ap (λ r. r .roots) (passes-load example (empty 2 3) exampleHeader example-passes)
+    ∙ ap (λ r. importOf (setupOf example 2 exampleHeader) (empty 2 3) (example .file) 192 (laid (r .roots) (replicate 1024 (pos 0))) .roots)
+    (example-read (empty 2 3) (kept 2 3 (omega arith) (omega arith)))
+
+-- its lines, and the numbers of its roots
+example-lines : linesIn (setupOf example 2 exampleHeader) (example .file) 192 .lines
+    ≡ terminal ∷ inner 1 (pos 1) (negsuc 0) ∷ inner 0 (pos 2) (negsuc 0) ∷ []
+unfolding run isBlank isDigit isLineEnd isOf seek trim feedAt lineOf digit number single first wordsFrom words entryStep edgeAt edgeEnd edgeList children deeper childFault decodeFrom wordFrom numbered afterExtra variableWord textLine textLineAt minus eqZ lineBy linesIn bytesFrom alike
+example-lines = refl
+
+example-ids : rootsIn (example .file) (tableOf (example .file)) ≡ pos 3 ∷ negsuc 2 ∷ []
+example-ids =
+    sym (answer-roots _ (example .file) exampleHeader (ap (λ r. r .answer) example-header)) ∙ ap (λ r. r .roots) example-header
+
+-- its first root says yes just where both levels are yes
+pub example-says : (a b : Bool) → fileSays example 2 exampleHeader 0 (settings.chosen (a ∷ b ∷ [])) ≡ (a && b)
+unfolding says saysBy turn
+example-says a b = rw (example-lines, example-ids) (go a b)
+  where
+    go : (a b : Bool) → says (0 ∷ 1 ∷ []) (terminal ∷ inner 1 (pos 1) (negsuc 0) ∷ inner 0 (pos 2) (negsuc 0) ∷ []) (settings.chosen (a ∷ b ∷ [])) (pos 3) ≡ (a && b)
+    go true true = refl
+    go true false = refl
+    go false true = refl
+    go false false = refl
+
+-- with a slot less it is refused with 40
+pub example-crowded : loadOf example (empty 2 2) ≡ refusedAt example (empty 2 2) 40 0
+unfolding run isBlank isDigit isLineEnd isWhitespace isOf seek trim feedAt lineOf digit number single first wordsFrom words entryStep edgeAt edgeEnd edgeList children alike ascending lastBelow idsFit deeper childFault decodeFrom wordFrom numbered afterExtra variableWord textLine textLineAt minus eqZ empty findUpTo find added insert make edgeFor addLine buildOn build lineBy linesIn linesAnswer blankAll endsWell importOf listFits beforeNodes scratchFault listFault firstFault bytesFrom loadOf
+example-crowded =
+    load-refused example (empty 2 2) 40 0
+    (ap (λ a. withHeader example (empty 2 2) a .answer)
+    (ap (λ r. r .answer) (example-read (empty 2 2) (kept 2 2 (omega arith) (omega arith)))))
+
+-- the store that the example leaves
+abbrev filled : Store
+filled = nodesOf example (empty 2 3) exampleHeader .after
+
+after-filled : loadOf example (empty 2 3) .after ≡ filled
+after-filled = ap (λ r. r .after) (passes-load example (empty 2 3) exampleHeader example-passes)
+
+filled-kept : keeps limits filled ≡ true
+filled-kept = rules-keeps limits filled (subst (Rules limits) after-filled (roots-answer example (empty 2 3) exampleHeader example-loads .rules))
+
+again-passes : Passes example filled exampleHeader
+unfolding run isBlank isDigit isLineEnd isWhitespace isOf seek trim feedAt lineOf digit number single first wordsFrom words entryStep edgeAt edgeEnd edgeList children alike ascending lastBelow idsFit deeper childFault decodeFrom wordFrom numbered afterExtra variableWord textLine textLineAt minus eqZ empty findUpTo find added insert make edgeFor addLine buildOn build lineBy linesIn linesAnswer blankAll endsWell importOf listFits beforeNodes scratchFault listFault firstFault bytesFrom
+again-passes = record {
+  header-read = ap (λ r. r .answer) (example-read filled filled-kept);
+  unrefused = refl;
+  at = 218;
+  nodes-read = refl;
+}
+
+-- full as it is, it takes the example again
+pub again-loads : loadOf example (loadOf example (empty 2 3) .after) .answer ≡ head.header exampleHeader
+again-loads =
+    ap (λ τ. loadOf example τ .answer) after-filled ∙ ap (λ r. r .answer) (passes-load example filled exampleHeader again-passes)

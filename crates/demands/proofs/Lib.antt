@@ -1,0 +1,12 @@
+pub mod Accepted
+pub mod Demand1
+pub mod Demand2
+pub mod Demand3
+pub mod Evaluating
+pub mod Examples
+pub mod Growing
+pub mod ListExample
+pub mod LoadsBack
+pub mod RootEntries
+pub mod RootsAnswer
+pub mod Starred

@@ -1,0 +1,115 @@
+-- The call load gives back an exported file, text or binary: into its store at its own levels, with no new node, as the same roots.
+use mathlib.Core.Path.{_≡_, refl, sym, ap, _∙_}
+use mathlib.Core.Bool.{true}
+use mathlib.Core.List.{List}
+use Prim.Native.Nat.{ℕ, zero, suc, _≤_}
+use native.Mathlib.Omega.{arith}
+use lib.Dec.{leb}
+use lib.ListN.{length}
+use lib.IntN.{ℤ}
+use borrow.Author.Tests.{leb-true}
+use Rattle.codes.specs.Answer.{value}
+use Rattle.codes.specs.Limits.{rootLimit}
+use Rattle.codes.proofs.Bytes.{both}
+use Rattle.store.specs.Store.{Store}
+use Rattle.store.specs.Rules.{limits, Rules}
+use Rattle.store.specs.Keeps.{rules-keeps}
+use Rattle.header.specs.Header as head
+use Rattle.header.specs.Header.{Header, header, answerOf, atLeast}
+use Rattle.numbering.specs.Support.{supportOf}
+use Rattle.imported.specs.Import.{nodes}
+use Rattle.heading.specs.Tables.{Lent}
+use Rattle.exported.specs.Settings.{Settings}
+use Rattle.exported.specs.Export.{exportFault, headingOf}
+use Rattle.exporter.specs.Promise.{ofExported, Writes, Exports}
+use Rattle.exporter.specs.declared.Exported.{Exported}
+use Rattle.exported.proofs.Accepted.{accepted}
+use Rattle.reading_header.specs.HeaderBack.{headerFor, loadedFrom}
+use Rattle.reading_back.specs.ReadsBack.{ReadsBack, importBy, GivesBack}
+use Rattle.reading_back.proofs.ReadsBack.{accepted-back}
+use Rattle.reading_back.proofs.ImportedAlike.{led-back}
+use Rattle.reading_back.proofs.OutputBack.{written-file}
+use Rattle.calls.specs.Load.{Lengths, Load, rootLists, headerOf, nodesOf, loadOf}
+use Rattle.demands.specs.LoadsBack.{ownLoad, LongEnough, LoadsBack, OutputLoads}
+use Rattle.calls.proofs.HeaderStands.{length-left, lists-answer}
+use Rattle.calls.proofs.Passes.{none-between, Passes, passes-load}
+
+-- lists of roots that are long enough have room for every root that an export takes
+roots-room : (l : Lengths) → atLeast rootLimit (rootLists l) ≡ true → rootLimit ≤ l .roots
+unfolding atLeast
+roots-room l q = leb-true rootLimit (l .roots) (both (leb rootLimit (l .roots)) _ q .0)
+
+module _ {s : Settings} {σ : Store} {roots : List ℤ} {order : List ℕ} {p : Lent} {ns f : List ℕ} {l : Lengths} (R : Rules limits σ)
+    (few : length roots ≤ rootLimit) (long : LongEnough σ l) (b : ReadsBack s σ roots order p ns f (l .roots)) where
+  abbrev c : Load
+  c = ownLoad σ ns f l
+
+  abbrev h : Header
+  h = headerFor (headingOf s σ roots order p ns) (b .header-back .dd)
+
+  -- neither lists nor store are refused: what is read is the file's header by itself
+  header-lists : headerOf c σ ≡ loadedFrom f
+  unfolding headerOf head.loadOf answerOf
+  header-lists = ap (λ n. head.loadOf n f) (length-left c σ (long .variables) (long .roots) (rules-keeps limits σ R))
+
+  header-read : headerOf c σ .answer ≡ header h
+  header-read = ap (λ r. r .answer) header-lists ∙ lists-answer f (answerOf f) ∙ b .header-back .answer
+
+  -- the import of its nodes, as the header leads to it
+  import-given : GivesBack σ roots (l .roots) (importBy f h σ (supportOf σ ns) (l .roots))
+  import-given = led-back b (b .header-back .answer)
+
+  -- and that is the import of the load
+  nodes-read : nodesOf c σ h .answer ≡ nodes (import-given .end)
+  nodes-read = rw header-lists (import-given .accepted)
+
+  passes : Passes c σ h
+  unfolding headingOf
+  passes =
+      let edges : length ns ≤ l .edges = omega (arith, b .few-lines, long .edges) in
+      let seats : length ns ≤ l .seats = omega (arith, b .few-lines, long .seats) in
+      record {
+        header-read = header-read;
+        unrefused = none-between c σ h edges seats (b .levels-fit);
+        at = import-given .end;
+        nodes-read = nodes-read;
+      }
+
+  -- A file that reads back loads back.
+  pub loads-back : LoadsBack s σ roots order p ns f l (loadOf c σ)
+  loads-back =
+      rw (passes-load c σ h passes, header-lists) (record {
+        header-back = b .header-back;
+        accepted = refl;
+        unchanged = import-given .unchanged;
+        roots-fit = omega (arith, few, roots-room l (long .roots));
+        same = import-given .same;
+        ids = refl;
+        order-read = refl;
+        permids = refl;
+        auxids = refl;
+        names = refl;
+        rootnames = refl;
+      })
+
+module _ {s : Settings} {σ : Store} {roots : List ℤ} {order : List ℕ} {p : Lent} (slots numbers lent : ℕ) (r : Exported) {out : List ℕ} {n : ℕ}
+    (is : ofExported r ≡ value n) where
+  -- a file that is written is the front of the output, and loads back
+  pub writes-loads : exportFault σ roots order p slots numbers lent ≡ 0 → Writes s σ roots order p lent r out
+      → OutputLoads s σ roots order p n out
+  writes-loads e w =
+      let A = accepted σ roots order p slots numbers lent e in
+      let file = written-file slots numbers lent r is A w in
+      record {
+        nodes = w .nodes;
+        file = file;
+        loads = λ l long. loads-back (A .rules) (A .roots-few) long (rw file (accepted-back A (w .allowed) s (l .roots)));
+      }
+
+  -- Demand 2, for the call load: where the answer of an export is a length, so many bytes of its output load back.
+  pub exports-loads : Exports (exportFault σ roots order p slots numbers lent) s σ roots order p lent r out → OutputLoads s σ roots order p n out
+  exports-loads w = go (exportFault σ roots order p slots numbers lent) refl w
+    where
+      go : (k : ℕ) → exportFault σ roots order p slots numbers lent ≡ k → Exports k s σ roots order p lent r out → OutputLoads s σ roots order p n out
+      go zero e w = writes-loads e w
+      go (suc k) e w = let a = w .answer in absurd (let z : _≡_ {A = ℕ} 0 1 = cc in omega arith)

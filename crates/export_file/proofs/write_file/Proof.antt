@@ -1,0 +1,232 @@
+-- `write_file` meets its contract: the nodes are numbered, the levels seated, and by these tables the parts of the file are written.
+use mathlib.Core.Path.{_≡_, refl, sym, ap, _∙_}
+use mathlib.Core.List.{List}
+use Prim.Native.Nat.{ℕ, _≤_}
+use native.Mathlib.Omega.{arith}
+use lib.ListN.{length, take, replicate}
+use lib.Seq.{length-take-le}
+use Rattle.codes.specs.Lent.{laid}
+use Rattle.header_values.specs.Kinds.{ofPlace}
+use Rattle.store.specs.Store.{Store, store, slots}
+use Rattle.reached.specs.Reached.{bare}
+use Rattle.numbering.specs.Numbering.{numbering}
+use Rattle.export_nodes.specs.Lines.{linesFor}
+use Rattle.node_writers.specs.Encoded.{nodeBytes}
+use Rattle.export_nodes.specs.Tables.{linesBy}
+use Rattle.export_nodes.proofs.ExportLines.{Filled}
+use Rattle.heading.specs.Heading.{headText}
+use Rattle.heading.specs.Tables.{Lent, lent, headingBy}
+use Rattle.exported.specs.Settings.{Settings, settings}
+use Rattle.exported.specs.Export.{headingOf, fileOf}
+use Rattle.exported.proofs.Accepted.{Accepted, accepted}
+use Rattle.exported.proofs.Bare.{bare-walkable}
+use Rattle.exported.proofs.Prepared.{exported, ordered, rooted, heading-same, nodes-room, nodes-placed, filled, lined, lines-same, seats-count}
+use Rattle.exported.proofs.FileParts.{head-room, body-room, end-room, file-written}
+use Rattle.export_file.proofs.write_file.Statement.{statement}
+use Rattle.export_file.proofs.write_file.Tie as tie
+
+-- the store, the names and the settings of a call
+abbrev σ : tie.Start → Store
+σ s =
+    store (s .args .levels) (s .args .count) (s .args .level .now) (s .args .then .now) (s .args .els .now) (s .args .next .now) (s .args .heads .now)
+
+abbrev names : tie.Start → Lent
+names s =
+    lent (s .args .bytes .now) (s .args .starts .now) (s .args .lens .now) (s .args .rootstarts .now) (s .args .rootlens .now) (ofPlace (s .args .dd))
+
+abbrev chosen : tie.Start → Settings
+chosen s = settings (s .args .version) (s .args .ascii) (ofPlace (s .args .dd))
+
+-- the nodes of its lines, and the file
+abbrev ns : tie.Start → List ℕ
+ns s = numbering (bare (σ s)) (s .args .roots .now)
+
+abbrev file : tie.Start → List ℕ
+file s = fileOf (chosen s) (σ s) (s .args .roots .now) (s .args .order .now) (names s) (ns s)
+
+-- nothing is refused of it
+taken : (s : tie.Start)
+    → Accepted (σ s) (s .args .roots .now) (s .args .order .now) (names s) (length (s .args .slots .now)) (length (s .args .numbers .now))
+    (length (s .args .out .now))
+taken s = accepted _ _ _ _ _ _ _ (s .pre .taken)
+
+-- the way back, from after a call to after the one before it, and to the start
+abbrev start : tie.After-number-nodes → tie.Start
+start d = d .before .before .before .before .before .before .before .before .before .before .before .before .before .before .before .before
+
+abbrev numbered : tie.After-seat-levels → tie.After-number-nodes
+numbered d = d .before .before .before .before .before .before .before
+
+abbrev seated : tie.After-write-header → tie.After-seat-levels
+seated d = d .before .before .before .before .before
+
+abbrev headed : tie.After-write-nodes → tie.After-write-header
+headed d = d .before .before .before .before .before .before .before
+
+abbrev bodied : tie.After-put-bytes → tie.After-write-nodes
+bodied d = d .before .before .before .before .before
+
+abbrev origin : tie.After-seat-levels → tie.Start
+origin d = start (numbered d)
+
+-- the lists of nodes and of numbers, once the nodes are numbered, and of seats, once the levels are seated
+abbrev nodes : tie.After-number-nodes → List ℕ
+nodes d = d .number-nodes .last .1 .1 .1 .1 .1 .1 .0
+
+abbrev numbers : tie.After-number-nodes → List ℕ
+numbers d = d .number-nodes .last .1 .1 .1 .1 .1 .1 .1 .0
+
+abbrev seats : tie.After-seat-levels → List ℕ
+seats d = d .seat-levels .last .1 .1 .1 .0
+
+front : (d : tie.After-number-nodes) → d .number-nodes .result ≤ length (nodes d)
+front d = nodes-room (taken (start d)) (d .number-nodes .ensures .0) (d .number-nodes .ensures .1 .0)
+
+tables : (d : tie.After-seat-levels) → Filled (σ (origin d)) (ns (origin d)) (numbers (numbered d)) (seats d)
+tables d =
+    filled (taken (origin d)) (numbered d .number-nodes .ensures .0) (numbered d .number-nodes .ensures .1 .0)
+    (numbered d .number-nodes .ensures .1 .1) (numbered d .number-nodes .kept .1 .1 .1 .1 .1 .1 .1 .0) (d .seat-levels .ensures .1)
+    (omega (arith, d .seat-levels .kept .1 .1 .1 .0))
+
+-- by them the header and the lines are those of the nodes
+header-is : (d : tie.After-seat-levels)
+    → headText
+    (headingBy (origin d .args .version) (origin d .args .ascii) (names (origin d)) (numbered d .number-nodes .result) (origin d .args .order .now)
+    (seats d) (origin d .args .roots .now) (numbers (numbered d)))
+    ≡ headText
+    (headingOf (chosen (origin d)) (σ (origin d)) (origin d .args .roots .now) (origin d .args .order .now) (names (origin d)) (ns (origin d)))
+header-is d = ap headText (heading-same (taken (origin d)) (tables d) _ _ (numbered d .number-nodes .ensures .0))
+
+lines-are : (d : tie.After-seat-levels)
+    → nodeBytes (origin d .args .ascii)
+    (linesBy (slots (origin d .args .level .now) (origin d .args .then .now) (origin d .args .els .now)) (numbers (numbered d)) (seats d)
+    (take (numbered d .number-nodes .result) (nodes (numbered d))))
+    ≡ nodeBytes (origin d .args .ascii) (linesFor (σ (origin d)) (ns (origin d)))
+lines-are d =
+    ap (nodeBytes (origin d .args .ascii))
+    (lines-same (taken (origin d)) (numbered d .number-nodes .ensures .0) (numbered d .number-nodes .ensures .1 .0) (numbers (numbered d)) (seats d)
+    (tables d))
+
+-- the output is as long as it was, once the lines are written
+out-kept : (w : tie.After-write-nodes) → length (w .write-nodes .last .1 .1 .1 .1 .1 .1 .1 .0) ≡ length (origin (seated (headed w)) .args .out .now)
+out-kept w = w .write-nodes .kept .1 .1 .1 .1 .1 .1 .1 .0 ∙ headed w .write-header .kept .1 .1 .0
+
+-- and once the end is written, too, it holds the file
+file-is : (e : tie.After-put-bytes)
+    → (e .put-bytes .result ≡ length (file (origin (seated (headed (bodied e))))))
+    × (e .put-bytes .last .0 ≡ laid (file (origin (seated (headed (bodied e))))) (replicate (length (origin (seated (headed (bodied e))) .args .out .now)) 0))
+file-is e =
+    file-written (chosen (origin (seated (headed (bodied e))))) (taken (origin (seated (headed (bodied e)))))
+    (exported (taken (origin (seated (headed (bodied e))))))
+    (header-is (seated (headed (bodied e)))) (lines-are (seated (headed (bodied e)))) (headed (bodied e) .write-header .ensures)
+    (bodied e .write-nodes .ensures) (e .put-bytes .ensures) (origin (seated (headed (bodied e))) .pre .out-clear)
+
+number-nodes-requires : tie.Need-number-nodes-requires
+number-nodes-requires c κs = (
+  bare-walkable (taken (c .before .before .before .before .before .before .before .before .before .before .before .before .before .before .before)),
+  (
+    c .before .before .before .before .before .before .before .before .before .before .before .before .before .before .before .pre .slots-clear,
+    c .before .before .before .before .before .before .before .before .before .before .before .before .before .before .before .pre .numbers-clear,
+  ),
+)
+
+slice-reshare-prefix-seat-levels : tie.Need-slice-reshare-prefix-seat-levels
+slice-reshare-prefix-seat-levels c = front (c .before .before .before .before)
+
+slice-aggregate-seat-levels : tie.Need-slice-aggregate-seat-levels
+slice-aggregate-seat-levels c = sym (length-take-le _ _ (front (c .before .before .before .before .before)))
+
+slice-aggregate-seat-levels-2 : tie.Need-slice-aggregate-seat-levels-2
+slice-aggregate-seat-levels-2 c = refl
+
+seat-levels-requires : tie.Need-seat-levels-requires
+seat-levels-requires c κs = (
+  (
+    nodes-placed (taken (start (c .before .before .before .before .before .before)))
+        (c .before .before .before .before .before .before .number-nodes .ensures .0)
+        (c .before .before .before .before .before .before .number-nodes .ensures .1 .0),
+    taken (start (c .before .before .before .before .before .before)) .rules .sizes .levels-limit,
+  ),
+  refl,
+)
+
+slice-aggregate-write-header : tie.Need-slice-aggregate-write-header
+slice-aggregate-write-header c = sym (c .before .before .before .seat-levels .kept .1 .1 .1 .0)
+
+write-header-requires : tie.Need-write-header-requires
+write-header-requires c κs =
+    let d = c .before .before .before .before in (
+      (
+        ordered (taken (origin d)) (origin d .args .vars .now) (seats d) (origin d .pre .vars-long) (origin d .pre .seats) (tables d .seats-long),
+        rooted (taken (origin d)) (tables d),
+      ),
+      (
+        taken (origin d) .names,
+        (
+          seats-count (taken (origin d)) (numbered d .number-nodes .ensures .0) (numbered d .number-nodes .ensures .1 .0) (tables d) (d .seat-levels .ensures .0),
+          head-room (chosen (origin d)) (taken (origin d)) (exported (taken (origin d))) (header-is d),
+        ),
+      ),
+    )
+
+slice-reshare-prefix-write-nodes : tie.Need-slice-reshare-prefix-write-nodes
+slice-reshare-prefix-write-nodes c = front (numbered (seated (c .before .before)))
+
+slice-aggregate-write-nodes : tie.Need-slice-aggregate-write-nodes
+slice-aggregate-write-nodes c = sym (length-take-le _ _ (front (numbered (seated (c .before .before .before)))))
+
+slice-aggregate-write-nodes-2 : tie.Need-slice-aggregate-write-nodes-2
+slice-aggregate-write-nodes-2 c = sym (seated (c .before .before .before .before .before) .seat-levels .kept .1 .1 .1 .0)
+
+write-nodes-requires : tie.Need-write-nodes-requires
+write-nodes-requires c κs =
+    let h = c .before .before .before .before .before .before in
+    let d = seated h in (
+      lined (taken (origin d)) (numbered d .number-nodes .ensures .0) (numbered d .number-nodes .ensures .1 .0) (tables d),
+      body-room (chosen (origin d)) (taken (origin d)) (exported (taken (origin d))) (header-is d) (lines-are d) (h .write-header .ensures .0)
+          (h .write-header .kept .1 .1 .0),
+    )
+
+slice-aggregate-put-bytes : tie.Need-slice-aggregate-put-bytes
+slice-aggregate-put-bytes c = refl
+
+put-bytes-requires : tie.Need-put-bytes-requires
+put-bytes-requires c κs =
+    let w = c .before .before .before .before in
+    let d = seated (headed w) in
+    end-room (chosen (origin d)) (taken (origin d)) (exported (taken (origin d))) (header-is d) (lines-are d) (headed w .write-header .ensures .0)
+    (w .write-nodes .ensures .0) (out-kept w)
+
+same-length : tie.Need-same-length
+same-length c = numbered (seated (headed (c .before .before .before .before .before .before .before))) .number-nodes .kept .1 .1 .1 .1 .1 .1 .0
+
+same-length-2 : tie.Need-same-length-2
+same-length-2 c = numbered (seated (headed (c .before .before .before .before .before .before .before))) .number-nodes .kept .1 .1 .1 .1 .1 .1 .1 .0
+
+same-length-3 : tie.Need-same-length-3
+same-length-3 c = c .before .before .put-bytes .kept .0 ∙ out-kept (c .before .before .before .before .before .before .before)
+
+returns : tie.Need-returns
+returns c = let p = file-is (c .before .before) in record { answer = p .0; out-left = p .1 }
+
+pub write-file-spec : {M : Type 1} → statement M
+write-file-spec =
+    tie.close
+    (tie.spec
+    number-nodes-requires
+    slice-reshare-prefix-seat-levels
+    slice-aggregate-seat-levels
+    slice-aggregate-seat-levels-2
+    seat-levels-requires
+    slice-aggregate-write-header
+    write-header-requires
+    slice-reshare-prefix-write-nodes
+    slice-aggregate-write-nodes
+    slice-aggregate-write-nodes-2
+    write-nodes-requires
+    slice-aggregate-put-bytes
+    put-bytes-requires
+    same-length
+    same-length-2
+    same-length-3
+    returns)

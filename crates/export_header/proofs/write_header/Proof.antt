@@ -1,0 +1,88 @@
+-- `write_header` meets its contract: the groups of lines one after another.
+use mathlib.Core.Path.{sym}
+use mathlib.Core.List.{List}
+use Prim.Native.Nat.{ℕ}
+use lib.ListN.{drop}
+use borrow.Author.Needs.{needs}
+use Rattle.read_text.specs.Text.{place}
+use Rattle.writers.specs.Words.{spaced}
+use Rattle.heading.specs.Heading.{Heading, headText}
+use Rattle.heading.specs.Tables.{lent, headingBy}
+use Rattle.heading.proofs.Writing.{Writing, writing-start, writing-room, writing-more, writing-end}
+use Rattle.heading.proofs.Parts.{headParts, head-parts}
+use Rattle.export_header.proofs.write_header.Statement.{statement}
+use Rattle.export_header.proofs.write_header.Tie as tie
+
+abbrev heading : tie.Start → Heading
+heading s =
+    headingBy (s .args .version) (s .args .ascii)
+    (lent (s .args .bytes .now) (s .args .starts .now) (s .args .lens .now) (s .args .rootstarts .now) (s .args .rootlens .now) (place (s .args .ddstart) (s .args .ddlen)))
+    (s .args .nnodes) (s .args .order .now) (s .args .seats .now) (s .args .roots .now) (s .args .numbers .now)
+
+abbrev parts : tie.Start → List (List ℕ)
+parts s = headParts (heading s) (s .args .nsuppvars)
+
+-- all but the first k parts are left
+abbrev Left : tie.Start → List ℕ → ℕ → ℕ → Type 0
+Left s out next k = Writing (s .args .out .now) (s .args .at) (headText (heading s)) out next (drop k (parts s))
+
+left-0 : (s : tie.Start) → Left s (s .args .out .now) (s .args .at) 0
+left-0 s = writing-start (s .args .out .now) (s .args .at) (head-parts (heading s) (sym (s .pre .1 .1 .0))) (s .pre .1 .1 .1)
+
+left-1 : (c : tie.After-write-intro) → Left (c .before .before .before .before .before .before .before .before .before .before .before .before) (c .write-intro .last .1 .1 .0) (c .write-intro .result) 1
+left-1 c = writing-more (left-0 (c .before .before .before .before .before .before .before .before .before .before .before .before)) (c .write-intro .ensures)
+
+left-2 : (c : tie.After-write-counts) → Left (c .before .before .before .before .before .before .before .before .before .before .before .before .before .before .before .before) (c .write-counts .last .0) (c .write-counts .result) 2
+left-2 c = writing-more (left-1 (c .before .before .before .before)) (c .write-counts .ensures)
+
+left-3 : (c : tie.After-write-names) → Left (c .before .before .before .before .before .before .before .before .before .before .before .before .before .before .before .before .before .before .before .before) (c .write-names .last .1 .0) (c .write-names .result) 3
+left-3 c = writing-more (left-2 (c .before .before .before .before)) (c .write-names .ensures)
+
+left-4 : (c : tie.After-write-ids) → Left (c .before .before .before .before .before .before .before .before .before .before .before .before .before .before .before .before .before .before .before .before .before .before .before .before) (c .write-ids .last .0) (c .write-ids .result) 4
+left-4 c = writing-more (left-3 (c .before .before .before .before)) (c .write-ids .ensures)
+
+left-5 : (c : tie.After-write-roots) → Left (c .before .before .before .before .before .before .before .before .before .before .before .before .before .before .before .before .before .before .before .before .before .before .before .before .before .before .before .before) (c .write-roots .last .0) (c .write-roots .result) 5
+left-5 c = writing-more (left-4 (c .before .before .before .before)) (c .write-roots .ensures)
+
+write-intro-requires : tie.Need-write-intro-requires
+write-intro-requires c κs = (c .before .before .before .before .before .before .before .before .before .before .before .pre .1 .0 .diagram, writing-room (left-0 (c .before .before .before .before .before .before .before .before .before .before .before)))
+
+write-counts-requires : tie.Need-write-counts-requires
+write-counts-requires c κs = writing-room (left-1 (c .before .before .before))
+
+write-names-requires : tie.Need-write-names-requires
+write-names-requires c κs = let s = c .before .before .before .before .before .before .before .before .before .before .before .before .before .before .before .before .before .before .before in ((s .pre .1 .0 .names, s .pre .0 .0), writing-room (left-2 (c .before .before .before)))
+
+write-ids-requires : tie.Need-write-ids-requires
+write-ids-requires c κs = (c .before .before .before .before .before .before .before .before .before .before .before .before .before .before .before .before .before .before .before .before .before .before .before .pre .0 .0, writing-room (left-3 (c .before .before .before)))
+
+write-roots-requires : tie.Need-write-roots-requires
+write-roots-requires c κs = let s = c .before .before .before .before .before .before .before .before .before .before .before .before .before .before .before .before .before .before .before .before .before .before .before .before .before .before .before in ((s .pre .0 .1, s .pre .1 .0 .rootnames), writing-room (left-4 (c .before .before .before)))
+
+slice-aggregate-put-bytes : tie.Need-slice-aggregate-put-bytes
+slice-aggregate-put-bytes c = search needs
+
+put-bytes-requires : tie.Need-put-bytes-requires
+unfolding spaced
+put-bytes-requires c κs = writing-room (left-5 (c .before .before .before .before))
+
+same-length : tie.Need-same-length
+same-length c = search needs
+
+returns : tie.Need-returns
+unfolding spaced
+returns c = writing-end (writing-more (left-5 (c .before .before .before .before .before .before .before)) (c .before .before .put-bytes .ensures))
+
+pub write-header-spec : {M : Type 1} → statement M
+write-header-spec =
+    tie.close
+    (tie.spec
+    write-intro-requires
+    write-counts-requires
+    write-names-requires
+    write-ids-requires
+    write-roots-requires
+    slice-aggregate-put-bytes
+    put-bytes-requires
+    same-length
+    returns)

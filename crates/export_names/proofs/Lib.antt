@@ -1,0 +1,4 @@
+pub mod FitLists
+pub mod FitNames
+pub mod NameLists
+pub mod NameReading

@@ -1,0 +1,2 @@
+pub mod LevelSeats
+pub mod SupportLevels

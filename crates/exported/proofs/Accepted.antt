@@ -1,0 +1,93 @@
+-- What an export that is not refused has shown of its parts.
+use mathlib.Core.Path.{_≡_, refl}
+use mathlib.Core.Bool.{Bool, true, false, cond, _&&_}
+use mathlib.Core.List.{List, [], _∷_}
+use Prim.Native.Nat.{ℕ, zero, suc, _≤_, _<_}
+use native.Mathlib.Omega.{arith}
+use lib.Dec.{leb, eqb}
+use lib.ListN.{length, getD}
+use lib.IntN.{ℤ, pos, natAbs}
+use borrow.Author.Tests.{leb-true, eqb-true}
+use Rattle.codes.specs.Limits.{rootLimit}
+use Rattle.codes.proofs.Bytes.{both}
+use Rattle.store.specs.Store.{Store}
+use Rattle.store.specs.Rules.{limits, Rules}
+use Rattle.store.specs.Keeps.{keeps, keeps-true}
+use Rattle.store.specs.Growth.{EdgeOf}
+use Rattle.support.specs.Support.{permidsFit}
+use Rattle.variable_order.specs.Order.{isOrder}
+use Rattle.export_names.specs.Names.{fitPlace, listFits}
+use Rattle.export_size.specs.Size.{exportSize}
+use Rattle.heading.specs.Tables.{Lent, NamesFit}
+use Rattle.exported.specs.Export.{allRoots, rootsFit, enough, namesFit, exportFault}
+
+pub record Accepted (σ : Store) (roots : List ℤ) (order : List ℕ) (p : Lent) (slots numbers out : ℕ) : Type 0 where
+  pub slots-long : σ .count ≤ slots
+  pub numbers-long : σ .count ≤ numbers
+  pub out-long : exportSize (σ .count) (σ .levels) (length roots) (p .lens) (p .rootlens) (p .dd .len) ≤ out
+  pub rules : Rules limits σ
+  pub roots-few : length roots ≤ rootLimit
+  pub roots-there : (i : ℕ) → i < length roots → EdgeOf σ (getD roots i (pos 0))
+  pub order-long : length order ≡ σ .levels
+  pub is-order : isOrder (length order) order ≡ true
+  pub names : NamesFit p (length order) (length roots)
+
+-- three tests in a row that hold
+all-three : (a b c : Bool) → (a && b && c) ≡ true → (a ≡ true) × (b ≡ true) × (c ≡ true)
+all-three a b c h = let p = both (a && b) c h in let q = both a b (p .0) in (q .0, q .1, p .1)
+
+-- each of fit roots is an edge of the store
+roots-edges : (σ : Store) (roots : List ℤ) → allRoots (σ .count) roots ≡ true → (i : ℕ) → i < length roots → EdgeOf σ (getD roots i (pos 0))
+unfolding allRoots
+roots-edges σ [] h i k = absurd (omega arith)
+roots-edges σ (r ∷ rs) h zero k =
+    let t = both (leb 1 (natAbs r)) (leb (natAbs r) (σ .count)) (both (leb 1 (natAbs r) && leb (natAbs r) (σ .count)) (allRoots (σ .count) rs) h .0) in
+    record { some = leb-true 1 (natAbs r) (t .0); there = leb-true (natAbs r) (σ .count) (t .1) }
+roots-edges σ (r ∷ rs) h (suc i) k =
+    roots-edges σ rs (both (leb 1 (natAbs r) && leb (natAbs r) (σ .count)) (allRoots (σ .count) rs) h .1) i (omega arith)
+
+-- an order has an entry for each level
+order-length : (levels : ℕ) (order : List ℕ) → isOrder levels order ≡ true → length order ≡ levels
+unfolding isOrder
+order-length levels order h = eqb-true (length order) levels (both (eqb (length order) levels) (permidsFit levels order) h .0)
+
+module _ (σ : Store) (roots : List ℤ) (order : List ℕ) (p : Lent) (slots numbers out : ℕ) where
+  passed : enough σ roots p slots numbers out ≡ true → keeps limits σ ≡ true → rootsFit (σ .count) roots ≡ true → isOrder (σ .levels) order ≡ true
+      → namesFit σ roots p ≡ true → Accepted σ roots order p slots numbers out
+  unfolding enough rootsFit namesFit
+  passed a b c d e =
+      let size = exportSize (σ .count) (σ .levels) (length roots) (p .lens) (p .rootlens) (p .dd .len) in
+      let x = all-three (leb (σ .count) slots) (leb (σ .count) numbers) (leb size out) a in
+      let y = both (leb (length roots) rootLimit) (allRoots (σ .count) roots) c in
+      let z = order-length (σ .levels) order d in
+      let n =
+      all-three (listFits (σ .levels) (p .bytes) (p .starts) (p .lens)) (listFits (length roots) (p .bytes) (p .rootstarts) (p .rootlens))
+      (fitPlace true (p .bytes) (p .dd)) e
+      in
+      record {
+        slots-long = leb-true (σ .count) slots (x .0);
+        numbers-long = leb-true (σ .count) numbers (x .1);
+        out-long = leb-true size out (x .2);
+        rules = keeps-true limits σ b;
+        roots-few = leb-true (length roots) rootLimit (y .0);
+        roots-there = roots-edges σ roots (y .1);
+        order-long = z;
+        is-order = rw z d;
+        names = record { names = rw z (n .0); rootnames = n .1; diagram = n .2 };
+      }
+
+  pub accepted : exportFault σ roots order p slots numbers out ≡ 0 → Accepted σ roots order p slots numbers out
+  unfolding exportFault
+  accepted =
+      go (enough σ roots p slots numbers out) (keeps limits σ) (rootsFit (σ .count) roots) (isOrder (σ .levels) order) (namesFit σ roots p)
+      refl refl refl refl refl
+    where
+      go : (a b c d e : Bool) → enough σ roots p slots numbers out ≡ a → keeps limits σ ≡ b → rootsFit (σ .count) roots ≡ c
+          → isOrder (σ .levels) order ≡ d → namesFit σ roots p ≡ e → _≡_ {A = ℕ} (cond a (cond b (cond c (cond d (cond e 0 5) 6) 4) 3) 1) 0
+          → Accepted σ roots order p slots numbers out
+      go true true true true true ea eb ec ed ee h = passed ea eb ec ed ee
+      go true true true true false ea eb ec ed ee h = absurd (omega arith)
+      go true true true false e ea eb ec ed ee h = absurd (omega arith)
+      go true true false d e ea eb ec ed ee h = absurd (omega arith)
+      go true false c d e ea eb ec ed ee h = absurd (omega arith)
+      go false b c d e ea eb ec ed ee h = absurd (omega arith)

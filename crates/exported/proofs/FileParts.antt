@@ -1,0 +1,103 @@
+-- The file of an accepted export: it is no longer than the export size, so that there is room for each of its parts.
+use mathlib.Core.Path.{_≡_, ap, _∙_}
+use mathlib.Core.Bool.{true}
+use mathlib.Core.Logic.{⊎-elim}
+use mathlib.Core.List.{List, _++_}
+use Prim.Native.Nat.{ℕ, _+_, _≤_}
+use native.Mathlib.Omega.{arith}
+use lib.ListN.{length, getD, replicate, length-append, length-map}
+use lib.IntN.{ℤ, pos, natAbs}
+use Rattle.codes.specs.Lent.{laid}
+use Rattle.store.specs.Store.{Store}
+use Rattle.seats.proofs.Seating.{seat-most}
+use Rattle.export_size.specs.Size.{exportSize}
+use Rattle.export_names.proofs.FitLists.{place-length, list-count, list-sum}
+use Rattle.writers.proofs.Sets.{Wrote, wrote-then, sets-laid}
+use Rattle.export_nodes.specs.Exported.{Exported}
+use Rattle.export_nodes.specs.Lines.{renumbered, linesFor}
+use Rattle.node_writers.specs.Encoded.{nodeBytes, endText}
+use Rattle.export_nodes.proofs.TableLines.{map-at}
+use Rattle.export_nodes.proofs.Renumbered.{renumbered-abs, lines-few}
+use Rattle.export_nodes.proofs.Support.{support-few}
+use Rattle.export_nodes.proofs.ExportLines.{lines-short}
+use Rattle.heading.specs.Heading.{headText}
+use Rattle.heading.specs.Small.{Small}
+use Rattle.heading.specs.Tables.{Lent}
+use Rattle.heading.proofs.Short.{head-short}
+use Rattle.exported.specs.Settings.{Settings}
+use Rattle.exported.specs.Export.{headingOf, fileOf}
+use Rattle.exported.proofs.Accepted.{Accepted}
+
+module _ (s : Settings) {σ : Store} {roots : List ℤ} {order : List ℕ} {p : Lent} {slots numbers out : ℕ}
+    (A : Accepted σ roots order p slots numbers out) {ns : List ℕ} (E : Exported σ roots ns) where
+  -- the lengths of the parts
+  file-length : length (fileOf s σ roots order p ns)
+      ≡ length (headText (headingOf s σ roots order p ns)) + (length (nodeBytes (s .ascii) (linesFor σ ns)) + 5)
+  unfolding fileOf
+  file-length =
+      let h = headText (headingOf s σ roots order p ns) in
+      let b = nodeBytes (s .ascii) (linesFor σ ns) in
+      length-append h (b ++ endText) ∙ ap (λ n. length h + n) (length-append b endText)
+
+  -- the header is within the limits
+  heading-small : Small (headingOf s σ roots order p ns)
+  unfolding headingOf
+  heading-small =
+      let few = lines-few E in
+      let limit = A .rules .sizes .count-limit in
+      let many = length-map roots (renumbered ns) in
+      record {
+        order = A .is-order;
+        few-variables = omega (arith, A .order-long, A .rules .sizes .levels-limit);
+        few-support = omega (arith, A .order-long, support-few σ ns);
+        few-nodes = omega arith;
+        few-roots = omega (arith, A .roots-few);
+        root-low = λ i h.
+            let r = getD roots i (pos 0) in
+            rw (map-at (renumbered ns) roots i (pos 0) (pos 0) (rw many at h)) (omega (arith, renumbered-abs ns r, seat-most (natAbs r) ns));
+        few-rootnames =
+            ⊎-elim (λ e. omega arith) (λ e. omega arith) (list-count (length roots) (p .bytes) (p .rootstarts) (p .rootlens) (A .names .rootnames));
+      }
+
+  -- document 01, 'Limits': the export size
+  pub file-short : length (fileOf s σ roots order p ns) ≤ exportSize (σ .count) (σ .levels) (length roots) (p .lens) (p .rootlens) (p .dd .len)
+  unfolding exportSize headingOf
+  file-short =
+      omega (
+        arith,
+        file-length,
+        head-short (headingOf s σ roots order p ns) heading-small,
+        lines-short E (s .ascii),
+        lines-few E,
+        A .order-long,
+        length-map roots (renumbered ns),
+        list-sum (length order) (p .bytes) (p .starts) (p .lens) (A .names .names),
+        list-sum (length roots) (p .bytes) (p .rootstarts) (p .rootlens) (A .names .rootnames),
+        place-length true (p .bytes) (p .dd .start) (p .dd .len) (A .names .diagram),
+      )
+
+  -- the parts as they are written: there is room for the header h ..
+  module _ {h : List ℕ} (hq : h ≡ headText (headingOf s σ roots order p ns)) where
+    pub head-room : 0 + length h ≤ out
+    head-room = rw hq (omega (arith, file-length, file-short, A .out-long))
+
+    -- .. for the node lines b after it ..
+    module _ {b : List ℕ} (bq : b ≡ nodeBytes (s .ascii) (linesFor σ ns)) where
+      all-fit : length h + (length b + 5) ≤ out
+      all-fit = rw (hq, bq) (omega (arith, file-length, file-short, A .out-long))
+
+      pub body-room : {at long : ℕ} → at ≡ 0 + length h → long ≡ out → at + length b ≤ long
+      body-room e k = omega (arith, all-fit)
+
+      -- .. and for the end after them
+      pub end-room : {at next long : ℕ} → at ≡ 0 + length h → next ≡ at + length b → long ≡ out → next + 5 ≤ long
+      end-room e f k = omega (arith, all-fit)
+
+      -- written one after another they are the file
+      pub file-written : {l m n o : List ℕ} {at next end : ℕ} → Wrote l 0 h at m → Wrote m at b next n → Wrote n next endText end o
+          → l ≡ replicate out 0
+          → (end ≡ length (fileOf s σ roots order p ns)) × (o ≡ laid (fileOf s σ roots order p ns) (replicate out 0))
+      unfolding fileOf
+      file-written {l} u v w z =
+          let f = wrote-then l 0 h (b ++ endText) u (wrote-then _ _ b endText v w) in
+          rw (← hq, ← bq, ← z) (omega (arith, f .0), f .1 ∙ sets-laid l (h ++ (b ++ endText)))

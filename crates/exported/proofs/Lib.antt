@@ -1,0 +1,5 @@
+pub mod Accepted
+pub mod Bare
+pub mod FileParts
+pub mod Prepared
+pub mod Started

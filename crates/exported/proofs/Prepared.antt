@@ -1,0 +1,135 @@
+-- The lines of an accepted export and the tables that it fills: each part of the file can be written by them.
+use mathlib.Core.Path.{_≡_, refl, _∙_}
+use mathlib.Core.Bool.{Bool}
+use mathlib.Core.List.{List, [], _∷_, map}
+use Prim.Native.Nat.{ℕ, suc, _≤_, _<_}
+use native.Mathlib.Omega.{arith}
+use lib.ListN.{length, getD, take, replicate, length-replicate}
+use lib.IntN.{ℤ, pos, natAbs}
+use Rattle.codes.specs.Limits.{varLimit}
+use Rattle.codes.specs.Lent.{laid}
+use Rattle.codes.specs.declared.DDDMPVersion.{DDDMPVersion}
+use Rattle.codes.proofs.Lent.{length-laid}
+use Rattle.store.specs.Store.{Store, slots}
+use Rattle.store.specs.Growth.{EdgeOf}
+use Rattle.seats.specs.Seats.{Seats}
+use Rattle.seats.proofs.Seating.{seat-most}
+use Rattle.reached.specs.Reached.{bare}
+use Rattle.numbering.specs.Numbering.{numbering, Numbers}
+use Rattle.numbering.specs.Support.{supportOf, Placed}
+use Rattle.reached.proofs.Laid.{take-laid}
+use Rattle.export_support.proofs.SupportLevels.{support-fits}
+use Rattle.numbering.proofs.Allowed.{numbering-allowed}
+use Rattle.export_nodes.specs.Exported.{Exported}
+use Rattle.export_nodes.specs.Lines.{renumbered, linesFor}
+use Rattle.export_nodes.specs.Tables.{numberOf, linesBy, Lined}
+use Rattle.export_nodes.proofs.Renumbered.{entry-node, lines-few}
+use Rattle.export_nodes.proofs.FilledTables.{number-seat, number-line}
+use Rattle.export_nodes.proofs.ExportLines.{Filled, allowed-lined, allowed-lines}
+use Rattle.heading.specs.Tables.{Lent, seated, headingBy, Ordered, Rooted}
+use Rattle.heading.proofs.Support.{seated-support}
+use Rattle.exported.specs.Settings.{settings}
+use Rattle.exported.specs.Export.{headingOf}
+use Rattle.exported.proofs.Accepted.{Accepted}
+use Rattle.exported.proofs.Bare.{bare-walkable, bare-allowed}
+
+module _ {σ : Store} {roots : List ℤ} {order : List ℕ} {p : Lent} {room marks out : ℕ} (A : Accepted σ roots order p room marks out) where
+  abbrev ns : List ℕ
+  ns = numbering (bare σ) roots
+
+  -- the numbering is one that document 01 allows
+  pub exported : Exported σ roots ns
+  exported = record {
+    rules = A .rules;
+    roots-there = A .roots-there;
+    allowed = bare-allowed σ roots ns (numbering-allowed (bare σ) roots room marks (bare-walkable A));
+  }
+
+  -- what the lines of variables lean on
+  pub ordered : (vars seats : List ℕ) → length order ≤ length vars → Seats order vars → varLimit ≤ length seats → Ordered order vars seats
+  ordered vars seats long S more =
+      let few = A .rules .sizes .levels-limit in
+      record {
+        is-order = A .is-order;
+        few = omega (arith, A .order-long);
+        vars-long = long;
+        vars-there = S;
+        seats-long = omega (arith, A .order-long);
+      }
+
+  -- tables that hold the number of each node and the seat of each level
+  module _ {numbers seats : List ℕ} (F : Filled σ ns numbers seats) where
+    root-there : (i : ℕ) → i < length roots → natAbs (getD roots i (pos 0)) ≤ length numbers
+    root-there i h = omega (arith, A .roots-there i h .there, F .numbers-long)
+
+    -- the roots can be written by them
+    pub rooted : Rooted roots numbers
+    rooted = record {
+      few = A .roots-few;
+      numbered = λ i h.
+          let some = A .roots-there i h .some in
+          let m = natAbs (getD roots i (pos 0)) in
+          record {
+            some = some;
+            there = root-there i h;
+            small =
+                let most = lines-few exported in
+                omega (arith, number-seat ns numbers m (F .numbered) some (root-there i h), seat-most m ns, A .rules .sizes .count-limit);
+          };
+    }
+
+    roots-same : (rs : List ℤ) → ((i : ℕ) → i < length rs → EdgeOf σ (getD rs i (pos 0))) → map (numberOf numbers) rs ≡ map (renumbered ns) rs
+    roots-same [] h = refl
+    roots-same (r ∷ rs) h =
+        let E = h 0 (omega arith) in
+        rw (number-line ns numbers r (F .numbered) (E .some) (omega (arith, E .there, F .numbers-long)), roots-same rs (λ i k. h (suc i) (omega arith)))
+
+    -- the levels that have a seat are the support
+    seated-same : seated seats ≡ supportOf σ ns
+    seated-same =
+        seated-support (σ .levels) (supportOf σ ns) seats (F .seated) (support-fits σ ns) (omega (arith, A .rules .sizes .levels-limit, F .seats-long))
+
+    -- the header by them is that of the nodes
+    pub heading-same : (version : DDDMPVersion) (ascii : Bool) {n : ℕ} → n ≡ length ns
+        → headingBy version ascii p n order seats roots numbers ≡ headingOf (settings version ascii (p .dd)) σ roots order p ns
+    unfolding headingOf
+    heading-same version ascii e = rw (e, seated-same, roots-same roots (A .roots-there))
+
+  -- the list that holds the nodes of the n lines, as numbering leaves it
+  module _ {n : ℕ} {nodes : List ℕ} (e : n ≡ length ns) (l : nodes ≡ laid ns (replicate room 0)) where
+    nodes-long : length nodes ≡ room
+    nodes-long = rw l (length-laid ns (replicate room 0) ∙ length-replicate room 0)
+
+    -- they are its front
+    pub nodes-room : n ≤ length nodes
+    nodes-room = omega (arith, lines-few exported, A .slots-long, nodes-long)
+
+    nodes-front : take n nodes ≡ ns
+    nodes-front = rw (e, l) (take-laid ns (replicate room 0) (omega (arith, lines-few exported, A .slots-long, length-replicate {A = ℕ} room 0)))
+
+    -- each has its place
+    pub nodes-placed : Placed (σ .levels) (σ .level) (take n nodes)
+    nodes-placed = rw nodes-front (λ i h.
+        let N = entry-node exported i h in
+        record {
+          some = N .some;
+          there = omega (arith, N .there, A .rules .sizes .count-slots);
+          low = λ k. A .rules .nodes .fits (getD ns i 0) k (N .there) .level-low;
+        })
+
+    -- the tables are filled
+    pub filled : {numbers seats : List ℕ} → Numbers ns numbers → length numbers ≡ marks → Seats (supportOf σ (take n nodes)) seats
+        → varLimit ≤ length seats → Filled σ ns numbers seats
+    filled N long S more = record { numbered = N; seated = rw nodes-front at S; numbers-long = omega (arith, A .numbers-long); seats-long = more }
+
+    -- the lines can be written by them, and are those of the nodes
+    pub lined : {numbers seats : List ℕ} → Filled σ ns numbers seats → Lined (slots (σ .level) (σ .then) (σ .els)) (take n nodes) numbers seats
+    lined F = rw nodes-front (allowed-lined exported F)
+
+    pub lines-same : (numbers seats : List ℕ) → Filled σ ns numbers seats
+        → linesBy (slots (σ .level) (σ .then) (σ .els)) numbers seats (take n nodes) ≡ linesFor σ ns
+    lines-same numbers seats F = rw nodes-front (allowed-lines exported F)
+
+    -- as many levels have a seat as the support has
+    pub seats-count : {k : ℕ} {numbers seats : List ℕ} → Filled σ ns numbers seats → k ≡ length (supportOf σ (take n nodes)) → k ≡ length (seated seats)
+    seats-count F q = q ∙ rw (nodes-front, seated-same F)

@@ -1,0 +1,78 @@
+-- What an export promises.
+-- An export: its refusals, and the file that it writes. Document 01, 'Export'.
+use Prim.Native.Nat.{ℕ, zero, suc}
+use mathlib.Core.List.{List, [], _∷_, _++_, map}
+use Rattle.seats.specs.Seats.{Seats}
+use mathlib.Core.Bool.{Bool, true, cond, _&&_}
+use lib.Dec.{leb}
+use lib.ListN.{length}
+use lib.IntN.{ℤ, natAbs}
+use Rattle.codes.specs.Limits.{rootLimit}
+use Rattle.store.specs.Store.{Store}
+use Rattle.store.specs.Rules.{limits}
+use Rattle.store.specs.Keeps.{keeps}
+use Rattle.variable_order.specs.Order.{isOrder}
+use Rattle.export_names.specs.Names.{nameAt, fitPlace, listFits}
+use Rattle.export_size.specs.Size.{exportSize}
+use Rattle.numbering.specs.Support.{supportOf}
+use Rattle.export_nodes.specs.Lines.{renumbered, linesFor}
+use Rattle.node_writers.specs.Encoded.{nodeBytes, endText}
+use Rattle.heading.specs.Heading.{Heading, headText}
+use Rattle.heading.specs.Tables.{Lent, namesOf, rootnamesOf}
+use Rattle.exported.specs.Settings.{Settings}
+
+-- where nothing is refused, the table of each level's variable
+abbrev pub VarsIf : ℕ → List ℕ → List ℕ → Type 0
+VarsIf zero order vars = Seats order vars
+VarsIf (suc k) order vars = Unit
+
+-- '4 a root is 0 or beyond the store's count'
+unfoldable pub allRoots : ℕ → List ℤ → Bool
+allRoots count [] = true
+allRoots count (r ∷ rs) = (leb 1 (natAbs r) && leb (natAbs r) count) && allRoots count rs
+
+-- 'over 1,024 roots'
+unfoldable pub rootsFit : ℕ → List ℤ → Bool
+rootsFit count roots = leb (length roots) rootLimit && allRoots count roots
+
+-- '1 a lent part too short: .. the store count for export marks, the export size below', by the lengths of the two lists of marks and of the
+-- output
+unfoldable pub enough : Store → List ℤ → Lent → ℕ → ℕ → ℕ → Bool
+enough σ roots p slots numbers out =
+    leb (σ .count) slots && leb (σ .count) numbers
+    && leb (exportSize (σ .count) (σ .levels) (length roots) (p .lens) (p .rootlens) (p .dd .len)) out
+
+-- '5 a name list ..': the names of the variables, of the roots, and of the diagram
+unfoldable pub namesFit : Store → List ℤ → Lent → Bool
+namesFit σ roots p =
+    listFits (σ .levels) (p .bytes) (p .starts) (p .lens)
+    && listFits (length roots) (p .bytes) (p .rootstarts) (p .rootlens)
+    && fitPlace true (p .bytes) (p .dd)
+
+-- 'Export gives 1, 3, 4, 6, 5.' The refusal, 0 of none.
+unfoldable pub exportFault : Store → List ℤ → List ℕ → Lent → ℕ → ℕ → ℕ → ℕ
+exportFault σ roots order p slots numbers out =
+    cond (enough σ roots p slots numbers out)
+    (cond (keeps limits σ)
+    (cond (rootsFit (σ .count) roots)
+    (cond (isOrder (σ .levels) order)
+    (cond (namesFit σ roots p) 0 5)
+    6) 4) 3) 1
+
+-- what the header says, where the lines are those of the nodes ns
+unfoldable pub headingOf : Settings → Store → List ℤ → List ℕ → Lent → List ℕ → Heading
+headingOf s σ roots order p ns = record {
+  version = s .version;
+  ascii = s .ascii;
+  dd = nameAt (p .bytes) (p .dd);
+  nnodes = length ns;
+  support = supportOf σ ns;
+  order = order;
+  names = namesOf p;
+  rootids = map (renumbered ns) roots;
+  rootnames = rootnamesOf p;
+}
+
+-- The file of an export whose lines are those of the nodes ns: the header, the node lines, and the end.
+unfoldable pub fileOf : Settings → Store → List ℤ → List ℕ → Lent → List ℕ → List ℕ
+fileOf s σ roots order p ns = headText (headingOf s σ roots order p ns) ++ (nodeBytes (s .ascii) (linesFor σ ns) ++ endText)

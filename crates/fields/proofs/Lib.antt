@@ -1,9 +1,0 @@
-pub mod Texts
-pub mod KeyNames
-pub mod Faults
-pub mod KeyExamples
-pub mod Entries
-pub mod Lasts
-pub mod Tables
-pub mod Lines
-pub mod Progress

@@ -1,4 +1,0 @@
-pub mod Keys
-pub mod Judge
-pub mod Sweep
-pub mod Kinds

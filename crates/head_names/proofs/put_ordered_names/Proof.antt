@@ -1,0 +1,97 @@
+-- `put_ordered_names` meets its contract. The loop's invariant: the names of the variables at the levels from l on are left to write. The
+-- measure is the number of those levels.
+use Prim.Native.Nat.{_-_}
+use native.Mathlib.Omega.{arith}
+use lib.ListN.{length}
+use Rattle.writers.specs.Words.{spaced}
+use Rattle.export_names.specs.Names.{namesAt}
+use Rattle.heading.specs.Heading.{variablesFrom, chosen}
+use Rattle.heading.proofs.Writing.{Writing, words, words-start, writing-room, writing-more, writing-end}
+use Rattle.heading.proofs.Variables.{variablesLeft, variables-start, variables-end, variable-some, variable-there, variable-next, names-as}
+use Rattle.head_names.proofs.put_ordered_names.Statement.{statement}
+use Rattle.head_names.proofs.put_ordered_names.Tie as tie
+
+abbrev Inv-loop : tie.InvT-loop
+Inv-loop out₀ at bytes starts lens order vars next₀ l₀ out next l =
+    Writing out₀ at (spaced (chosen (variablesFrom (length order) 0 order) (namesAt bytes starts lens))) out next
+    (words (chosen (variablesLeft order l) (namesAt bytes starts lens)))
+
+abbrev μ-loop : tie.MeasureT-loop
+μ-loop out₀ at bytes starts lens order vars next₀ l₀ out next l = length order - l
+
+loop-holds : tie.Need-loop-holds Inv-loop μ-loop
+loop-holds c =
+    let s = c .before .before .before .before .before .before .args in
+    names-as (namesAt (s .bytes .now) (s .starts .now) (s .lens .now)) (variables-start (s .order .now))
+    (words-start (s .out .now) (s .at) _ (c .before .before .before .before .before .before .pre .1 .1))
+
+mul-variable : tie.Need-mul-variable Inv-loop μ-loop
+mul-variable c = omega (arith, c .before .before .before .before .before .before .before .before .pre .1 .0 .2, c .before .before .before .before .before .before .before .before .good .1 .1 .1 .1 .1 .1 .0 .1)
+
+shared-slice-read-variable : tie.Need-shared-slice-read-variable Inv-loop μ-loop
+shared-slice-read-variable c = omega (arith, c .before .before .before .before .before .before .before .before .before .pre .1 .0 .2)
+
+cast-variable : tie.Need-cast-variable Inv-loop μ-loop
+cast-variable c = omega (arith, c .shared-slice-known6 .given (c .before .before .loop .l))
+
+sub-variable : tie.Need-sub-variable Inv-loop μ-loop
+sub-variable c =
+    let s = c .before .before .before .before .before .before .before .before .before .args in
+    let p = c .before .before .before .before .before .before .before .before .before .pre .1 .0 in
+    variable-some (s .order .now) (s .vars .now) (p .0) (p .1) (p .2) (c .before .before .loop .l) (c .before .loop-test .taken)
+
+put-name-requires : tie.Need-put-name-requires Inv-loop μ-loop
+unfolding chosen
+put-name-requires c κs =
+    let s = c .before .before .before .before .before .before .before .before .before .before .args in
+    let q = c .before .before .before .before .before .before .before .before .before .before .pre .0 in
+    let p = c .before .before .before .before .before .before .before .before .before .before .pre .1 .0 in
+    let l = c .before .before .before .loop in
+    let t = c .before .before .loop-test .taken in
+    let some = variable-some (s .order .now) (s .vars .now) (p .0) (p .1) (p .2) (l .l) t in
+    let there = variable-there (s .order .now) (s .vars .now) (p .0) (p .1) (p .2) (l .l) t in
+    let e = variable-next (s .order .now) (s .vars .now) (p .0) (p .1) (p .2) (l .l) t in
+    ((q .0, omega (arith, q .1)), writing-room (names-as (namesAt (s .bytes .now) (s .starts .now) (s .lens .now)) e (l .inv)))
+
+add-l : tie.Need-add-l Inv-loop μ-loop
+add-l c = omega arith
+
+loop-less : tie.Need-loop-less Inv-loop μ-loop
+loop-less c = omega arith
+
+loop-again : tie.Need-loop-again Inv-loop μ-loop
+unfolding chosen
+loop-again c =
+    let s = c .before .before .before .before .before .before .before .before .before .before .before .before .before .args in
+    let p = c .before .before .before .before .before .before .before .before .before .before .before .before .before .pre .1 .0 in
+    let l = c .before .before .before .before .before .before .loop in
+    let e = variable-next (s .order .now) (s .vars .now) (p .0) (p .1) (p .2) (l .l) (c .before .before .before .before .before .loop-test .taken) in
+    writing-more (names-as (namesAt (s .bytes .now) (s .starts .now) (s .lens .now)) e (l .inv)) (c .before .before .put-name .ensures)
+
+same-length : tie.Need-same-length Inv-loop μ-loop
+same-length c = c .before .loop .inv .long
+
+returns : tie.Need-returns Inv-loop μ-loop
+unfolding chosen
+returns c =
+    let s = c .before .before .before .before .before .before .before .before .args in
+    let l = c .before .loop in
+    writing-end (names-as (namesAt (s .bytes .now) (s .starts .now) (s .lens .now)) (variables-end (s .order .now) (l .l) (c .loop-test .left)) (l .inv))
+
+pub put-ordered-names-spec : {M : Type 1} → statement M
+put-ordered-names-spec =
+    tie.close
+    (tie.spec
+    Inv-loop
+    μ-loop
+    loop-holds
+    mul-variable
+    shared-slice-read-variable
+    cast-variable
+    sub-variable
+    put-name-requires
+    add-l
+    loop-less
+    loop-again
+    same-length
+    returns)

@@ -1,0 +1,40 @@
+-- `write_rootnames` meets its contract: nothing where there are no names, and otherwise their line.
+use mathlib.Core.Path.{_≡_, refl, _∙_}
+use mathlib.Core.List.{List}
+use Prim.Native.Nat.{ℕ}
+use native.Mathlib.Omega.{arith}
+use borrow.Author.Needs.{needs}
+use Rattle.header_keys.specs.declared.Key.the-variants.{Rootnames}
+use Rattle.export_names.specs.Names.{namesAt}
+use Rattle.heading.specs.Lines.{line, lineText, linesText}
+use Rattle.heading.specs.Heading.{unlessEmpty}
+use Rattle.heading.proofs.Parts.{unless-none, unless-some}
+use Rattle.head_names.proofs.write_rootnames.Statement.{statement}
+use Rattle.head_names.proofs.write_rootnames.Tie as tie
+
+abbrev names : tie.Start → List (List ℕ)
+names s = namesAt (s .args .bytes .now) (s .args .starts .now) (s .args .lens .now)
+
+returns : tie.Need-returns
+returns c = let s = c .before .before .before .before .before in rw (unless-none (names s) (line Rootnames (names s)) (s .pre .0 .many ∙ c .if1 .taken)) (omega arith, refl)
+
+-- where there are names their line is written
+some-is : (c : tie.Else1) → linesText (unlessEmpty (names (c .before .before .before .before .before)) (line Rootnames (names (c .before .before .before .before .before)))) ≡ lineText (line Rootnames (names (c .before .before .before .before .before)))
+some-is c = unless-some (names (c .before .before .before .before .before)) (line Rootnames (names (c .before .before .before .before .before))) (omega (arith, c .before .before .before .before .before .pre .0 .many, c .if1 .left))
+
+slice-aggregate-write-list : tie.Need-slice-aggregate-write-list
+slice-aggregate-write-list c = search needs
+
+write-list-requires : tie.Need-write-list-requires
+write-list-requires c κs = (c .before .before .before .before .before .before .before .pre .0, rw (some-is (c .before .before)) at (c .before .before .before .before .before .before .before .pre .1))
+
+same-length : tie.Need-same-length
+same-length c = search needs
+
+returns-2 : tie.Need-returns-2
+returns-2 c = rw (some-is (c .before .before .before .before .before)) (c .before .before .write-list .ensures)
+
+pub write-rootnames-spec : {M : Type 1} → statement M
+write-rootnames-spec =
+    tie.close
+    (tie.spec returns slice-aggregate-write-list write-list-requires same-length returns-2)

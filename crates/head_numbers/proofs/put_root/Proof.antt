@@ -1,0 +1,42 @@
+-- `put_root` meets its contract: a space, and then the number of the root's line.
+use mathlib.Core.Path.{_≡_, ap, _∙_}
+use mathlib.Core.List.{[], _∷_}
+use native.Mathlib.Omega.{arith}
+use borrow.Author.Needs.{needs}
+use denote.Ref.{now}
+use mir.Facts.{toZ-ofZ}
+use mir.Syntax.{w16}
+use mir.Val.{toZ, ofZ}
+use Rattle.writers.specs.Decimal.{edgeText}
+use Rattle.writers.proofs.Sets.{wrote-then}
+use Rattle.export_nodes.specs.Tables.{numberOf}
+use Rattle.head_numbers.proofs.put_root.Statement.{statement}
+use Rattle.head_numbers.proofs.put_root.Tie as tie
+
+-- the edge that is written is the root's
+edge-is : (c : tie.After-number-of) → toZ w16 (ofZ w16 (c .number-of .result)) ≡ numberOf (now (c .before .before .before .before .before .before .before .before .args .numbers)) (c .before .before .before .before .before .before .before .before .args .root)
+edge-is c =
+    toZ-ofZ (record { sfits = c .number-of .ok }) ∙ c .number-of .ensures ∙ ap (numberOf (now (c .before .before .before .before .before .before .before .before .args .numbers))) (toZ-ofZ (c .before .before .before .before .before .before .before .before .fits .root))
+
+put-byte-requires : tie.Need-put-byte-requires
+put-byte-requires c κs = search needs
+
+number-of-requires : tie.Need-number-of-requires
+number-of-requires c κs = search needs
+
+put-edge-requires : tie.Need-put-edge-requires
+put-edge-requires c κs = rw (edge-is c) (omega (arith, c .before .before .before .before .before .before .before .before .pre .1, c .before .before .before .before .put-byte .ensures .0, c .before .before .before .before .put-byte .kept .0))
+
+same-length : tie.Need-same-length
+same-length c = search needs
+
+returns : tie.Need-returns
+returns c =
+    let s = c .before .before .before .before .before .before .before .before .before .before .before in
+    wrote-then (s .args .out .now) (s .args .at) (0x20 ∷ []) (edgeText (numberOf (s .args .numbers .now) (s .args .root))) (c .before .before .before .before .before .before .before .put-byte .ensures)
+    (rw (edge-is (c .before .before .before)) at (c .before .before .put-edge .ensures))
+
+pub put-root-spec : {M : Type 1} → statement M
+put-root-spec =
+    tie.close
+    (tie.spec put-byte-requires number-of-requires put-edge-requires same-length returns)

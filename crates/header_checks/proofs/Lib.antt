@@ -1,0 +1,9 @@
+pub mod Accepted
+pub mod Agreeing
+pub mod Checked
+pub mod NameCounts
+pub mod Numbered
+pub mod Refusals
+pub mod Rooted
+pub mod Supporting
+pub mod Upward

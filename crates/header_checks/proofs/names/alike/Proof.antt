@@ -1,0 +1,67 @@
+-- `alike` meets its contract: the local lists have room for the names.
+use mathlib.Core.Path.{refl}
+use borrow.Author.Tests.{leb-true}
+use Rattle.header_checks.proofs.Agreeing.{names-room, few-names}
+use Rattle.header_checks.proofs.names.alike.Statement.{statement}
+use Rattle.header_checks.proofs.names.alike.Tie as tie
+
+slice-aggregate-alike-in : tie.Need-slice-aggregate-alike-in
+slice-aggregate-alike-in c = refl
+
+slice-aggregate-alike-in-2 : tie.Need-slice-aggregate-alike-in-2
+slice-aggregate-alike-in-2 c = refl
+
+slice-aggregate-alike-in-3 : tie.Need-slice-aggregate-alike-in-3
+slice-aggregate-alike-in-3 c = refl
+
+slice-aggregate-alike-in-4 : tie.Need-slice-aggregate-alike-in-4
+slice-aggregate-alike-in-4 c = refl
+
+alike-in-requires : tie.Need-alike-in-requires
+alike-in-requires c κs =
+    let p = c .before .before .before .before .before .before .before .before .before .before .before .pre in
+    let one = names-room _ _ _ 256 (p .1 .0) (c .before .before .before .before .before .if1 .taken) in
+    let two = names-room _ _ _ 256 (p .1 .1 .0) (leb-true _ _ (c .before .before .before .before .if2 .taken)) in
+    (p .0, (p .1 .1 .1, (one, two)))
+
+returns : tie.Need-returns
+returns c = c .before .before .before .before .alike-in .ensures
+
+slice-aggregate-alike-in-5 : tie.Need-slice-aggregate-alike-in-5
+slice-aggregate-alike-in-5 c = refl
+
+slice-aggregate-alike-in-6 : tie.Need-slice-aggregate-alike-in-6
+slice-aggregate-alike-in-6 c = refl
+
+slice-aggregate-alike-in-7 : tie.Need-slice-aggregate-alike-in-7
+slice-aggregate-alike-in-7 c = refl
+
+slice-aggregate-alike-in-8 : tie.Need-slice-aggregate-alike-in-8
+slice-aggregate-alike-in-8 c = refl
+
+alike-in-requires-2 : tie.Need-alike-in-requires-2
+alike-in-requires-2 c κs =
+    let p = c .before .before .before .before .before .before .before .before .before .before .pre in
+    let one = names-room _ _ _ 4096 (p .1 .0) (few-names _ _ _ (p .1 .0)) in
+    let two = names-room _ _ _ 4096 (p .1 .1 .0) (few-names _ _ _ (p .1 .1 .0)) in
+    (p .0, (p .1 .1 .1, (one, two)))
+
+returns-2 : tie.Need-returns-2
+returns-2 c = c .before .before .before .before .alike-in2 .ensures
+
+pub alike-spec : {M : Type 1} → statement M
+alike-spec =
+    tie.close
+    (tie.spec
+    slice-aggregate-alike-in
+    slice-aggregate-alike-in-2
+    slice-aggregate-alike-in-3
+    slice-aggregate-alike-in-4
+    alike-in-requires
+    returns
+    slice-aggregate-alike-in-5
+    slice-aggregate-alike-in-6
+    slice-aggregate-alike-in-7
+    slice-aggregate-alike-in-8
+    alike-in-requires-2
+    returns-2)

@@ -1,0 +1,101 @@
+-- The header as a whole. Document 01, 'The file's writer, header as a whole', its sentence in its order.
+use mathlib.Core.Path.{_≡_}
+use Prim.Native.Nat.{ℕ, _≤_}
+use mathlib.Core.List.{List, [], _∷_, _++_}
+use mathlib.Core.Bool.{_||_}
+use lib.ListN.{length, replicate}
+use lib.Dec.{ltb, eqb}
+use Rattle.codes.specs.Limits.{varLimit, nodeLimit, rootLimit}
+use Rattle.header_lines.specs.Sweep.{Span}
+use Rattle.header_keys.specs.declared.Key.{Key}
+use Rattle.header_keys.specs.declared.Key.the-variants.{Ids, Permids, Auxids, Rootnames}
+use Rattle.support.specs.Support.{idsFit, permidsFit}
+use Rattle.file_roots.specs.Roots.{rootsFault}
+use Rattle.header_values.specs.Values.{nnodesIn, nvarsIn, nsuppvarsIn, nrootsIn, u32sIn, namesIn, rootsIn}
+use Rattle.header_checks.specs.Names.{varnamesIn, orderedvarnamesIn, suppvarnamesIn, varnamesAgree, suppByVarnames, suppByOrdered}
+use Rattle.codes.specs.Faults.{firstFault, unless, when}
+
+-- '21 wrong entry count'
+abbrev pub countFault : ℕ → ℕ → ℕ
+countFault want n = unless (eqb n want) 21
+
+-- '21 for nonempty ..'
+abbrev pub givenFault : ℕ → ℕ → ℕ
+givenFault want n = unless (eqb n 0 || eqb n want) 21
+
+-- '19 for `.nvars`, then `.nnodes`; 20 `.nsuppvars` above `.nvars`'
+unfoldable pub numberFaults : ℕ → ℕ → ℕ → List ℕ
+numberFaults nvars nnodes nsuppvars = when (ltb varLimit nvars) 19 ∷ when (ltb nodeLimit nnodes) 19 ∷ when (ltb nvars nsuppvars) 20 ∷ []
+
+-- '21 wrong entry count in `.ids`, `.permids`, nonempty `.auxids`; 22 `.ids` not strictly ascending, or last not below `.nvars`; 23 a
+-- permid not below `.nvars`, or twice'
+unfoldable pub supportFaults : List ℕ → List Span → List ℕ
+supportFaults f t =
+    countFault (nsuppvarsIn f t) (length (u32sIn f t Ids))
+    ∷ countFault (nsuppvarsIn f t) (length (u32sIn f t Permids))
+    ∷ givenFault (nsuppvarsIn f t) (length (u32sIn f t Auxids))
+    ∷ unless (idsFit (nvarsIn f t) (u32sIn f t Ids)) 22
+    ∷ unless (permidsFit (nvarsIn f t) (u32sIn f t Permids)) 23
+    ∷ []
+
+-- '21 for nonempty `.orderedvarnames`, `.suppvarnames`, `.varnames`'
+unfoldable pub nameCountFaults : List ℕ → List Span → List ℕ
+nameCountFaults f t =
+    givenFault (nvarsIn f t) (length (orderedvarnamesIn f t))
+    ∷ givenFault (nsuppvarsIn f t) (length (suppvarnamesIn f t))
+    ∷ givenFault (nvarsIn f t) (length (varnamesIn f t))
+    ∷ []
+
+-- '24 for a support variable, `.varnames` and `.orderedvarnames`, or either and `.suppvarnames`, give unlike names'
+unfoldable pub nameFaults : List ℕ → List Span → List ℕ
+nameFaults f t =
+    unless (varnamesAgree f t) 24
+    ∷ unless (suppByVarnames f t) 24
+    ∷ unless (suppByOrdered f t) 24
+    ∷ []
+
+-- '21 for `.rootids`; per root 25 zero, 26 magnitude above `.nnodes`; 21 for nonempty `.rootnames`'
+unfoldable pub rootFaults : List ℕ → List Span → List ℕ
+rootFaults f t =
+    countFault (nrootsIn f t) (length (rootsIn f t))
+    ∷ rootsFault (nnodesIn f t) (rootsIn f t)
+    ∷ givenFault (nrootsIn f t) (length (namesIn rootLimit f t Rootnames))
+    ∷ []
+
+-- 'The file's writer, header as a whole, in this order'
+unfoldable pub wholeFault : List ℕ → List Span → ℕ
+wholeFault f t =
+    firstFault
+    (numberFaults (nvarsIn f t) (nnodesIn f t) (nsuppvarsIn f t)
+    ++ (supportFaults f t ++ (nameCountFaults f t ++ (nameFaults f t ++ rootFaults f t))))
+
+-- What checks lean on: the numbers pass,
+abbrev pub NumbersPass : List ℕ → List Span → Type 0
+NumbersPass f t = firstFault (numberFaults (nvarsIn f t) (nnodesIn f t) (nsuppvarsIn f t)) ≡ 0
+
+-- a list of zeros has room for a number of entries,
+pub record Room (n : ℕ) (l : List ℕ) : Type 0 where
+  pub zeros : l ≡ replicate (length l) 0
+  pub enough : n ≤ length l
+
+-- two have room for the starts and the lengths of a list's names,
+pub record NameRoom (f : List ℕ) (t : List Span) (k : Key) (starts lens : List ℕ) : Type 0 where
+  pub starts-room : Room (length (namesIn varLimit f t k)) starts
+  pub lens-room : Room (length (namesIn varLimit f t k)) lens
+
+-- there are as many ids and permids as support variables,
+pub record Supported (f : List ℕ) (t : List Span) : Type 0 where
+  pub ids-counted : length (u32sIn f t Ids) ≡ nsuppvarsIn f t
+  pub permids-counted : length (u32sIn f t Permids) ≡ nsuppvarsIn f t
+
+-- these ids and permids were read,
+pub record Listed (f : List ℕ) (t : List Span) (ids permids : List ℕ) : Type 0 where
+  pub ids-are : ids ≡ u32sIn f t Ids
+  pub permids-are : permids ≡ u32sIn f t Permids
+  pub counted : Supported f t
+
+-- and the names of each list were counted
+pub record NameCounts (f : List ℕ) (t : List Span) (ordered supp varnames : ℕ) : Type 0 where
+  pub ordered-count : ordered ≡ length (orderedvarnamesIn f t)
+  pub supp-count : supp ≡ length (suppvarnamesIn f t)
+  pub varnames-count : varnames ≡ length (varnamesIn f t)

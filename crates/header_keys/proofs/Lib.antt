@@ -1,0 +1,2 @@
+pub mod KeyExamples
+pub mod KeyNames

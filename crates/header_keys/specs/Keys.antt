@@ -1,0 +1,71 @@
+-- The keys of a header, as their bytes. They are those of the Rust's `DumpHeader::load`.
+use Prim.Native.Nat.{ℕ}
+use mathlib.Core.List.{List, [], _∷_, _++_}
+use mathlib.Core.Bool.{cond}
+use Rattle.header_keys.specs.declared.Key.{Key}
+use Rattle.header_keys.specs.declared.Key.the-variants.{Ver, Mode, Varinfo, Dd, Nnodes, Nvars, Nsuppvars, Nroots, Nodes, Varnames, Suppvarnames, Orderedvarnames, Ids, Permids, Auxids, Rootids, Rootnames, Unknown}
+use Rattle.read_text.specs.Alike.{alike}
+
+-- a key with its bytes
+pub record Name : Type 0 where
+  pub bytes : List ℕ
+  pub key : Key
+
+abbrev pub name : List ℕ → Key → Name
+name b k = record { bytes = b; key = k }
+
+-- the keys of single values, and `.nodes`
+abbrev pub singles : List Name
+singles =
+    name (0x2e ∷ 0x76 ∷ 0x65 ∷ 0x72 ∷ []) Ver  -- .ver
+    ∷ name (0x2e ∷ 0x6d ∷ 0x6f ∷ 0x64 ∷ 0x65 ∷ []) Mode  -- .mode
+    ∷ name (0x2e ∷ 0x76 ∷ 0x61 ∷ 0x72 ∷ 0x69 ∷ 0x6e ∷ 0x66 ∷ 0x6f ∷ []) Varinfo  -- .varinfo
+    ∷ name (0x2e ∷ 0x64 ∷ 0x64 ∷ []) Dd  -- .dd
+    ∷ name (0x2e ∷ 0x6e ∷ 0x6e ∷ 0x6f ∷ 0x64 ∷ 0x65 ∷ 0x73 ∷ []) Nnodes  -- .nnodes
+    ∷ name (0x2e ∷ 0x6e ∷ 0x76 ∷ 0x61 ∷ 0x72 ∷ 0x73 ∷ []) Nvars  -- .nvars
+    ∷ name (0x2e ∷ 0x6e ∷ 0x73 ∷ 0x75 ∷ 0x70 ∷ 0x70 ∷ 0x76 ∷ 0x61 ∷ 0x72 ∷ 0x73 ∷ []) Nsuppvars  -- .nsuppvars
+    ∷ name (0x2e ∷ 0x6e ∷ 0x72 ∷ 0x6f ∷ 0x6f ∷ 0x74 ∷ 0x73 ∷ []) Nroots  -- .nroots
+    ∷ name (0x2e ∷ 0x6e ∷ 0x6f ∷ 0x64 ∷ 0x65 ∷ 0x73 ∷ []) Nodes  -- .nodes
+    ∷ []
+
+-- the keys of lists
+abbrev pub lists : List Name
+lists =
+    name (0x2e ∷ 0x76 ∷ 0x61 ∷ 0x72 ∷ 0x6e ∷ 0x61 ∷ 0x6d ∷ 0x65 ∷ 0x73 ∷ []) Varnames  -- .varnames
+    ∷ name (0x2e ∷ 0x73 ∷ 0x75 ∷ 0x70 ∷ 0x70 ∷ 0x76 ∷ 0x61 ∷ 0x72 ∷ 0x6e ∷ 0x61 ∷ 0x6d ∷ 0x65 ∷ 0x73 ∷ []) Suppvarnames  -- .suppvarnames
+    ∷ name (0x2e ∷ 0x6f ∷ 0x72 ∷ 0x64 ∷ 0x65 ∷ 0x72 ∷ 0x65 ∷ 0x64 ∷ 0x76 ∷ 0x61 ∷ 0x72 ∷ 0x6e ∷ 0x61 ∷ 0x6d ∷ 0x65 ∷ 0x73 ∷ []) Orderedvarnames  -- .orderedvarnames
+    ∷ name (0x2e ∷ 0x69 ∷ 0x64 ∷ 0x73 ∷ []) Ids  -- .ids
+    ∷ name (0x2e ∷ 0x70 ∷ 0x65 ∷ 0x72 ∷ 0x6d ∷ 0x69 ∷ 0x64 ∷ 0x73 ∷ []) Permids  -- .permids
+    ∷ name (0x2e ∷ 0x61 ∷ 0x75 ∷ 0x78 ∷ 0x69 ∷ 0x64 ∷ 0x73 ∷ []) Auxids  -- .auxids
+    ∷ name (0x2e ∷ 0x72 ∷ 0x6f ∷ 0x6f ∷ 0x74 ∷ 0x69 ∷ 0x64 ∷ 0x73 ∷ []) Rootids  -- .rootids
+    ∷ name (0x2e ∷ 0x72 ∷ 0x6f ∷ 0x6f ∷ 0x74 ∷ 0x6e ∷ 0x61 ∷ 0x6d ∷ 0x65 ∷ 0x73 ∷ []) Rootnames  -- .rootnames
+    ∷ []
+
+-- the first key of a table whose bytes these are. '11 unknown key'.
+unfoldable pub lookup : List ℕ → List Name → Key
+lookup w [] = Unknown
+lookup w (n ∷ ns) = cond (alike w (n .bytes)) (n .key) (lookup w ns)
+
+unfoldable pub keyOf : List ℕ → Key
+keyOf w = lookup w (singles ++ lists)
+
+-- The entry of a key in a table with one for each. Two keys are one exactly where they have one entry.
+abbrev pub slotOf : Key → ℕ
+slotOf Ver = 0
+slotOf Mode = 1
+slotOf Varinfo = 2
+slotOf Dd = 3
+slotOf Nnodes = 4
+slotOf Nvars = 5
+slotOf Nsuppvars = 6
+slotOf Nroots = 7
+slotOf Nodes = 8
+slotOf Varnames = 9
+slotOf Suppvarnames = 10
+slotOf Orderedvarnames = 11
+slotOf Ids = 12
+slotOf Permids = 13
+slotOf Auxids = 14
+slotOf Rootids = 15
+slotOf Rootnames = 16
+slotOf Unknown = 17

@@ -1,0 +1,154 @@
+-- `fill_names` meets its contract: by the first list of names that is given, of which there are three, or none.
+use mathlib.Core.Path.{refl}
+use borrow.Author.Needs.{needs}
+use native.Mathlib.Omega.{arith}
+use lib.ListN.{length}
+use Rattle.read_text.specs.Text.{startOf, lenOf}
+use Rattle.header_values.specs.Values.{spans}
+use Rattle.header_lists.proofs.Naming.{ordered-front, ordered-long, supp-front, supp-long}
+use Rattle.header_lists.proofs.Naming.{filled-varnames, filled-ordered, filled-supp, filled-none}
+use Rattle.header_lists.proofs.fill_names.Statement.{statement}
+use Rattle.header_lists.proofs.fill_names.Tie as tie
+
+names-in-requires : tie.Need-names-in-requires
+names-in-requires c κs = (c .before .before .before .before .before .before .before .pre .0, omega arith)
+
+same-length : tie.Need-same-length
+same-length c = search needs
+
+same-length-2 : tie.Need-same-length-2
+same-length-2 c = search needs
+
+returns : tie.Need-returns
+returns c =
+    let v = c .before .before .before .before .before .names-in .ensures in
+    (filled-varnames _ _ startOf (length (c .before .before .before .before .before .before .before .before .before .before .before .before .before .args .names .now)) (v .0) (v .1 .0) (c .if1 .taken), filled-varnames _ _ lenOf (length (c .before .before .before .before .before .before .before .before .before .before .before .before .before .args .lens .now)) (v .0) (v .1 .1) (c .if1 .taken))
+
+u32-in-requires : tie.Need-u32-in-requires
+u32-in-requires c κs = (c .before .before .before .before .before .before .before .before .before .before .before .before .before .pre .0, omega arith)
+
+cast-nvars : tie.Need-cast-nvars
+cast-nvars c = search needs
+
+count-names-requires : tie.Need-count-names-requires
+count-names-requires c κs = (c .before .before .before .before .before .before .before .before .before .before .before .before .before .before .pre .0, omega arith)
+
+slice-aggregate-ordered-in : tie.Need-slice-aggregate-ordered-in
+slice-aggregate-ordered-in c = refl
+
+ordered-in-requires : tie.Need-ordered-in-requires
+ordered-in-requires c κs = c .before .before .before .before .before .before .before .before .before .before .before .before .before .before .before .before .before .pre
+
+array-share-prefix-seats : tie.Need-array-share-prefix-seats
+array-share-prefix-seats c = search needs
+
+slice-aggregate-gather-names : tie.Need-slice-aggregate-gather-names
+slice-aggregate-gather-names c = ordered-long _ _ (c .before .before .before .before .before .before .before .before .before .before .before .before .before .before .before .before .before .before .before .before .pre .1) (c .before .before .before .before .before .before .u32-in .ensures) (c .before .before .ordered-in .ensures)
+
+gather-names-requires : tie.Need-gather-names-requires
+gather-names-requires c κs = ((c .before .before .before .before .before .before .before .before .before .before .before .before .before .before .before .before .before .before .before .before .before .before .pre .0, omega arith), c .before .before .before .before .before .before .before .count-names .ensures)
+
+same-length-3 : tie.Need-same-length-3
+same-length-3 c = search needs
+
+same-length-4 : tie.Need-same-length-4
+same-length-4 c = search needs
+
+returns-2 : tie.Need-returns-2
+returns-2 c =
+    let f = c .before .before .before .before .before .before .before .before .before .before .before .before .before .before .before .before .before .before .before .before .before .before .before .before .before .before .before .args .f .now in
+    let t = spans (c .before .before .before .before .before .before .before .before .before .before .before .before .before .before .before .before .before .before .before .before .before .before .before .before .before .before .before .args .starts .now) (c .before .before .before .before .before .before .before .before .before .before .before .before .before .before .before .before .before .before .before .before .before .before .before .before .before .before .before .args .ends .now) in
+    let v = c .before .before .before .before .before .before .before .before .before .before .before .before .before .before .before .before .before .before .before .names-in .ensures in
+    let z = c .before .before .before .before .before .before .before .before .before .before .before .before .before .before .if1 .left in
+    let o = c .before .before .before .before .before .before .before .before .before .before .before .before .count-names .ensures in
+    let q = ordered-front f t (c .before .before .before .before .before .before .before .before .before .before .before .before .before .before .before .before .before .before .before .before .before .before .before .before .before .before .before .pre .1) (c .before .before .before .before .before .before .before .before .before .before .before .before .before .u32-in .ensures) (c .before .before .before .before .before .before .before .before .before .ordered-in .ensures) in
+    let g = c .before .before .before .before .gather-names .ensures in (
+      filled-ordered f t startOf (length (c .before .before .before .before .before .before .before .before .before .before .before .before .before .before .before .before .before .before .before .before .before .before .before .before .before .before .before .args .names .now)) (v .0) (v .1 .0) z o (c .before .before .before .before .before .before .before .before .before .before .before .if2 .taken) q (g .0),
+      filled-ordered f t lenOf (length (c .before .before .before .before .before .before .before .before .before .before .before .before .before .before .before .before .before .before .before .before .before .before .before .before .before .before .before .args .lens .now)) (v .0) (v .1 .1) z o (c .before .before .before .before .before .before .before .before .before .before .before .if2 .taken) q (g .1),
+    )
+
+count-names-requires-2 : tie.Need-count-names-requires-2
+count-names-requires-2 c κs = (c .before .before .before .before .before .before .before .before .before .before .before .before .before .before .before .before .pre .0, omega arith)
+
+slice-aggregate-supp-in : tie.Need-slice-aggregate-supp-in
+slice-aggregate-supp-in c = refl
+
+supp-in-requires : tie.Need-supp-in-requires
+supp-in-requires c κs = c .before .before .before .before .before .before .before .before .before .before .before .before .before .before .before .before .before .before .before .pre
+
+array-share-prefix-seats-2 : tie.Need-array-share-prefix-seats-2
+array-share-prefix-seats-2 c = search needs
+
+slice-aggregate-gather-names-2 : tie.Need-slice-aggregate-gather-names-2
+slice-aggregate-gather-names-2 c = supp-long _ _ (c .before .before .before .before .before .before .before .before .before .before .before .before .before .before .before .before .before .before .before .before .before .before .pre .1) (c .before .before .before .before .before .before .before .before .u32-in .ensures) (c .before .before .supp-in .ensures)
+
+gather-names-requires-2 : tie.Need-gather-names-requires-2
+gather-names-requires-2 c κs = ((c .before .before .before .before .before .before .before .before .before .before .before .before .before .before .before .before .before .before .before .before .before .before .before .before .pre .0, omega arith), c .before .before .before .before .before .before .before .count-names2 .ensures)
+
+same-length-5 : tie.Need-same-length-5
+same-length-5 c = search needs
+
+same-length-6 : tie.Need-same-length-6
+same-length-6 c = search needs
+
+returns-3 : tie.Need-returns-3
+returns-3 c =
+    let f = c .before .before .before .before .before .before .before .before .before .before .before .before .before .before .before .before .before .before .before .before .before .before .before .before .before .before .before .before .before .args .f .now in
+    let t = spans (c .before .before .before .before .before .before .before .before .before .before .before .before .before .before .before .before .before .before .before .before .before .before .before .before .before .before .before .before .before .args .starts .now) (c .before .before .before .before .before .before .before .before .before .before .before .before .before .before .before .before .before .before .before .before .before .before .before .before .before .before .before .before .before .args .ends .now) in
+    let v = c .before .before .before .before .before .before .before .before .before .before .before .before .before .before .before .before .before .before .before .before .before .names-in .ensures in
+    let z = c .before .before .before .before .before .before .before .before .before .before .before .before .before .before .before .before .if1 .left in
+    let o = c .before .before .before .before .before .before .before .before .before .before .before .before .before .before .count-names .ensures in
+    let y = c .before .before .before .before .before .before .before .before .before .before .before .before .before .if2 .left in
+    let s = c .before .before .before .before .before .before .before .before .before .before .before .before .count-names2 .ensures in
+    let q = supp-front f t (c .before .before .before .before .before .before .before .before .before .before .before .before .before .before .before .before .before .before .before .before .before .before .before .before .before .before .before .before .before .pre .1) (c .before .before .before .before .before .before .before .before .before .before .before .before .before .before .before .u32-in .ensures) (c .before .before .before .before .before .before .before .before .before .supp-in .ensures) in
+    let g = c .before .before .before .before .gather-names2 .ensures in (
+      filled-supp f t startOf (length (c .before .before .before .before .before .before .before .before .before .before .before .before .before .before .before .before .before .before .before .before .before .before .before .before .before .before .before .before .before .args .names .now)) (v .0) (v .1 .0) z o y s (c .before .before .before .before .before .before .before .before .before .before .before .if3 .taken) q (g .0),
+      filled-supp f t lenOf (length (c .before .before .before .before .before .before .before .before .before .before .before .before .before .before .before .before .before .before .before .before .before .before .before .before .before .before .before .before .before .args .lens .now)) (v .0) (v .1 .1) z o y s (c .before .before .before .before .before .before .before .before .before .before .before .if3 .taken) q (g .1),
+    )
+
+same-length-7 : tie.Need-same-length-7
+same-length-7 c = search needs
+
+same-length-8 : tie.Need-same-length-8
+same-length-8 c = search needs
+
+returns-4 : tie.Need-returns-4
+returns-4 c =
+    let v = c .before .before .before .before .before .before .before .before .before .before .names-in .ensures in
+    let z = c .before .before .before .before .before .if1 .left in
+    let o = c .before .before .before .count-names .ensures in
+    let y = c .before .before .if2 .left in
+    let s = c .before .count-names2 .ensures in
+    (filled-none _ _ startOf (length (c .before .before .before .before .before .before .before .before .before .before .before .before .before .before .before .before .before .before .args .names .now)) (v .0) (v .1 .0) z o y s (c .if3 .left), filled-none _ _ lenOf (length (c .before .before .before .before .before .before .before .before .before .before .before .before .before .before .before .before .before .before .args .lens .now)) (v .0) (v .1 .1) z o y s (c .if3 .left))
+
+pub fill-names-spec : {M : Type 1} → statement M
+fill-names-spec =
+    tie.close
+    (tie.spec
+    names-in-requires
+    same-length
+    same-length-2
+    returns
+    u32-in-requires
+    cast-nvars
+    count-names-requires
+    slice-aggregate-ordered-in
+    ordered-in-requires
+    array-share-prefix-seats
+    slice-aggregate-gather-names
+    gather-names-requires
+    same-length-3
+    same-length-4
+    returns-2
+    count-names-requires-2
+    slice-aggregate-supp-in
+    supp-in-requires
+    array-share-prefix-seats-2
+    slice-aggregate-gather-names-2
+    gather-names-requires-2
+    same-length-5
+    same-length-6
+    returns-3
+    same-length-7
+    same-length-8
+    returns-4)

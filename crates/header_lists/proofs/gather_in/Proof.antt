@@ -1,0 +1,66 @@
+-- `gather_in` meets its contract: the starts and the lengths of the names are the fronts of the lists that they were read into.
+use borrow.Author.Needs.{needs}
+use Rattle.header_checks.proofs.Agreeing.{starts-fit, lens-fit, starts-long, lens-long}
+use Rattle.header_lists.proofs.Filling.{starts-laid, lens-laid}
+use Rattle.header_lists.proofs.gather_in.Statement.{statement}
+use Rattle.header_lists.proofs.gather_in.Tie as tie
+
+read-names-requires : tie.Need-read-names-requires
+read-names-requires c κs =
+    let p = c .before .before .before .before .before .before .before .before .before .before .pre in
+    (p .0, (p .1 .starts-room .zeros, p .1 .lens-room .zeros))
+
+slice-reshare-prefix-gather : tie.Need-slice-reshare-prefix-gather
+slice-reshare-prefix-gather c = starts-fit _ _ _ (c .before .before .before .before .before .before .before .before .before .before .before .before .before .before .before .pre .1) (c .before .before .before .before .read-names .ensures)
+
+slice-aggregate-gather : tie.Need-slice-aggregate-gather
+slice-aggregate-gather c = starts-long _ _ _ (c .before .before .before .before .before .before .before .before .before .before .before .before .before .before .before .before .pre .1) (c .before .before .before .before .before .read-names .ensures)
+
+gather-requires : tie.Need-gather-requires
+gather-requires c κs = search needs
+
+slice-reshare-prefix-gather-2 : tie.Need-slice-reshare-prefix-gather-2
+slice-reshare-prefix-gather-2 c = lens-fit _ _ _ (c .before .before .before .before .before .before .before .before .before .before .before .before .before .before .before .before .before .before .before .before .pre .1) (c .before .before .before .before .before .before .before .before .before .read-names .ensures)
+
+slice-aggregate-gather-2 : tie.Need-slice-aggregate-gather-2
+slice-aggregate-gather-2 c = lens-long _ _ _ (c .before .before .before .before .before .before .before .before .before .before .before .before .before .before .before .before .before .before .before .before .before .pre .1) (c .before .before .before .before .before .before .before .before .before .before .read-names .ensures)
+
+gather-requires-2 : tie.Need-gather-requires-2
+gather-requires-2 c κs = search needs
+
+same-length : tie.Need-same-length
+same-length c = c .before .before .before .before .before .before .before .gather .kept .1 .1 .0
+
+same-length-2 : tie.Need-same-length-2
+same-length-2 c = c .before .before .gather2 .kept .1 .1 .0
+
+same-length-3 : tie.Need-same-length-3
+same-length-3 c = c .before .before .before .before .before .before .before .before .before .before .before .before .before .before .read-names .kept .1 .1 .1 .1 .1 .0
+
+same-length-4 : tie.Need-same-length-4
+same-length-4 c = c .before .before .before .before .before .before .before .before .before .before .before .before .before .before .read-names .kept .1 .1 .1 .1 .1 .1 .0
+
+returns : tie.Need-returns
+returns c =
+    let s = c .before .before .before .before .before .before .before .before .before .before .before .before .before .before .before .before .before .before .before .before .before .before .before .before .before in
+    let n = c .before .before .before .before .before .before .before .before .before .before .before .before .before .before .read-names .ensures in (
+      starts-laid _ _ _ (s .pre .1) n (s .args .seats .now) _ (c .before .before .before .before .before .before .before .gather .ensures),
+      lens-laid _ _ _ (s .pre .1) n (s .args .seats .now) _ (c .before .before .gather2 .ensures),
+    )
+
+pub gather-in-spec : {M : Type 1} → statement M
+gather-in-spec =
+    tie.close
+    (tie.spec
+    read-names-requires
+    slice-reshare-prefix-gather
+    slice-aggregate-gather
+    gather-requires
+    slice-reshare-prefix-gather-2
+    slice-aggregate-gather-2
+    gather-requires-2
+    same-length
+    same-length-2
+    same-length-3
+    same-length-4
+    returns)

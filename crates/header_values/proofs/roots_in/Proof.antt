@@ -1,0 +1,67 @@
+-- `roots_in` meets its contract: the roots lie over the front of the list.
+use borrow.Author.Needs.{needs}
+use Rattle.header_values.proofs.Filled.{roots-given, roots-none}
+use Rattle.header_values.specs.Values.{spans}
+use Rattle.header_values.proofs.roots_in.Statement.{statement}
+use Rattle.header_values.proofs.roots_in.Tie as tie
+
+span-in-requires : tie.Need-span-in-requires
+span-in-requires c κs = search needs
+
+sub-parse-edge-list : tie.Need-sub-parse-edge-list
+sub-parse-edge-list c = search needs
+
+part-parse-edge-list-start : tie.Need-part-parse-edge-list-start
+part-parse-edge-list-start c = search needs
+
+part-parse-edge-list-end : tie.Need-part-parse-edge-list-end
+part-parse-edge-list-end c = search needs
+
+parse-edge-list-requires : tie.Need-parse-edge-list-requires
+parse-edge-list-requires c κs = search needs
+
+enum-known-n : tie.Need-enum-known-n
+enum-known-n c = search needs
+
+enum-told : tie.Need-enum-told
+enum-told c = search needs
+
+same-length : tie.Need-same-length
+same-length c = search needs
+
+returns : tie.Need-returns
+returns c =
+    let read = c .before .before .before in
+    let span = read .before .before .before in
+    let s = span .before .before .before .before in
+    roots-none (s .args .f .now) (spans (s .args .starts .now) (s .args .ends .now)) (span .span-in .result) (span .span-in .ensures .0)
+    (rw (c .enum-told .given .1) at (read .parse-edge-list .ensures .0))
+
+same-length-2 : tie.Need-same-length-2
+same-length-2 c = search needs
+
+returns-2 : tie.Need-returns-2
+returns-2 c =
+    let known = c .before in
+    let read = known .before .before .before in
+    let span = read .before .before .before in
+    let s = span .before .before .before .before in
+    let p = read .parse-edge-list .ensures in
+    roots-given (s .args .f .now) (spans (s .args .starts .now) (s .args .ends .now)) (span .span-in .result) (span .span-in .ensures .0)
+    (s .args .dst .now) (s .pre .1) (p .1) (rw (known .n .given .1) at (p .0))
+
+pub roots-in-spec : {M : Type 1} → statement M
+roots-in-spec =
+    tie.close
+    (tie.spec
+    span-in-requires
+    sub-parse-edge-list
+    part-parse-edge-list-start
+    part-parse-edge-list-end
+    parse-edge-list-requires
+    enum-known-n
+    enum-told
+    same-length
+    returns
+    same-length-2
+    returns-2)

@@ -1,0 +1,21 @@
+-- The definitions compute to what document 01 and the Rust write.
+use mathlib.Core.Path.{_≡_, refl}
+use Rattle.edges.specs.Edge.{minus}
+use Rattle.seats.specs.Seats.{seatOf}
+use Rattle.writers.specs.Decimal.{digits, decimal, edgeText}
+use Rattle.writers.specs.Words.{spaced}
+use Rattle.heading.specs.Lines.{linesText}
+use Rattle.heading.specs.Heading.{idsFrom, permidsOf, variablesFrom, chosen, namedLines, introLines, countLines, idLines, rootLines, headLines, headText}
+use Rattle.heading.specs.Examples.{bytesFrom, example, exampleText, other, otherText, bare, bareText}
+
+pub example-text : headText example ≡ exampleText
+unfolding minus seatOf digits decimal edgeText spaced linesText idsFrom permidsOf variablesFrom chosen namedLines introLines countLines idLines rootLines headLines headText bytesFrom
+example-text = refl
+
+pub other-text : headText other ≡ otherText
+unfolding minus seatOf digits decimal edgeText spaced linesText idsFrom permidsOf variablesFrom chosen namedLines introLines countLines idLines rootLines headLines headText bytesFrom
+other-text = refl
+
+pub bare-text : headText bare ≡ bareText
+unfolding minus seatOf digits decimal edgeText spaced linesText idsFrom permidsOf variablesFrom chosen namedLines introLines countLines idLines rootLines headLines headText bytesFrom
+bare-text = refl

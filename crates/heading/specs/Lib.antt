@@ -1,0 +1,5 @@
+pub mod Examples
+pub mod Heading
+pub mod Lines
+pub mod Small
+pub mod Tables

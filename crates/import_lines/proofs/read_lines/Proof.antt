@@ -1,0 +1,313 @@
+-- `read_lines` meets its contract: each turn of the loop reads one line and makes it into the store; the lines left are fewer each time.
+use mathlib.Core.Path.{_≡_, refl, sym, _∙_}
+use Prim.Native.Nat.{_+_, _-_}
+use native.Mathlib.Omega.{arith}
+use borrow.Author.Needs.{needs}
+use mir.Syntax.{w16}
+use mir.Val.{toZ, ofZ}
+use mir.ValLaws.{toZ-ofZ}
+use lib.ListN.{length, take}
+use Rattle.store.specs.Store.{store}
+use Rattle.nodes.specs.Known.{Known}
+use Rattle.imported.specs.Build.{edgeFor, Inner}
+use Rattle.import_steps.specs.Kinds.{ofSetup}
+use Rattle.import_lines.proofs.Progress.{Progress, progress-start, edges-length, seats-length, edges-room, seats-room, edges-slot, seats-slot}
+use Rattle.import_lines.proofs.Progress.{progress-edges, child-back, progress-terminal, progress-makes, progress-inner, progress-full, progress-refused, progress-all}
+use Rattle.import_lines.proofs.Progress.{then-same, els-same, next-same, heads-same}
+use Rattle.imported.proofs.Reading.{line-judged}
+use Rattle.import_lines.proofs.read_lines.Statement.{statement}
+use Rattle.import_lines.proofs.read_lines.Tie as tie
+
+abbrev Inv-loop : tie.InvT-loop
+Inv-loop f from u list levels count₀ level₀ then₀ els₀ next₀ heads₀ edges₀ seats₀ index₀ width n₀ at₀ count level then els next heads edges seats index n at =
+    Progress (ofSetup u list levels) (store levels count₀ level₀ then₀ els₀ next₀ heads₀) f from (length edges₀) (length seats₀)
+    (store levels count level then els next heads) edges seats n at
+    × (Known width (store levels count level then els next heads) index × (length index ≡ length index₀))
+
+abbrev μ-loop : tie.MeasureT-loop
+μ-loop f from u list levels count₀ level₀ then₀ els₀ next₀ heads₀ edges₀ seats₀ index₀ width n₀ at₀ count level then els next heads edges seats index n at = u .nnodes - n
+
+loop-holds : tie.Need-loop-holds Inv-loop μ-loop
+loop-holds c = let s = c .before .before .before .before .before .before .before in (progress-start _ _ _ _ _ _ (s .pre .rules) (s .pre .levels-fit) (s .pre .bounds .edges-long) (s .pre .bounds .seats-long), (s .pre .known, refl))
+
+cast-i : tie.Need-cast-i Inv-loop μ-loop
+cast-i c = omega (arith, c .if1 .taken, c .before .before .before .before .before .before .before .before .before .before .pre .bounds .nodes)
+
+add-line : tie.Need-add-line Inv-loop μ-loop
+add-line c = omega (arith, c .if1 .taken, c .before .before .before .before .before .before .before .before .before .before .pre .bounds .nodes)
+
+slice-reshare-prefix-line-at : tie.Need-slice-reshare-prefix-line-at Inv-loop μ-loop
+slice-reshare-prefix-line-at c = seats-room _ _ _ _ _ _ _ _ _ _ _ (c .before .before .loop .inv .0)
+
+slice-aggregate-line-at : tie.Need-slice-aggregate-line-at Inv-loop μ-loop
+slice-aggregate-line-at c = sym (seats-length _ _ _ _ _ _ _ _ _ _ _ (c .before .before .before .loop .inv .0))
+
+line-at-requires : tie.Need-line-at-requires Inv-loop μ-loop
+line-at-requires c κs = (omega (arith, c .before .if1 .taken, c .before .before .before .before .before .before .before .before .before .before .before .pre .bounds .nodes), c .before .before .before .before .before .before .before .before .before .before .before .pre .bounds .few-levels)
+
+enum-known-after : tie.Need-enum-known-after Inv-loop μ-loop
+enum-known-after c = search needs
+
+mul-edges : tie.Need-mul-edges Inv-loop μ-loop
+mul-edges c = omega (arith, c .before .before .before .before .before .if1 .taken, c .before .before .before .before .before .before .before .before .before .before .before .before .before .before .before .pre .bounds .nodes)
+
+slice-set-of-edges : tie.Need-slice-set-of-edges Inv-loop μ-loop
+slice-set-of-edges c = edges-slot _ _ _ _ _ _ _ _ _ _ _ (c .before .before .before .before .before .before .before .loop .inv .0) (c .before .before .before .before .before .if1 .taken)
+
+mul-seats : tie.Need-mul-seats Inv-loop μ-loop
+mul-seats c = omega (arith, c .before .before .before .before .before .if1 .taken, c .before .before .before .before .before .before .before .before .before .before .before .before .before .before .before .pre .bounds .nodes)
+
+slice-write-seats : tie.Need-slice-write-seats Inv-loop μ-loop
+slice-write-seats c = seats-slot _ _ _ _ _ _ _ _ _ _ _ (c .before .before .before .before .before .before .before .loop .inv .0) (c .before .before .before .before .before .if1 .taken)
+
+loop-less : tie.Need-loop-less Inv-loop μ-loop
+loop-less c = omega (arith, c .before .before .before .before .before .if1 .taken)
+
+loop-again : tie.Need-loop-again Inv-loop μ-loop
+loop-again c = (progress-terminal _ _ _ _ _ _ _ _ _ _ _ (c .before .before .before .before .before .before .before .loop .inv .0) (c .before .before .before .before .before .if1 .taken) _ (rw (c .before .after .given .1) at (c .before .before .before .line-at .ensures)), c .before .before .before .before .before .before .before .loop .inv .1)
+
+enum-known-p : tie.Need-enum-known-p Inv-loop μ-loop
+enum-known-p c = search needs
+
+-- an inner line that was read has passed its checks
+judged : (c : tie.After-known-told2 Inv-loop μ-loop)
+    → Inner (c .before .before .before .before .before .before .before .before .before .before .before .before .before .before .before .args .list .now) (take (c .before .before .before .before .before .before .before .loop .n) (c .before .before .before .before .before .before .before .loop .seats)) (c .before .before .before .before .before .before .before .loop .n + 1)
+    (c .before .p .given .0 .0) (c .before .p .given .0 .1 .0) (c .before .p .given .0 .1 .1 .0)
+judged c =
+    line-judged _ _ _ _ _ _ _ _ (sym (rw (c .before .p .given .1) at (c .before .before .before .line-at .ensures)))
+
+slice-reshare-prefix-edge-for : tie.Need-slice-reshare-prefix-edge-for Inv-loop μ-loop
+slice-reshare-prefix-edge-for c = edges-room _ _ _ _ _ _ _ _ _ _ _ (c .before .before .before .before .before .before .before .loop .inv .0)
+
+slice-aggregate-edge-for : tie.Need-slice-aggregate-edge-for Inv-loop μ-loop
+slice-aggregate-edge-for c = sym (edges-length _ _ _ _ _ _ _ _ _ _ _ (c .before .before .before .before .before .before .before .before .loop .inv .0))
+
+edge-for-requires : tie.Need-edge-for-requires Inv-loop μ-loop
+edge-for-requires c κs = (progress-edges _ _ _ _ _ _ _ _ _ _ _ (c .before .before .before .before .before .before .before .before .loop .inv .0), rw (toZ-ofZ w16 (c .before .before .p .given .0 .1 .0) (record { sfits = c .before .known-told2 .given .1 .0 .1 })) (judged (c .before) .then .some))
+
+slice-reshare-prefix-edge-for-2 : tie.Need-slice-reshare-prefix-edge-for-2 Inv-loop μ-loop
+slice-reshare-prefix-edge-for-2 c = edges-room _ _ _ _ _ _ _ _ _ _ _ (c .before .before .before .before .before .before .before .before .before .loop .inv .0)
+
+slice-aggregate-edge-for-2 : tie.Need-slice-aggregate-edge-for-2 Inv-loop μ-loop
+slice-aggregate-edge-for-2 c = sym (edges-length _ _ _ _ _ _ _ _ _ _ _ (c .before .before .before .before .before .before .before .before .before .before .loop .inv .0))
+
+edge-for-requires-2 : tie.Need-edge-for-requires-2 Inv-loop μ-loop
+edge-for-requires-2 c κs = (progress-edges _ _ _ _ _ _ _ _ _ _ _ (c .before .before .before .before .before .before .before .before .before .before .loop .inv .0), rw (toZ-ofZ w16 (c .before .before .before .before .p .given .0 .1 .1 .0) (record { sfits = c .before .before .before .known-told2 .given .1 .1 .0 .1 })) (judged (c .before .before .before) .els .some))
+
+cast-l : tie.Need-cast-l Inv-loop μ-loop
+cast-l c = search needs
+
+mul-l : tie.Need-mul-l Inv-loop μ-loop
+mul-l c = search needs
+
+shared-slice-read-l : tie.Need-shared-slice-read-l Inv-loop μ-loop
+shared-slice-read-l c = judged (c .before .before .before .before .before) .position
+
+-- the edges of its two children
+then-read : (c : tie.After-edge-for2 Inv-loop μ-loop)
+    → toZ w16 (ofZ w16 (c .before .before .edge-for .result)) ≡ edgeFor (take (c .before .before .before .before .before .before .before .before .before .before .before .loop .n) (c .before .before .before .before .before .before .before .before .before .before .before .loop .edges)) (c .before .before .before .before .before .p .given .0 .1 .0)
+then-read c = child-back _ _ _ _ _ _ _ _ _ _ _ (c .before .before .before .before .before .before .before .before .before .before .before .loop .inv .0) (c .before .before .before .before .before .before .before .before .before .if1 .taken) _ _ (judged (c .before .before .before .before) .then)
+    (record { sfits = c .before .before .before .before .known-told2 .given .1 .0 .1 }) _ (c .before .before .edge-for .ensures)
+
+els-read : (c : tie.After-edge-for2 Inv-loop μ-loop)
+    → toZ w16 (ofZ w16 (c .edge-for2 .result)) ≡ edgeFor (take (c .before .before .before .before .before .before .before .before .before .before .before .loop .n) (c .before .before .before .before .before .before .before .before .before .before .before .loop .edges)) (c .before .before .before .before .before .p .given .0 .1 .1 .0)
+els-read c = child-back _ _ _ _ _ _ _ _ _ _ _ (c .before .before .before .before .before .before .before .before .before .before .before .loop .inv .0) (c .before .before .before .before .before .before .before .before .before .if1 .taken) _ _ (judged (c .before .before .before .before) .els)
+    (record { sfits = c .before .before .before .before .known-told2 .given .1 .1 .0 .1 }) _ (c .edge-for2 .ensures)
+
+make-requires : tie.Need-make-requires Inv-loop μ-loop
+make-requires c κs = record {
+  rules = c .before .before .before .before .before .before .before .before .before .before .before .before .before .before .before .before .before .before .before .loop .inv .0 .rules;
+  children = progress-makes _ _ _ _ _ _ _ _ _ _ _ (c .before .before .before .before .before .before .before .before .before .before .before .before .before .before .before .before .before .before .before .loop .inv .0) (c .before .before .before .before .before .before .before .before .before .before .before .before .before .before .before .before .before .if1 .taken) _ _ _ (judged (c .before .before .before .before .before .before .before .before .before .before .before .before)) _ _ (then-read (c .before .before .before .before .before .before .before .before)) (els-read (c .before .before .before .before .before .before .before .before));
+  known = c .before .before .before .before .before .before .before .before .before .before .before .before .before .before .before .before .before .before .before .loop .inv .1 .0;
+}
+
+enum-known-made : tie.Need-enum-known-made Inv-loop μ-loop
+enum-known-made c = search needs
+
+mul-made : tie.Need-mul-made Inv-loop μ-loop
+mul-made c = omega (arith, c .before .before .before .before .before .before .before .before .before .before .before .before .before .before .before .before .before .before .before .before .before .before .before .before .before .before .before .before .before .before .before .if1 .taken, c .before .before .before .before .before .before .before .before .before .before .before .before .before .before .before .before .before .before .before .before .before .before .before .before .before .before .before .before .before .before .before .before .before .before .before .before .before .before .before .before .before .pre .bounds .nodes)
+
+slice-set-from-made : tie.Need-slice-set-from-made Inv-loop μ-loop
+slice-set-from-made c = edges-slot _ _ _ _ _ _ _ _ _ _ _ (c .before .before .before .before .before .before .before .before .before .before .before .before .before .before .before .before .before .before .before .before .before .before .before .before .before .before .before .before .before .before .before .before .before .loop .inv .0) (c .before .before .before .before .before .before .before .before .before .before .before .before .before .before .before .before .before .before .before .before .before .before .before .before .before .before .before .before .before .before .before .if1 .taken)
+
+add-seats : tie.Need-add-seats Inv-loop μ-loop
+add-seats c = omega (arith, judged (c .before .before .before .before .before .before .before .before .before .before .before .before .before .before .before .before .before .before .before .before .before .before .before .before .before .before) .position, c .before .before .before .before .before .before .before .before .before .before .before .before .before .before .before .before .before .before .before .before .before .before .before .before .before .before .before .before .before .before .before .before .before .before .before .before .before .before .before .before .before .pre .bounds .few-levels)
+
+mul-seats-2 : tie.Need-mul-seats-2 Inv-loop μ-loop
+mul-seats-2 c = omega (arith, c .before .before .before .before .before .before .before .before .before .before .before .before .before .before .before .before .before .before .before .before .before .before .before .before .before .before .before .before .before .before .before .if1 .taken, c .before .before .before .before .before .before .before .before .before .before .before .before .before .before .before .before .before .before .before .before .before .before .before .before .before .before .before .before .before .before .before .before .before .before .before .before .before .before .before .before .before .pre .bounds .nodes)
+
+slice-write-seats-2 : tie.Need-slice-write-seats-2 Inv-loop μ-loop
+slice-write-seats-2 c = seats-slot _ _ _ _ _ _ _ _ _ _ _ (c .before .before .before .before .before .before .before .before .before .before .before .before .before .before .before .before .before .before .before .before .before .before .before .before .before .before .before .before .before .before .before .before .before .loop .inv .0) (c .before .before .before .before .before .before .before .before .before .before .before .before .before .before .before .before .before .before .before .before .before .before .before .before .before .before .before .before .before .before .before .if1 .taken)
+
+loop-less-2 : tie.Need-loop-less-2 Inv-loop μ-loop
+loop-less-2 c = omega (arith, c .before .before .before .before .before .before .before .before .before .before .before .before .before .before .before .before .before .before .before .before .before .before .before .before .before .before .before .before .before .before .before .if1 .taken)
+
+loop-again-2 : tie.Need-loop-again-2 Inv-loop μ-loop
+loop-again-2 c = (rw (toZ-ofZ w16 (c .before .made .given .0 .0) (record { sfits = c .known-told3 .given .0 .1 })) (progress-inner _ _ _ _ _ _ _ _ _ _ _ (c .before .before .before .before .before .before .before .before .before .before .before .before .before .before .before .before .before .before .before .before .before .before .before .before .before .before .before .before .before .before .before .before .before .loop .inv .0) (c .before .before .before .before .before .before .before .before .before .before .before .before .before .before .before .before .before .before .before .before .before .before .before .before .before .before .before .before .before .before .before .if1 .taken) _ _ _ (judged (c .before .before .before .before .before .before .before .before .before .before .before .before .before .before .before .before .before .before .before .before .before .before .before .before .before .before)) _ _ (then-read (c .before .before .before .before .before .before .before .before .before .before .before .before .before .before .before .before .before .before .before .before .before .before)) (els-read (c .before .before .before .before .before .before .before .before .before .before .before .before .before .before .before .before .before .before .before .before .before .before)) _ (rw (c .before .before .before .before .before .before .before .before .before .before .before .before .before .before .before .before .before .before .before .before .before .before .before .before .before .before .before .p .given .1) at (c .before .before .before .before .before .before .before .before .before .before .before .before .before .before .before .before .before .before .before .before .before .before .before .before .before .before .before .before .before .line-at .ensures)) _ (c .before .before .before .before .before .before .before .before .before .before .before .before .before .make .ensures .store) _ (rw (c .before .made .given .1) at (c .before .before .before .before .before .before .before .before .before .before .before .before .before .make .ensures .answer))), (c .before .before .before .before .before .before .before .before .before .before .before .before .before .make .ensures .known, c .before .before .before .before .before .before .before .before .before .before .before .before .before .make .kept .1 .1 .1 .1 .1 .1 .1 .0 ∙ c .before .before .before .before .before .before .before .before .before .before .before .before .before .before .before .before .before .before .before .before .before .before .before .before .before .before .before .before .before .before .before .before .before .loop .inv .1 .1))
+
+enum-told : tie.Need-enum-told Inv-loop μ-loop
+enum-told c = search needs
+
+same-length : tie.Need-same-length Inv-loop μ-loop
+same-length c = c .before .before .before .before .before .before .before .before .before .before .before .before .make .kept .1 .1 .0 ∙ c .before .before .before .before .before .before .before .before .before .before .before .before .before .before .before .before .before .before .before .before .before .before .before .before .before .before .before .before .before .before .before .before .loop .inv .0 .slots
+
+same-length-2 : tie.Need-same-length-2 Inv-loop μ-loop
+same-length-2 c = c .before .before .before .before .before .before .before .before .before .before .before .before .make .kept .1 .1 .1 .0 ∙ then-same _ _ _ _ _ _ _ _ _ _ _ (c .before .before .before .before .before .before .before .before .before .before .before .before .before .before .before .before .before .before .before .before .before .before .before .before .before .before .before .before .before .before .before .before .loop .inv .0) (c .before .before .before .before .before .before .before .before .before .before .before .before .before .before .before .before .before .before .before .before .before .before .before .before .before .before .before .before .before .before .before .before .before .before .before .before .before .before .before .before .pre .rules)
+
+same-length-3 : tie.Need-same-length-3 Inv-loop μ-loop
+same-length-3 c = c .before .before .before .before .before .before .before .before .before .before .before .before .make .kept .1 .1 .1 .1 .0 ∙ els-same _ _ _ _ _ _ _ _ _ _ _ (c .before .before .before .before .before .before .before .before .before .before .before .before .before .before .before .before .before .before .before .before .before .before .before .before .before .before .before .before .before .before .before .before .loop .inv .0) (c .before .before .before .before .before .before .before .before .before .before .before .before .before .before .before .before .before .before .before .before .before .before .before .before .before .before .before .before .before .before .before .before .before .before .before .before .before .before .before .before .pre .rules)
+
+same-length-4 : tie.Need-same-length-4 Inv-loop μ-loop
+same-length-4 c = c .before .before .before .before .before .before .before .before .before .before .before .before .make .kept .1 .1 .1 .1 .1 .0 ∙ next-same _ _ _ _ _ _ _ _ _ _ _ (c .before .before .before .before .before .before .before .before .before .before .before .before .before .before .before .before .before .before .before .before .before .before .before .before .before .before .before .before .before .before .before .before .loop .inv .0) (c .before .before .before .before .before .before .before .before .before .before .before .before .before .before .before .before .before .before .before .before .before .before .before .before .before .before .before .before .before .before .before .before .before .before .before .before .before .before .before .before .pre .rules)
+
+same-length-5 : tie.Need-same-length-5 Inv-loop μ-loop
+same-length-5 c = c .before .before .before .before .before .before .before .before .before .before .before .before .make .kept .1 .1 .1 .1 .1 .1 .0 ∙ heads-same _ _ _ _ _ _ _ _ _ _ _ (c .before .before .before .before .before .before .before .before .before .before .before .before .before .before .before .before .before .before .before .before .before .before .before .before .before .before .before .before .before .before .before .before .loop .inv .0) (c .before .before .before .before .before .before .before .before .before .before .before .before .before .before .before .before .before .before .before .before .before .before .before .before .before .before .before .before .before .before .before .before .before .before .before .before .before .before .before .before .pre .rules)
+
+same-length-6 : tie.Need-same-length-6 Inv-loop μ-loop
+same-length-6 c = c .before .before .before .before .before .before .before .before .before .before .before .before .before .before .before .before .before .before .before .before .before .before .before .before .before .before .before .before .before .before .before .before .loop .inv .0 .edges-same
+
+same-length-7 : tie.Need-same-length-7 Inv-loop μ-loop
+same-length-7 c = c .before .before .before .before .before .before .before .before .before .before .before .before .before .before .before .before .before .before .before .before .before .before .before .before .before .before .before .before .before .before .before .before .loop .inv .0 .seats-same
+
+same-length-8 : tie.Need-same-length-8 Inv-loop μ-loop
+same-length-8 c = c .before .before .before .before .before .before .before .before .before .before .before .before .make .kept .1 .1 .1 .1 .1 .1 .1 .0 ∙ c .before .before .before .before .before .before .before .before .before .before .before .before .before .before .before .before .before .before .before .before .before .before .before .before .before .before .before .before .before .before .before .before .loop .inv .1 .1
+
+returns : tie.Need-returns Inv-loop μ-loop
+returns c = let p = progress-full _ _ _ _ _ _ _ _ _ _ _ (c .before .before .before .before .before .before .before .before .before .before .before .before .before .before .before .before .before .before .before .before .before .before .before .before .before .before .before .before .before .before .before .before .loop .inv .0) (c .before .before .before .before .before .before .before .before .before .before .before .before .before .before .before .before .before .before .before .before .before .before .before .before .before .before .before .before .before .before .if1 .taken) _ _ _ (judged (c .before .before .before .before .before .before .before .before .before .before .before .before .before .before .before .before .before .before .before .before .before .before .before .before .before)) _ _ (then-read (c .before .before .before .before .before .before .before .before .before .before .before .before .before .before .before .before .before .before .before .before .before)) (els-read (c .before .before .before .before .before .before .before .before .before .before .before .before .before .before .before .before .before .before .before .before .before)) _ (rw (c .before .before .before .before .before .before .before .before .before .before .before .before .before .before .before .before .before .before .before .before .before .before .before .before .before .before .p .given .1) at (c .before .before .before .before .before .before .before .before .before .before .before .before .before .before .before .before .before .before .before .before .before .before .before .before .before .before .before .before .line-at .ensures)) _ (c .before .before .before .before .before .before .before .before .before .before .before .before .make .ensures .store) (rw (c .enum-told .given .1) at (c .before .before .before .before .before .before .before .before .before .before .before .before .make .ensures .answer)) in record { answer = p .0; store = p .1 .0; laid = p .1 .1 }
+
+enum-known-k : tie.Need-enum-known-k Inv-loop μ-loop
+enum-known-k c = search needs
+
+cast-line-for : tie.Need-cast-line-for Inv-loop μ-loop
+cast-line-for c = omega (arith, c .before .before .before .before .before .if1 .taken, c .before .before .before .before .before .before .before .before .before .before .before .before .before .before .before .pre .bounds .nodes)
+
+add-line-for : tie.Need-add-line-for Inv-loop μ-loop
+add-line-for c = omega (arith, c .before .before .before .before .before .before .if1 .taken, c .before .before .before .before .before .before .before .before .before .before .before .before .before .before .before .before .pre .bounds .nodes, c .before .before .before .before .before .before .before .before .before .before .before .before .before .before .before .before .pre .bounds .few-lines)
+
+line-for-requires : tie.Need-line-for-requires Inv-loop μ-loop
+line-for-requires c κs = search needs
+
+same-length-9 : tie.Need-same-length-9 Inv-loop μ-loop
+same-length-9 c = c .before .before .before .before .before .before .before .before .before .loop .inv .0 .slots
+
+same-length-10 : tie.Need-same-length-10 Inv-loop μ-loop
+same-length-10 c = then-same _ _ _ _ _ _ _ _ _ _ _ (c .before .before .before .before .before .before .before .before .before .loop .inv .0) (c .before .before .before .before .before .before .before .before .before .before .before .before .before .before .before .before .before .pre .rules)
+
+same-length-11 : tie.Need-same-length-11 Inv-loop μ-loop
+same-length-11 c = els-same _ _ _ _ _ _ _ _ _ _ _ (c .before .before .before .before .before .before .before .before .before .loop .inv .0) (c .before .before .before .before .before .before .before .before .before .before .before .before .before .before .before .before .before .pre .rules)
+
+same-length-12 : tie.Need-same-length-12 Inv-loop μ-loop
+same-length-12 c = next-same _ _ _ _ _ _ _ _ _ _ _ (c .before .before .before .before .before .before .before .before .before .loop .inv .0) (c .before .before .before .before .before .before .before .before .before .before .before .before .before .before .before .before .before .pre .rules)
+
+same-length-13 : tie.Need-same-length-13 Inv-loop μ-loop
+same-length-13 c = heads-same _ _ _ _ _ _ _ _ _ _ _ (c .before .before .before .before .before .before .before .before .before .loop .inv .0) (c .before .before .before .before .before .before .before .before .before .before .before .before .before .before .before .before .before .pre .rules)
+
+same-length-14 : tie.Need-same-length-14 Inv-loop μ-loop
+same-length-14 c = c .before .before .before .before .before .before .before .before .before .loop .inv .0 .edges-same
+
+same-length-15 : tie.Need-same-length-15 Inv-loop μ-loop
+same-length-15 c = c .before .before .before .before .before .before .before .before .before .loop .inv .0 .seats-same
+
+same-length-16 : tie.Need-same-length-16 Inv-loop μ-loop
+same-length-16 c = c .before .before .before .before .before .before .before .before .before .loop .inv .1 .1
+
+returns-2 : tie.Need-returns-2 Inv-loop μ-loop
+returns-2 c = let p = progress-refused _ _ _ _ _ _ _ _ _ _ _ (c .before .before .before .before .before .before .before .before .before .loop .inv .0) (c .before .before .before .before .before .before .before .if1 .taken) _ (rw (c .before .before .before .k .given .1) at (c .before .before .before .before .before .line-at .ensures)) _ (c .line-for .ensures) in record { answer = p .0; store = p .1 .0; laid = p .1 .1 }
+
+same-length-17 : tie.Need-same-length-17 Inv-loop μ-loop
+same-length-17 c = c .before .before .loop .inv .0 .slots
+
+same-length-18 : tie.Need-same-length-18 Inv-loop μ-loop
+same-length-18 c = then-same _ _ _ _ _ _ _ _ _ _ _ (c .before .before .loop .inv .0) (c .before .before .before .before .before .before .before .before .before .before .pre .rules)
+
+same-length-19 : tie.Need-same-length-19 Inv-loop μ-loop
+same-length-19 c = els-same _ _ _ _ _ _ _ _ _ _ _ (c .before .before .loop .inv .0) (c .before .before .before .before .before .before .before .before .before .before .pre .rules)
+
+same-length-20 : tie.Need-same-length-20 Inv-loop μ-loop
+same-length-20 c = next-same _ _ _ _ _ _ _ _ _ _ _ (c .before .before .loop .inv .0) (c .before .before .before .before .before .before .before .before .before .before .pre .rules)
+
+same-length-21 : tie.Need-same-length-21 Inv-loop μ-loop
+same-length-21 c = heads-same _ _ _ _ _ _ _ _ _ _ _ (c .before .before .loop .inv .0) (c .before .before .before .before .before .before .before .before .before .before .pre .rules)
+
+same-length-22 : tie.Need-same-length-22 Inv-loop μ-loop
+same-length-22 c = c .before .before .loop .inv .0 .edges-same
+
+same-length-23 : tie.Need-same-length-23 Inv-loop μ-loop
+same-length-23 c = c .before .before .loop .inv .0 .seats-same
+
+same-length-24 : tie.Need-same-length-24 Inv-loop μ-loop
+same-length-24 c = c .before .before .loop .inv .1 .1
+
+returns-3 : tie.Need-returns-3 Inv-loop μ-loop
+returns-3 c = let p = progress-all _ _ _ _ _ _ _ _ _ _ _ (c .before .before .loop .inv .0) (c .if1 .left) in record { answer = p .0; store = p .1 .0; laid = p .1 .1 }
+
+pub read-lines-spec : {M : Type 1} → statement M
+read-lines-spec =
+    tie.close
+    (tie.spec
+    Inv-loop
+    μ-loop
+    loop-holds
+    cast-i
+    add-line
+    slice-reshare-prefix-line-at
+    slice-aggregate-line-at
+    line-at-requires
+    enum-known-after
+    mul-edges
+    slice-set-of-edges
+    mul-seats
+    slice-write-seats
+    loop-less
+    loop-again
+    enum-known-p
+    slice-reshare-prefix-edge-for
+    slice-aggregate-edge-for
+    edge-for-requires
+    slice-reshare-prefix-edge-for-2
+    slice-aggregate-edge-for-2
+    edge-for-requires-2
+    cast-l
+    mul-l
+    shared-slice-read-l
+    make-requires
+    enum-known-made
+    mul-made
+    slice-set-from-made
+    add-seats
+    mul-seats-2
+    slice-write-seats-2
+    loop-less-2
+    loop-again-2
+    enum-told
+    same-length
+    same-length-2
+    same-length-3
+    same-length-4
+    same-length-5
+    same-length-6
+    same-length-7
+    same-length-8
+    returns
+    enum-known-k
+    cast-line-for
+    add-line-for
+    line-for-requires
+    same-length-9
+    same-length-10
+    same-length-11
+    same-length-12
+    same-length-13
+    same-length-14
+    same-length-15
+    same-length-16
+    returns-2
+    same-length-17
+    same-length-18
+    same-length-19
+    same-length-20
+    same-length-21
+    same-length-22
+    same-length-23
+    same-length-24
+    returns-3)

@@ -1,0 +1,3 @@
+pub mod FileEnd
+pub mod Mapped
+pub mod RootsPut

@@ -1,0 +1,189 @@
+-- The theorem of acceptance: the nodes of a file are read exactly where all lines can be read, the file ends well, and the store has room;
+-- and then each root answers in the store what the file's own lines say. Document 01, 'Node lines' and 'Whoever filled the store'.
+use mathlib.Core.Path.{_≡_, refl, sym, ap, subst, _∙_}
+use mathlib.Core.Logic.{_⊎_, inl, inr, _↔_}
+use mathlib.Core.Bool.{Bool, true, false, cond}
+use mathlib.Core.List.{List, [], map}
+use Prim.Native.Nat.{ℕ, _+_, _≤_, _<_}
+use native.Mathlib.Omega.{arith}
+use native.Mathlib.Decide.{decLt}
+use borrow.Author.Tests.{eq-eqb, ne-eqb}
+use lib.ListN.{length, getD, List·getD-map, length-map}
+use lib.IntN.{ℤ, pos, natAbs}
+use Rattle.codes.specs.Answer.{Read, value, refused}
+use Rattle.codes.specs.Limits.{nodeLimit}
+use Rattle.store.specs.Store.{Store}
+use Rattle.store.specs.Rules.{limits, Rules}
+use Rattle.store.specs.Growth.{Grows}
+use Rattle.node_lines.specs.Decode.{End, allRead, stopped}
+use Rattle.import_bin.specs.Bin.{binLineAt}
+use Rattle.imported.specs.Build.{LevelsOf, edgeFor, countNeeded}
+use Rattle.imported.specs.Import.{Setup, lineBy, lineAt, linesIn, Answer, nodes, refusal, lineFor, answerBy, builtFrom, linesAnswer}
+use Rattle.imported.specs.Import.{endsWell, withEnd, edgesOf, rootEdge, rootsBy, isRead, Imported, importOf}
+use Rattle.imported.specs.Acceptance.{Room, Crowded, Accepts, Leaves}
+use Rattle.imported.proofs.Building.{build-40}
+use Rattle.imported.proofs.Room.{build-room, build-count}
+use Rattle.imported.proofs.Refusals.{bin-refusal, decoded-stopped}
+use Rattle.imported.proofs.Settling.{lines-count, AllIn, answer-all, all-answer, lines-built}
+
+-- room, or too little of it
+room-or : (n slots : ℕ) → (n ≤ slots → n ≤ nodeLimit → ⊥) → (slots < n) ⊎ (nodeLimit < n)
+room-or n slots h = go (decLt slots n) (decLt nodeLimit n)
+  where
+    go : Dec (slots < n) → Dec (nodeLimit < n) → (slots < n) ⊎ (nodeLimit < n)
+    go (yes p) d = inl p
+    go (no p) (yes q) = inr q
+    go (no p) (no q) = absurd (h (omega arith) (omega arith))
+
+-- a line's own refusal isn't 40 at line 0: a binary line has none from 40 on, and a text line's is at a line from 1 on
+stopped-40 : (u : Setup) (k n : ℕ) → (u .ascii ≡ false → k < 40) → 1 ≤ n
+    → refusal k (lineFor (u .ascii) (u .lines + n) k) ≡ refusal 40 0 → ⊥
+stopped-40 u k n h p q = go (u .ascii) h q
+  where
+    go : (b : Bool) → (b ≡ false → k < 40) → refusal k (lineFor b (u .lines + n) k) ≡ refusal 40 0 → ⊥
+    go true h q =
+        let a : k ≡ 40 = cc in
+        let b : lineFor true (u .lines + n) k ≡ 0 = cc in
+        let c : lineFor true (u .lines + n) 40 ≡ 0 = ap (lineFor true (u .lines + n)) (sym a) ∙ b in
+        omega (arith, c)
+    go false h q = let a : k ≡ 40 = cc in omega (arith, h refl)
+
+-- the reader of a binary file
+bin-line : (u : Setup) (f seats : List ℕ) (n at : ℕ) → u .ascii ≡ false
+    → lineAt u f seats n at ≡ binLineAt (u .levels) (u .list) seats n f at
+unfolding lineBy
+bin-line u f seats n at e = rw e
+
+-- where a line is refused
+lines-stopped : (u : Setup) (f : List ℕ) (at k n : ℕ) → linesIn u f at .end ≡ stopped k n → (u .ascii ≡ false → k < 40) × (1 ≤ n)
+unfolding linesIn
+lines-stopped u f at k n q =
+    decoded-stopped (lineAt u f) (λ (r : ℕ). u .ascii ≡ false → r < 40)
+    (λ seats i from r x e. bin-refusal (u .levels) (u .list) seats i f from r (sym (bin-line u f seats i from e) ∙ x))
+    (u .nnodes) [] 1 at k n q
+
+module _ (u : Setup) (σ : Store) (f : List ℕ) (at : ℕ) (ids : List ℤ) (R : Rules limits σ) (W : LevelsOf σ (u .list)) where
+  -- the answer, taken apart
+  accepted-all : (next : ℕ) → importOf u σ f at ids .answer ≡ nodes next → AllIn f (linesIn u f at .end) (builtFrom u σ f at .answer) next
+  unfolding importOf linesAnswer
+  accepted-all next q = answer-all u f (linesIn u f at .end) (builtFrom u σ f at .answer) next q
+
+  all-accepted : (next : ℕ) → AllIn f (linesIn u f at .end) (builtFrom u σ f at .answer) next → importOf u σ f at ids .answer ≡ nodes next
+  unfolding importOf linesAnswer
+  all-accepted next A = all-answer u f (linesIn u f at .end) (builtFrom u σ f at .answer) next A
+
+  -- lines that have room are made
+  room-made : Room (u .list) σ (linesIn u f at .lines) → (edges : List ℤ) × (builtFrom u σ f at .answer ≡ value edges)
+  room-made r = build-room limits (u .list) σ (linesIn u f at .lines) (R .sizes) .1 (r .slots, r .limit)
+
+  made-room : (edges : List ℤ) → builtFrom u σ f at .answer ≡ value edges → Room (u .list) σ (linesIn u f at .lines)
+  made-room edges q =
+      let w = build-room limits (u .list) σ (linesIn u f at .lines) (R .sizes) .0 (edges, q) in record { slots = w .0; limit = w .1 }
+
+  -- Where the conditions hold the nodes are read, up to their position.
+  pub accepted-next : (A : Accepts u σ f at) → importOf u σ f at ids .answer ≡ nodes (A .next)
+  accepted-next A =
+      let w = room-made (A .room) in
+      all-accepted (A .next) (record { edges = w .0; made = w .1; lines = A .lines; end = A .end })
+
+  -- The nodes of a file are read exactly where its lines can be read, the file ends well and the store has room.
+  pub accepted : ((next : ℕ) × (importOf u σ f at ids .answer ≡ nodes next)) ↔ Accepts u σ f at
+  accepted = (
+    λ p. let A = accepted-all (p .0) (p .1) in
+        record { next = p .0; lines = A .lines; end = A .end; room = made-room (A .edges) (A .made) },
+    λ A. (A .next, accepted-next A),
+  )
+
+  -- what is left where the nodes are read
+  read-after : (next : ℕ) → importOf u σ f at ids .answer ≡ nodes next → importOf u σ f at ids .after ≡ builtFrom u σ f at .after
+  unfolding importOf
+  read-after next q = ap (λ (a : Answer). cond (isRead a) (builtFrom u σ f at .after) σ) q
+
+  read-roots : (next : ℕ) (edges : List ℤ) → importOf u σ f at ids .answer ≡ nodes next → builtFrom u σ f at .answer ≡ value edges
+      → importOf u σ f at ids .roots ≡ map (rootEdge edges) ids
+  unfolding importOf
+  read-roots next edges q e =
+      ap (λ (a : Answer). rootsBy (isRead a) (edgesOf (builtFrom u σ f at .answer)) ids) q
+      ∙ ap (λ (x : Read (List ℤ)). map (rootEdge (edgesOf x)) ids) e
+
+  -- an entry of the roots
+  root-at : (edges : List ℤ) (i : ℕ) → getD (map (rootEdge edges) ids) i (pos 0) ≡ rootEdge edges (getD ids i (pos 0))
+  root-at edges i = List·getD-map (rootEdge edges) ids i (pos 0)
+
+  -- a root that is used
+  root-used : (edges : List ℤ) (c : ℤ) → 1 ≤ natAbs c → rootEdge edges c ≡ edgeFor edges c
+  root-used edges c h = ap (λ (b : Bool). cond b (pos 0) (edgeFor edges c)) (ne-eqb (natAbs c) 0 (λ q. omega arith))
+
+  root-unused : (edges : List ℤ) (c : ℤ) → natAbs c ≡ 0 → rootEdge edges c ≡ pos 0
+  root-unused edges c h = ap (λ (b : Bool). cond b (pos 0) (edgeFor edges c)) (eq-eqb (natAbs c) 0 h)
+
+  -- what the lines made leave
+  made-leaves : (edges : List ℤ) (r : Imported) → builtFrom u σ f at .answer ≡ value edges → length (linesIn u f at .lines) ≡ u .nnodes
+      → r .after ≡ builtFrom u σ f at .after → r .roots ≡ map (rootEdge edges) ids → Leaves u σ f at ids r
+  made-leaves edges r m n a q =
+      let B = lines-built u σ f at R W in
+      let T = B .roots edges m in
+      record {
+        rules = subst (Rules limits) (sym a) (B .rules);
+        grows = subst (Grows σ) (sym a) (B .grows);
+        slots = ap (λ (s : Store). length (s .level)) a ∙ B .long;
+        count = ap (λ (s : Store). s .count) a ∙ build-count limits (u .list) σ (linesIn u f at .lines) (R .sizes) edges m;
+        as-many = ap length q ∙ length-map ids (rootEdge edges);
+        root = λ i h k.
+            let c : ℤ = getD ids i (pos 0) in
+            let e : getD (r .roots) i (pos 0) ≡ edgeFor edges c =
+            ap (λ (l : List ℤ). getD l i (pos 0)) q ∙ root-at edges i ∙ root-used edges c h in
+            rw (a, e) (record { edge = T .edge c h (omega arith); agrees = T .agrees c h (omega arith) });
+        unused = λ i h. ap (λ (l : List ℤ). getD l i (pos 0)) q ∙ root-at edges i ∙ root-unused edges (getD ids i (pos 0)) h;
+      }
+
+  -- Where they are read each root answers what the file's own lines say, and the store keeps the rules and has only grown.
+  pub roots-say : (next : ℕ) → importOf u σ f at ids .answer ≡ nodes next → Leaves u σ f at ids (importOf u σ f at ids)
+  roots-say next q =
+      let A = accepted-all next q in
+      made-leaves (A .edges) (importOf u σ f at ids) (A .made) (lines-count u f at next (A .lines)) (read-after next q)
+      (read-roots next (A .edges) q (A .made))
+
+  -- an answer of 40 is the store's own
+  forty-built : (x : Read (List ℤ)) (e : End) → linesIn u f at .end ≡ e → withEnd f (answerBy u e x) ≡ refusal 40 0
+      → (k : ℕ) × (x ≡ refused k)
+  forty-built (refused k) e p q = (k, refl)
+  forty-built (value edges) (stopped k n) p q = let w = lines-stopped u f at k n p in absurd (stopped-40 u k n (w .0) (w .1) q)
+  forty-built (value edges) (allRead next) p q = absurd (go (endsWell f next) q)
+    where
+      go : (b : Bool) → cond b (nodes next) (refusal 39 0) ≡ refusal 40 0 → ⊥
+      go true q = let z : _≡_ {A = ℕ} 0 1 = cc in omega arith
+      go false q = let z : _≡_ {A = ℕ} 39 40 = cc in omega arith
+
+  forty-refused : importOf u σ f at ids .answer ≡ refusal 40 0 → (k : ℕ) × (builtFrom u σ f at .answer ≡ refused k)
+  unfolding importOf linesAnswer
+  forty-refused q = forty-built (builtFrom u σ f at .answer) (linesIn u f at .end) refl q
+
+  refused-forty : (k : ℕ) → builtFrom u σ f at .answer ≡ refused k → importOf u σ f at ids .answer ≡ refusal 40 0
+  unfolding importOf linesAnswer
+  refused-forty k q =
+      ap (λ (x : Read (List ℤ)). withEnd f (answerBy u (linesIn u f at .end) x)) q
+      ∙ ap (λ (n : ℕ). refusal n 0) (build-40 limits (u .list) σ (linesIn u f at .lines) k q)
+
+  -- lines that are too many aren't made
+  crowded-refused : Crowded (u .list) σ (linesIn u f at .lines) → (x : Read (List ℤ)) → builtFrom u σ f at .answer ≡ x
+      → (k : ℕ) × (x ≡ refused k)
+  crowded-refused c (refused k) q = (k, refl)
+  crowded-refused c (value edges) q = absurd (go (made-room edges q) c)
+    where
+      go : Room (u .list) σ (linesIn u f at .lines) → Crowded (u .list) σ (linesIn u f at .lines) → ⊥
+      go r (inl h) = omega (arith, r .slots)
+      go r (inr h) = omega (arith, r .limit)
+
+  -- Refusal 40: exactly where the lines, as far as they can be read, need more than the slots lent or 32,767.
+  pub refused-40 : (importOf u σ f at ids .answer ≡ refusal 40 0) ↔ Crowded (u .list) σ (linesIn u f at .lines)
+  refused-40 = (
+    λ q.
+        let k = forty-refused q in
+        room-or (countNeeded (u .list) σ (linesIn u f at .lines)) (length (σ .level))
+        (λ h j. both (k .0) (k .1) (room-made (record { slots = h; limit = j }))),
+    λ c. let k = crowded-refused c (builtFrom u σ f at .answer) refl in refused-forty (k .0) (k .1),
+  )
+    where
+      both : (k : ℕ) → builtFrom u σ f at .answer ≡ refused k → (edges : List ℤ) × (builtFrom u σ f at .answer ≡ value edges) → ⊥
+      both k q w = let e = w .1 in let z : _≡_ {A = ℕ} 0 1 = cc in omega arith

@@ -1,0 +1,10 @@
+pub mod Acceptance
+pub mod Building
+pub mod ChildEdge
+pub mod Decoded
+pub mod Modes
+pub mod Reading
+pub mod Refusals
+pub mod Room
+pub mod SaysAs
+pub mod Settling

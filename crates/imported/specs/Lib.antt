@@ -1,0 +1,3 @@
+pub mod Acceptance
+pub mod Build
+pub mod Import

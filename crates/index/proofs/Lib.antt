@@ -1,5 +1,0 @@
-pub mod Holding
-pub mod Mixed
-pub mod Seeking
-pub mod More
-pub mod Built

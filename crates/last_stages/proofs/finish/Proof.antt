@@ -1,0 +1,107 @@
+-- `finish` meets its contract: each list is cleared where the answer is a refusal, and its length is kept.
+use Rattle.stages.proofs.StageLaws.{as-told}
+use Rattle.last_stages.proofs.finish.Statement.{statement}
+use Rattle.last_stages.proofs.finish.Tie as tie
+
+is-refusal-requires : tie.Need-is-refusal-requires
+is-refusal-requires c κs = tt
+
+clear-if-requires : tie.Need-clear-if-requires
+clear-if-requires c κs = tt
+
+clear-if-requires-2 : tie.Need-clear-if-requires-2
+clear-if-requires-2 c κs = tt
+
+clear-if-requires-3 : tie.Need-clear-if-requires-3
+clear-if-requires-3 c κs = tt
+
+clear-if-requires-4 : tie.Need-clear-if-requires-4
+clear-if-requires-4 c κs = tt
+
+clear-if-requires-5 : tie.Need-clear-if-requires-5
+clear-if-requires-5 c κs = tt
+
+clear-if-requires-6 : tie.Need-clear-if-requires-6
+clear-if-requires-6 c κs = tt
+
+clear-if-requires-7 : tie.Need-clear-if-requires-7
+clear-if-requires-7 c κs = tt
+
+clear-if-requires-8 : tie.Need-clear-if-requires-8
+clear-if-requires-8 c κs = tt
+
+same-length : tie.Need-same-length
+same-length c = c .before .before .before .before .before .before .before .before .before .before .before .before .before .before .before .before .before .before .before .before .before .before .before .before .before .before .before .before .before .before .clear-if .kept .1 .0
+
+same-length-2 : tie.Need-same-length-2
+same-length-2 c = c .before .before .before .before .before .before .before .before .before .before .before .before .before .before .before .before .before .before .before .before .before .before .before .before .before .before .clear-if2 .kept .1 .0
+
+same-length-3 : tie.Need-same-length-3
+same-length-3 c = c .before .before .before .before .before .before .before .before .before .before .before .before .before .before .before .before .before .before .before .before .before .before .clear-if3 .kept .1 .0
+
+same-length-4 : tie.Need-same-length-4
+same-length-4 c = c .before .before .before .before .before .before .before .before .before .before .before .before .before .before .before .before .before .before .clear-if4 .kept .1 .0
+
+same-length-5 : tie.Need-same-length-5
+same-length-5 c = c .before .before .before .before .before .before .before .before .before .before .before .before .before .before .clear-if5 .kept .1 .0
+
+same-length-6 : tie.Need-same-length-6
+same-length-6 c = c .before .before .before .before .before .before .before .before .before .before .clear-if6 .kept .1 .0
+
+same-length-7 : tie.Need-same-length-7
+same-length-7 c = c .before .before .before .before .before .before .clear-if7 .kept .1 .0
+
+same-length-8 : tie.Need-same-length-8
+same-length-8 c = c .before .before .clear-if8 .kept .1 .0
+
+-- is the answer a refusal?, seen from the end
+abbrev told : tie.After-slice-known16 → tie.After-is-refusal
+told c = c .before .before .before .before .before .before .before .before .before .before .before .before .before .before .before .before .before .before .before .before .before .before .before .before .before .before .before .before .before .before .before .before
+
+returns : tie.Need-returns
+returns c =
+    let e = told c .is-refusal .ensures in (
+      as-told _ e (c .before .before .before .before .before .before .before .before .before .before .before .before .before .before .before .before .before .before .before .before .before .before .before .before .before .before .before .before .before .before .clear-if .ensures),
+      (
+        as-told _ e (c .before .before .before .before .before .before .before .before .before .before .before .before .before .before .before .before .before .before .before .before .before .before .before .before .before .before .clear-if2 .ensures),
+        (
+          as-told _ e (c .before .before .before .before .before .before .before .before .before .before .before .before .before .before .before .before .before .before .before .before .before .before .clear-if3 .ensures),
+          (
+            as-told _ e (c .before .before .before .before .before .before .before .before .before .before .before .before .before .before .before .before .before .before .clear-if4 .ensures),
+            (
+              as-told _ e (c .before .before .before .before .before .before .before .before .before .before .before .before .before .before .clear-if5 .ensures),
+              (
+                as-told _ e (c .before .before .before .before .before .before .before .before .before .before .clear-if6 .ensures),
+                (
+                  as-told _ e (c .before .before .before .before .before .before .clear-if7 .ensures),
+                  as-told _ e (c .before .before .clear-if8 .ensures),
+                ),
+              ),
+            ),
+          ),
+        ),
+      ),
+    )
+
+pub finish-spec : {M : Type 1} → statement M
+finish-spec =
+    tie.close
+    (tie.spec
+    is-refusal-requires
+    clear-if-requires
+    clear-if-requires-2
+    clear-if-requires-3
+    clear-if-requires-4
+    clear-if-requires-5
+    clear-if-requires-6
+    clear-if-requires-7
+    clear-if-requires-8
+    same-length
+    same-length-2
+    same-length-3
+    same-length-4
+    same-length-5
+    same-length-6
+    same-length-7
+    same-length-8
+    returns)

@@ -1,0 +1,24 @@
+-- What reading the nodes of a load promises.
+use Prim.Native.Nat.{ℕ}
+use mathlib.Core.Path.{_≡_}
+use mathlib.Core.List.{List}
+use lib.ListN.{length, replicate}
+use lib.IntN.{ℤ, pos}
+use Rattle.store.specs.Lent.{Part, old, new, oldStore, newStore}
+use Rattle.header.specs.declared.Loaded.{Loaded}
+use Rattle.header.specs.Kinds.{ofLoaded}
+use Rattle.stages.specs.Stages.{Noded, nodesAfter}
+
+module _ (ready : Loaded) (f : Part (List ℕ)) (levels : ℕ) (list : Part (List ℕ)) (count : Part ℕ) (level : Part (List ℕ)) (then els : Part (List ℤ))
+    (next heads : Part (List ℕ)) (roots edges : Part (List ℤ)) (seats : Part (List ℕ)) where
+  -- 'nodes, 39', after the answer so far
+  abbrev noded : Noded
+  noded = nodesAfter (ofLoaded ready) (oldStore levels (old count) level then els next heads) (old f) (old list) (old roots)
+
+  -- 'On any refusal outputs are all zeros and the store is unchanged; .. Scratch ends as zeros.'
+  pub record LoadNodesPromise (r : Loaded) : Type 0 where
+    pub answer : ofLoaded r ≡ noded .answer
+    pub store : newStore levels (new count) level then els next heads ≡ noded .after
+    pub roots-left : new roots ≡ noded .roots
+    pub edges-left : new edges ≡ replicate (length (old edges)) (pos 0)
+    pub seats-left : new seats ≡ replicate (length (old seats)) 0

@@ -1,4 +1,0 @@
-pub mod Line
-pub mod Decode
-pub mod Says
-pub mod Kinds

@@ -1,3 +1,0 @@
-pub mod Opposite
-pub mod Placed
-pub mod Knowing

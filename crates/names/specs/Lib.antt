@@ -1,3 +1,0 @@
-pub mod Order
-pub mod Names
-pub mod Size

@@ -1,0 +1,4 @@
+pub mod Decode
+pub mod Kinds
+pub mod Line
+pub mod Says

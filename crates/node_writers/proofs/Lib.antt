@@ -1,0 +1,4 @@
+pub mod LineBytes
+pub mod LineCodes
+pub mod LineLengths
+pub mod Parts

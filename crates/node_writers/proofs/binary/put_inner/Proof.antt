@@ -1,0 +1,117 @@
+-- `put_inner` meets its contract: the byte of the codes, and the number after each of them.
+use mathlib.Core.Path.{_≡_, ap, _∙_}
+use mathlib.Core.List.{List}
+use Prim.Native.Nat.{ℕ}
+use borrow.Author.Needs.{needs}
+use native.Mathlib.Omega.{arith}
+use lib.ListN.{length}
+use lib.IntN.{natAbs}
+use mir.Facts.{toZ-ofZ}
+use Rattle.edges.specs.Edge.{minus}
+use Rattle.node_writers.specs.Encoded.{innerBytes}
+use Rattle.node_writers.proofs.Parts.{joined, total, length-joined, none, then, wrote-all}
+use Rattle.node_writers.proofs.LineBytes.{innerParts, bytes-inner}
+use Rattle.node_writers.proofs.binary.put_inner.Statement.{statement}
+use Rattle.node_writers.proofs.binary.put_inner.Tie as tie
+
+-- the numbers that the calls gave are the children's
+then-is : (c : tie.After-magnitude) → c .magnitude .result ≡ natAbs (c .before .before .args .t)
+then-is c = c .magnitude .ensures ∙ ap natAbs (toZ-ofZ (c .before .before .fits .t))
+
+else-is : (c : tie.After-magnitude2) → c .magnitude2 .result ≡ natAbs (c .before .before .before .args .e)
+else-is c = c .magnitude2 .ensures ∙ ap natAbs (toZ-ofZ (c .before .before .before .fits .e))
+
+-- the parts of the line
+abbrev parts : tie.After-node-code → List (List ℕ)
+parts c =
+    let s = c .before .before .before .before .before .before .before .before in
+    innerParts (s .args .n) (s .args .p) (s .args .seat) (c .before .before .before .before .before .before .magnitude .result) (c .before .before .before .before .before .magnitude2 .result)
+    (c .before .before .before .before .variable-code .result) (c .before .before .before .child-code .result) (c .before .before .child-code2 .result) (c .node-code .result)
+
+line : (c : tie.After-node-code) → let a = c .before .before .before .before .before .before .before .before .args in innerBytes (a .n) (a .p) (a .t) (a .e) (a .seat) ≡ joined (parts c)
+line c =
+    let s = c .before .before .before .before .before .before .before .before in
+    bytes-inner (s .args .n) (s .args .p) (s .args .seat) (c .before .before .before .before .before .before .magnitude .result) (c .before .before .before .before .before .magnitude2 .result)
+    (c .before .before .before .before .variable-code .result) (c .before .before .before .child-code .result) (c .before .before .child-code2 .result) (c .node-code .result)
+    (s .args .t) (s .args .e) (c .before .is-minus .result) (then-is (c .before .before .before .before .before .before)) (else-is (c .before .before .before .before .before))
+    (c .before .before .before .before .variable-code .ensures) (c .before .before .before .child-code .ensures) (c .before .before .child-code2 .ensures)
+    (c .before .is-minus .ensures ∙ ap minus (toZ-ofZ (s .fits .e))) (c .node-code .ensures)
+
+long : (c : tie.After-node-code) → let a = c .before .before .before .before .before .before .before .before .args in length (innerBytes (a .n) (a .p) (a .t) (a .e) (a .seat)) ≡ total (parts c)
+long c = rw (line c) (length-joined (parts c))
+
+magnitude-requires : tie.Need-magnitude-requires
+magnitude-requires c κs = search needs
+
+magnitude-requires-2 : tie.Need-magnitude-requires-2
+magnitude-requires-2 c κs = search needs
+
+variable-code-requires : tie.Need-variable-code-requires
+variable-code-requires c κs = search needs
+
+child-code-requires : tie.Need-child-code-requires
+child-code-requires c κs = omega (arith, then-is (c .before .before))
+
+child-code-requires-2 : tie.Need-child-code-requires-2
+child-code-requires-2 c κs = omega (arith, else-is (c .before .before))
+
+is-minus-requires : tie.Need-is-minus-requires
+is-minus-requires c κs = search needs
+
+node-code-requires : tie.Need-node-code-requires
+node-code-requires c κs = search needs
+
+write-escaped-requires : tie.Need-write-escaped-requires
+write-escaped-requires c κs = omega (arith, long (c .before))
+
+distance-requires : tie.Need-distance-requires
+distance-requires c κs = search needs
+
+put-number-requires : tie.Need-put-number-requires
+put-number-requires c κs = rw (c .distance .ensures) (omega (arith, long (c .before .before .before .before .before .before)))
+
+sub-put-number : tie.Need-sub-put-number
+sub-put-number c = omega (arith, then-is (c .before .before .before .before .before .before .before .before .before .before .before .before .before .before .before .before), c .before .before .before .before .before .before .before .before .before .before .before .before .before .before .before .before .before .before .pre .0)
+
+put-number-requires-2 : tie.Need-put-number-requires-2
+put-number-requires-2 c κs =
+    let v = rw (c .before .before .before .before .distance .ensures) at (c .before .before .before .put-number .ensures) in
+    omega (arith, long (c .before .before .before .before .before .before .before .before .before .before))
+
+sub-put-number-2 : tie.Need-sub-put-number-2
+sub-put-number-2 c = omega (arith, else-is (c .before .before .before .before .before .before .before .before .before .before .before .before .before .before .before .before .before .before .before), c .before .before .before .before .before .before .before .before .before .before .before .before .before .before .before .before .before .before .before .before .before .before .pre .0)
+
+put-number-requires-3 : tie.Need-put-number-requires-3
+put-number-requires-3 c κs =
+    let v = rw (c .before .before .before .before .before .before .before .before .distance .ensures) at (c .before .before .before .before .before .before .before .put-number .ensures) in
+    omega (arith, long (c .before .before .before .before .before .before .before .before .before .before .before .before .before .before))
+
+same-length : tie.Need-same-length
+same-length c = search needs
+
+returns : tie.Need-returns
+returns c =
+    let v = rw (c .before .before .before .before .before .before .before .before .before .before .before .distance .ensures) at (c .before .before .before .before .before .before .before .before .before .before .put-number .ensures) in
+    rw (line (c .before .before .before .before .before .before .before .before .before .before .before .before .before .before .before .before .before))
+    (wrote-all (parts (c .before .before .before .before .before .before .before .before .before .before .before .before .before .before .before .before .before)) (then (c .before .before .before .before .before .before .before .before .before .before .before .before .before .before .before .write-escaped .ensures) (then v (then (c .before .before .before .before .before .before .put-number2 .ensures) (then (c .before .before .put-number3 .ensures) none)))))
+
+pub put-inner-spec : {M : Type 1} → statement M
+put-inner-spec =
+    tie.close
+    (tie.spec
+    magnitude-requires
+    magnitude-requires-2
+    variable-code-requires
+    child-code-requires
+    child-code-requires-2
+    is-minus-requires
+    node-code-requires
+    write-escaped-requires
+    distance-requires
+    put-number-requires
+    sub-put-number
+    put-number-requires-2
+    sub-put-number-2
+    put-number-requires-3
+    same-length
+    returns)

@@ -1,0 +1,53 @@
+-- `put_inner` meets its contract: the number, the support position, the two children and the line's end.
+use borrow.Author.Needs.{needs}
+use native.Mathlib.Omega.{arith}
+use mir.Facts.{toZ-ofZ}
+use mathlib.Core.Path.{_≡_}
+use lib.ListN.{length}
+use Rattle.node_lines.specs.Line.{inner}
+use Rattle.node_writers.specs.Encoded.{textBytes}
+use Rattle.node_writers.proofs.Parts.{total, none, then}
+use Rattle.node_writers.proofs.LineBytes.{textParts, length-text, wrote-text}
+use Rattle.node_writers.proofs.text.put_inner.Statement.{statement}
+use Rattle.node_writers.proofs.text.put_inner.Tie as tie
+
+-- the line's length
+long : (c : tie.Start) → let a = c .args in length (textBytes (a .n) (inner (a .p) (a .t) (a .e))) ≡ total (textParts (a .n) (a .p) (a .t) (a .e))
+long c = length-text (c .args .n) (c .args .p) (c .args .t) (c .args .e)
+
+put-decimal-requires : tie.Need-put-decimal-requires
+put-decimal-requires c κs = omega (arith, long (c .before .before))
+
+put-number-requires : tie.Need-put-number-requires
+put-number-requires c κs = omega (arith, long (c .before .before .before .before .before .before))
+
+put-edge-requires : tie.Need-put-edge-requires
+put-edge-requires c κs = let s = c .before .before .before .before .before .before .before .before .before .before in rw (toZ-ofZ (s .fits .t)) (omega (arith, long s))
+
+put-edge-requires-2 : tie.Need-put-edge-requires-2
+put-edge-requires-2 c κs =
+    let s = c .before .before .before .before .before .before .before .before .before .before .before .before .before .before in
+    let t = rw (toZ-ofZ (s .fits .t)) at (c .before .before .before .put-edge .ensures) in
+    rw (toZ-ofZ (s .fits .e)) (omega (arith, long s))
+
+put-byte-requires : tie.Need-put-byte-requires
+put-byte-requires c κs =
+    let s = c .before .before .before .before .before .before .before .before .before .before .before .before .before .before .before .before .before .before in
+    let t = rw (toZ-ofZ (s .fits .t)) at (c .before .before .before .before .before .before .before .put-edge .ensures) in
+    let e = rw (toZ-ofZ (s .fits .e)) at (c .before .before .before .put-edge2 .ensures) in
+    omega (arith, long s)
+
+same-length : tie.Need-same-length
+same-length c = search needs
+
+returns : tie.Need-returns
+returns c =
+    let s = c .before .before .before .before .before .before .before .before .before .before .before .before .before .before .before .before .before .before .before .before .before in
+    let t = rw (toZ-ofZ (s .fits .t)) at (c .before .before .before .before .before .before .before .before .before .before .put-edge .ensures) in
+    let e = rw (toZ-ofZ (s .fits .e)) at (c .before .before .before .before .before .before .put-edge2 .ensures) in
+    wrote-text (s .args .n) (s .args .p) (s .args .t) (s .args .e)
+    (then (c .before .before .before .before .before .before .before .before .before .before .before .before .before .before .before .before .before .before .put-decimal .ensures) (then (c .before .before .before .before .before .before .before .before .before .before .before .before .before .before .put-number .ensures) (then t (then e (then (c .before .before .put-byte .ensures) none)))))
+
+pub put-inner-spec : {M : Type 1} → statement M
+put-inner-spec =
+    tie.close (tie.spec put-decimal-requires put-number-requires put-edge-requires put-edge-requires-2 put-byte-requires same-length returns)

@@ -1,0 +1,18 @@
+-- `complement` meets its contract: an edge has an opposite, and both are read back as they are.
+use mir.Syntax.{w16}
+use mir.ValLaws.{toZ-ofZ}
+use Rattle.nodes.proofs.Opposite.{opposite, itself}
+use Rattle.nodes.proofs.complement.Statement.{statement}
+use Rattle.nodes.proofs.complement.Tie as tie
+
+negate-requires : tie.Need-negate-requires
+negate-requires c κs = rw (toZ-ofZ w16 (c .before .args .e) (c .before .fits .e)) (c .before .pre)
+
+returns : tie.Need-returns
+returns c = let s = c .before .before in opposite (s .args .minus) (s .args .e) (s .pre) _ (c .before .if1 .taken) (c .negate .ensures)
+
+returns-2 : tie.Need-returns-2
+returns-2 c = let s = c .before in itself (s .args .minus) (s .args .e) (s .pre) (c .if1 .left)
+
+pub complement-spec : {M : Type 1} → statement M
+complement-spec = tie.close (tie.spec negate-requires returns returns-2)

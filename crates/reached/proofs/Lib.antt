@@ -1,0 +1,11 @@
+pub mod Entries
+pub mod EntrySeats
+pub mod Few
+pub mod Laid
+pub mod Marks
+pub mod Meeting
+pub mod Members
+pub mod NodeWalk
+pub mod RootWalk
+pub mod Run
+pub mod WalkExamples

@@ -1,0 +1,90 @@
+-- A walk from root to root: the nodes that the first roots lead to lie over the front of a lent list.
+use mathlib.Core.Path.{_≡_, refl, ap, _∙_}
+use mathlib.Core.List.{List, [], _∷_, _++_}
+use Prim.Native.Nat.{ℕ, _+_, _≤_, _<_}
+use native.Mathlib.Omega.{arith}
+use native.Mathlib.Numerals.{add-one}
+use lib.ListN.{length, getD, take, replicate}
+use lib.Seq.{take-suc, take-all, getD-take, length-take-le}
+use lib.IntN.{ℤ, pos, natAbs}
+use Rattle.codes.proofs.Lent.{laid-none, length-laid}
+use Rattle.store.specs.Store.{Store}
+use Rattle.reached.specs.Walk.{meet, meetAll, Seen, Meets, Listed, Walks}
+use Rattle.reached.proofs.Marks.{marks-none}
+use Rattle.reached.proofs.Run.{meet-longer}
+use Rattle.reached.proofs.Meeting.{met-distinct, met-known, met-few}
+use Rattle.reached.proofs.NodeWalk.{listed-over, listed-front, meets}
+
+-- the nodes of the first i roots lie there
+pub record RootsMet (σ : Store) (roots : List ℤ) (old met marks : List ℕ) (at i : ℕ) : Type 0 where
+  pub within : i ≤ length roots
+  pub listed : Listed (meetAll σ [] (take i roots)) old at met marks
+
+-- none yet
+pub roots-start : (σ : Store) (roots : List ℤ) (old marks : List ℕ) → marks ≡ replicate (length marks) 0 → RootsMet σ roots old old marks 0 0
+unfolding meetAll
+roots-start σ roots old marks z =
+    record { within = omega arith; listed = record { many = refl; lies = laid-none old; marked = marks-none marks z } }
+
+-- the last root is met after the others
+meet-more : (σ : Store) (met : List ℕ) (roots : List ℤ) (r : ℤ) → meetAll σ met (roots ++ (r ∷ [])) ≡ meet σ (meetAll σ met roots) (natAbs r)
+unfolding meetAll
+meet-more σ met [] r = refl
+meet-more σ met (s ∷ roots) r = meet-more σ (meet σ met (natAbs s)) roots r
+
+module _ {σ : Store} {roots : List ℤ} {old met marks : List ℕ} {at i : ℕ} (s : RootsMet σ roots old met marks at i) where
+  -- the list keeps its length
+  pub roots-length : length met ≡ length old
+  roots-length = ap length (s .listed .lies) ∙ length-laid _ old
+
+  -- in the end all of them lie there
+  pub roots-end : length roots ≤ i → Listed (meetAll σ [] roots) old at met marks
+  roots-end h = rw (take-all i roots h) at (s .listed)
+
+  module _ {many : ℕ} (w : Walks σ roots (length old) many) (h : i < length roots) where
+    -- the first i roots can be walked by themselves
+    abbrev first : Walks σ (take i roots) (length old) many
+    first =
+        let l = length-take-le i roots (s .within) in
+        record {
+          below = w .below;
+          roots-there = λ j k. rw (getD-take i roots j (pos 0) (omega arith)) (w .roots-there j (omega arith));
+        }
+
+    -- their nodes are the nodes met so far ..
+    seen : Seen (w .below .count) (meetAll σ [] (take i roots)) marks
+    seen =
+        record {
+          known = met-known σ (take i roots) (length old) many first;
+          once = met-distinct σ (take i roots) (length old) many first;
+          marked = s .listed .marked;
+        }
+
+    -- .. no more than the store's ..
+    few-met : length (meetAll σ [] (take i roots)) ≤ w .below .count
+    few-met = met-few σ (take i roots) (length old) many first
+
+    -- .. as the list's front
+    front : take at met ≡ meetAll σ [] (take i roots)
+    front = let b = w .below in listed-front (s .listed) (omega (arith, few-met))
+
+    module _ {k : ℕ} (e : k ≡ natAbs (getD roots i (pos 0))) where
+      -- the walk may go on to the next root
+      pub roots-next : length marks ≡ many → Meets σ met marks at k
+      roots-next g =
+          let b = w .below in
+          let p = w .roots-there i h in
+          let l = roots-length in
+          meets b (omega arith) (omega arith) (omega (arith, s .listed .many, few-met)) (rw front seen) (omega arith)
+
+      -- and then its nodes lie there too
+      pub roots-more : {r : ℕ} {met' marks' : List ℕ} → Listed (meet σ (take at met) k) met r met' marks' → RootsMet σ roots old met' marks' r (i + 1)
+      roots-more l =
+          let b = w .below in
+          let p = w .roots-there i h in
+          record {
+            within = omega arith;
+            listed =
+                rw (add-one, take-suc roots i (pos 0), meet-more σ [] (take i roots) (getD roots i (pos 0)))
+                (listed-over (s .listed) (meet-longer σ (b .count) (b .descends) _ _ (p .0) (p .1)) (rw (front, e) at l));
+          }

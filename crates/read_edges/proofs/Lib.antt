@@ -1,0 +1,4 @@
+pub mod EdgeList
+pub mod EdgeSteps
+pub mod EdgeWords
+pub mod SignedEntries

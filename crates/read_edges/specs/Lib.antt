@@ -1,0 +1,4 @@
+pub mod EdgeWords
+pub mod Edges
+pub mod Kinds
+pub mod Signed

@@ -1,0 +1,4 @@
+pub mod Each
+pub mod Line
+pub mod Spaced
+pub mod Words

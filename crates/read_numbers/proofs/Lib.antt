@@ -1,0 +1,4 @@
+pub mod Digits
+pub mod Number
+pub mod Value
+pub mod Words

@@ -1,0 +1,4 @@
+pub mod Alike
+pub mod Encodings
+pub mod NameLists
+pub mod Texts

@@ -1,0 +1,2 @@
+pub mod NumberSeats
+pub mod Seating

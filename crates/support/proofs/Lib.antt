@@ -1,0 +1,4 @@
+pub mod Arranged
+pub mod Ascending
+pub mod Distinct
+pub mod SupportExamples

@@ -1,0 +1,5 @@
+pub mod Built
+pub mod Holding
+pub mod Mixed
+pub mod More
+pub mod Seeking

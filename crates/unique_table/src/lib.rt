@@ -1,0 +1,126 @@
+// An index of the nodes of a store: finding a node by its level, then and else takes a few steps, whatever the nodes are. Under each head
+// stands a tree whose nodes are those of the store; a search goes down by the bits of its key, of which there are 48.
+ghost use mathlib.Core.Path.{_≡_};
+ghost use mathlib.Core.Bool.{true};
+ghost use Prim.Native.Nat.{_+_, _*_, _^_, _≤_, _<_};
+ghost use lib.ListN.{length, replicate};
+ghost use Rattle.store.specs.Store.{slots};
+ghost use Rattle.store.specs.Keeps.{Decides};
+ghost use Rattle.store.specs.Make.{holds};
+ghost use Rattle.unique_table.specs.Index.{keyOf, headOf, Indexed, Sought, AllAlone};
+use edges::Edge;
+use edges::Index;
+
+// A small index, for so many nodes, that is cheap to clear: its heads, and with two entries for each node and for 0 its length.
+pub const FEW: usize = 511;
+
+pub const FEW_WIDTH: usize = 512;
+
+pub const FEW_LEN: usize = 1536;
+
+// An index for every store: 32,767 nodes.
+pub const WIDTH: usize = 16384;
+
+pub const LEN: usize = 81920;
+
+// All the bits of a level, a then and an else.
+fn key(l: u16, t: Edge, e: Edge) -> u64
+    ensures { λ r. ⌜ r ≡ keyOf l t e ⌝ }
+{
+    edges::pattern(e) as u64 + 65536 * edges::pattern(t) as u64 + 4294967296 * l as u64
+}
+
+// The head for them. The numbers that they are multiplied by are odd and have no pattern, so that nodes that differ little get heads far apart.
+fn head(width: usize, l: u16, t: Edge, e: Edge) -> usize
+    requires { ⌜ (1 ≤ width) × (width ≤ 2 ^ 16) ⌝ }
+    ensures { λ r. ⌜ r ≡ headOf width l t e ⌝ }
+{
+    let mixed = l as u64 * 2654435769
+        + edges::pattern(t) as u64 * 3144134277
+        + edges::pattern(e) as u64 * 2246822519;
+    let part = mixed / 65536 % 4294967296;
+    (part * width as u64 / 4294967296) as usize
+}
+
+// Does node n have this level, then and else? That is a matter of three lists only.
+fn holds_at(level: &[u16], then: &[Edge], els: &[Edge], l: u16, t: Edge, e: Edge, n: Index) -> bool
+    requires { ⌜ (1 ≤ n) × ((n ≤ length (now level)) × ((n ≤ length (now then)) × (n ≤ length (now els)))) ⌝ }
+    ensures { λ r. ⌜ r ≡ holds (slots (now (level .entry)) (now (then .entry)) (now (els .entry))) l t e n ⌝ }
+{
+    let i = (n - 1) as usize;
+    if level[i] == l {
+        let x = then[i];
+        if edges::same(x, t) {
+            let y = els[i];
+            edges::same(y, e)
+        } else {
+            false
+        }
+    } else {
+        false
+    }
+}
+
+// The entry of the node that has this level, then and else, or the empty entry where such a node belongs. `count` says how many nodes the
+// index knows.
+pub fn seek(
+    index: &[Index],
+    width: usize,
+    count: Index,
+    level: &[u16],
+    then: &[Edge],
+    els: &[Edge],
+    l: u16,
+    t: Edge,
+    e: Edge,
+) -> usize
+    requires { ⌜ Indexed width (slots (now level) (now then) (now els)) count (now index) ⌝ }
+    requires { ⌜ (count ≤ length (now level)) × ((count ≤ length (now then)) × (count ≤ length (now els))) ⌝ }
+    ensures { λ r. ⌜ Sought width (slots (now (level .entry)) (now (then .entry)) (now (els .entry))) count (now (index .entry)) l t e r ⌝ }
+{
+    let mut k = key(l, t, e);
+    let mut at = head(width, l, t, e);
+    let mut n = index[at];
+    while n != 0 {
+        if holds_at(level, then, els, l, t, e, n) {
+            return at;
+        }
+        at = width + 2 * n as usize + (k % 2) as usize;
+        k = k / 2;
+        n = index[at];
+    }
+    at
+}
+
+// Are no two of the nodes 2 to count alike? Each is sought among those before it, and put where its search ended; so the index is that of
+// all nodes where the answer is yes.
+pub fn distinct(
+    index: &mut [Index],
+    width: usize,
+    count: Index,
+    level: &[u16],
+    then: &[Edge],
+    els: &[Edge],
+) -> bool
+    requires { ⌜ now index ≡ replicate (length (now index)) 0 ⌝ }
+    requires { ⌜ (1 ≤ width) × (width ≤ 2 ^ 16) × (width + 2 * count + 2 ≤ length (now index)) ⌝ }
+    requires { ⌜ (1 ≤ count) × (count < 32768) ⌝ }
+    requires { ⌜ (count ≤ length (now level)) × ((count ≤ length (now then)) × (count ≤ length (now els))) ⌝ }
+    ensures { λ r. ⌜ Decides r (AllAlone (slots (now (level .entry)) (now (then .entry)) (now (els .entry))) count) ⌝ }
+    ensures { λ r. ⌜ (r ≡ true → Indexed width (slots (now (level .entry)) (now (then .entry)) (now (els .entry))) count (now (index .exit))) ⌝ }
+{
+    let mut n: Index = 2;
+    while n <= count {
+        let i = (n - 1) as usize;
+        let l = level[i];
+        let t = then[i];
+        let e = els[i];
+        let at = seek(index, width, n - 1, level, then, els, l, t, e);
+        if index[at] != 0 {
+            return false;
+        }
+        index[at] = n;
+        n += 1;
+    }
+    true
+}

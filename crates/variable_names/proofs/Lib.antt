@@ -1,0 +1,5 @@
+pub mod Alike
+pub mod Free
+pub mod Gathered
+pub mod NameExamples
+pub mod Placed

@@ -1,0 +1,52 @@
+-- `clear_seats` meets its contract. The invariant: the entries before i are zeros. The measure is what is left of the length.
+use Prim.Native.Nat.{_-_}
+use borrow.Author.Needs.{needs}
+use lib.ListN.{length}
+use Rattle.zeros.proofs.Cleared.{Cleared, cleared-start, cleared-more, cleared-end}
+use Rattle.zeros.proofs.clear_seats.Statement.{statement}
+use Rattle.zeros.proofs.clear_seats.Tie as tie
+
+abbrev Inv-loop : tie.InvT-loop
+Inv-loop seats₀ i₀ seats i = Cleared 0 seats₀ seats i
+
+abbrev μ-loop : tie.MeasureT-loop
+μ-loop seats₀ i₀ seats i = length seats₀ - i
+
+loop-holds : tie.Need-loop-holds Inv-loop μ-loop
+loop-holds c = cleared-start _ _
+
+mul-seats : tie.Need-mul-seats Inv-loop μ-loop
+mul-seats c = search needs
+
+slice-write-seats : tie.Need-slice-write-seats Inv-loop μ-loop
+slice-write-seats c = search needs
+
+add-i : tie.Need-add-i Inv-loop μ-loop
+add-i c = search needs
+
+loop-less : tie.Need-loop-less Inv-loop μ-loop
+loop-less c = search needs
+
+loop-again : tie.Need-loop-again Inv-loop μ-loop
+loop-again c = cleared-more (c .before .loop .inv)
+
+same-length : tie.Need-same-length Inv-loop μ-loop
+same-length c = c .before .loop .inv .long
+
+returns : tie.Need-returns Inv-loop μ-loop
+returns c = cleared-end (c .before .loop .inv) (c .loop-test .left)
+
+pub clear-seats-spec : {M : Type 1} → statement M
+clear-seats-spec =
+    tie.close
+    (tie.spec
+    Inv-loop
+    μ-loop
+    loop-holds
+    mul-seats
+    slice-write-seats
+    add-i
+    loop-less
+    loop-again
+    same-length
+    returns)

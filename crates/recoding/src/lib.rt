@@ -68,7 +68,7 @@ fn plan_levels(f: &[u8], list: &mut [u16]) -> Plan
     );
     match read {
         Loaded::Header(h) => {
-            let n = levels::level_list(&permids[..h.nsuppvars as usize], h.nvars, list);
+            let n = recode_levels::level_list(&permids[..h.nsuppvars as usize], h.nvars, list);
             Plan::Levels(h.nvars as u16, n)
         }
         Loaded::Refused(n, line) => Plan::Refused(n, line),
@@ -128,7 +128,7 @@ fn write_back(
         .ascii()
         .diagram_name(dd.start, dd.len);
     let mut order = [0u16; limits::VAR_LIMIT];
-    levels::variable_levels(ids, permids, h.nvars, &mut order);
+    recode_levels::variable_levels(ids, permids, h.nvars, &mut order);
     let named = passed_on(lens);
     let rooted = passed_on(rootlens);
     let mut slots = [0 as Index; SLOTS];

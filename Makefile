@@ -5,7 +5,7 @@
 # make round    builds the example in C, build/round, over that library
 # make bench    measures the library for C on generated files; ORACLE=DIR compares it with the Rust: see bench/run
 # make cases ORACLE=DIR
-#               makes the stored cases of the programs vectors_* again, with the Rust, and says whether they are those of the repository;
+#               makes the stored cases again, with the Rust, and says whether they are those of the repository;
 #               INSTALL=1 puts them in place: see tests/README.md
 # make differences ORACLE=DIR
 #               runs the inputs of docs/DIFFERENCES.md on the Rust

@@ -1,6 +1,7 @@
 # make recode FILE=PATH
 #               builds the program `recode` and runs it on a file: the file again, as text of version 2.0, or one line `refused N line M`
 # make test     the gate: proves, tries the must-fail edits, runs every test; its last line is 'N passed, 0 failed'
+# make costs    what the last run of the gate cost: the seconds of each crate and of its must-fail edits
 # make lib      proves the crate firmware, and puts the library for C and its header file into build/
 # make round    builds the example in C, build/round, over that library
 # make bench    measures the library for C on generated files; ORACLE=DIR compares it with the Rust: see bench/run
@@ -9,7 +10,7 @@
 #               INSTALL=1 puts them in place: see tests/README.md
 # make differences ORACLE=DIR
 #               runs the inputs of docs/DIFFERENCES.md on the Rust
-.PHONY: recode test lib round bench cases differences clean
+.PHONY: recode test costs lib round bench cases differences clean
 
 CFLAGS = -std=c99 -O2 -Wall -Wextra -pedantic
 
@@ -20,6 +21,9 @@ recode:
 
 test:
 	@tests/gate
+
+costs:
+	@tests/costs
 
 lib:
 	@rt staticlib firmware

@@ -94,3 +94,7 @@ module _ (c : Load) (σ : Store) where
         ap (withHeader c σ) (p .header-read)
         ∙ ap (withList c σ h) (p .unrefused)
         ∙ ap (withNodes c σ h (nodesOf c σ h)) (p .nodes-read)
+
+    -- so its roots are those that the nodes give
+    pub passes-roots : Passes c σ h → loadOf c σ .roots ≡ nodesOf c σ h .roots
+    passes-roots p = ap (λ r. r .roots) (passes-load p)

@@ -2,8 +2,10 @@
 // stretches that differ from the case before.
 ghost use Prim.Native.Nat.{_≤_};
 
-// Where each list starts: the level list at 0, then, else, next, which have room for as many slots, and the bucket heads.
 pub const SLOTS: usize = 32800;
+
+// Where each list starts: level, then, else and next, which have room for as many slots, and the bucket heads.
+pub const LEVEL: usize = 0;
 
 pub const THEN: usize = 32800;
 

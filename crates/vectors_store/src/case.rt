@@ -94,7 +94,7 @@ fn with_edges(head: &[u8; 23], lists: &[u16], then: &[i16], els: &[i16], setting
 fn with_els(head: &[u8; 23], lists: &[u16], then: &[i16], setting: &[u8]) -> bool {
     let n = length(head, 9);
     let end = change::ELS + n;
-    let mut els = [0i16; change::SLOTS];
+    let mut els = change::no_edges();
     if n <= els.len() && end <= lists.len() {
         change::to_edges(&lists[change::ELS..end], &mut els);
         return with_edges(head, lists, then, &els[..n], setting);
@@ -105,7 +105,7 @@ fn with_els(head: &[u8; 23], lists: &[u16], then: &[i16], setting: &[u8]) -> boo
 fn with_then(head: &[u8; 23], lists: &[u16], setting: &[u8]) -> bool {
     let n = length(head, 7);
     let end = change::THEN + n;
-    let mut then = [0i16; change::SLOTS];
+    let mut then = change::no_edges();
     if n <= then.len() && end <= lists.len() {
         change::to_edges(&lists[change::THEN..end], &mut then);
         return with_els(head, lists, &then[..n], setting);

@@ -73,57 +73,20 @@ fn agrees(
 }
 
 // Each list as long as the case has it lent.
-fn with_heads(
-    head: &[u8; 23],
-    lists: &[u16],
-    level: &[u16],
-    then: &[i16],
-    els: &[i16],
-    next: &[u16],
-    setting: &[u8],
-) -> bool {
-    let end = change::HEADS + length(head, 13);
-    if end <= lists.len() {
+fn with_edges(head: &[u8; 23], lists: &[u16], then: &[i16], els: &[i16], setting: &[u8]) -> bool {
+    let level = change::LEVEL + length(head, 5);
+    let next = change::NEXT + length(head, 11);
+    let heads = change::HEADS + length(head, 13);
+    if level <= lists.len() && next <= lists.len() && heads <= lists.len() {
         return agrees(
             head,
-            level,
+            &lists[change::LEVEL..level],
             then,
             els,
-            next,
-            &lists[change::HEADS..end],
+            &lists[change::NEXT..next],
+            &lists[change::HEADS..heads],
             setting,
         );
-    }
-    false
-}
-
-fn with_next(
-    head: &[u8; 23],
-    lists: &[u16],
-    level: &[u16],
-    then: &[i16],
-    els: &[i16],
-    setting: &[u8],
-) -> bool {
-    let end = change::NEXT + length(head, 11);
-    if end <= lists.len() {
-        return with_heads(
-            head,
-            lists,
-            level,
-            then,
-            els,
-            &lists[change::NEXT..end],
-            setting,
-        );
-    }
-    false
-}
-
-fn with_level(head: &[u8; 23], lists: &[u16], then: &[i16], els: &[i16], setting: &[u8]) -> bool {
-    let end = length(head, 5);
-    if end <= lists.len() {
-        return with_next(head, lists, &lists[..end], then, els, setting);
     }
     false
 }
@@ -131,10 +94,10 @@ fn with_level(head: &[u8; 23], lists: &[u16], then: &[i16], els: &[i16], setting
 fn with_els(head: &[u8; 23], lists: &[u16], then: &[i16], setting: &[u8]) -> bool {
     let n = length(head, 9);
     let end = change::ELS + n;
-    let mut els = [0i16; change::SLOTS];
+    let mut els = change::no_edges();
     if n <= els.len() && end <= lists.len() {
         change::to_edges(&lists[change::ELS..end], &mut els);
-        return with_level(head, lists, then, &els[..n], setting);
+        return with_edges(head, lists, then, &els[..n], setting);
     }
     false
 }
@@ -142,7 +105,7 @@ fn with_els(head: &[u8; 23], lists: &[u16], then: &[i16], setting: &[u8]) -> boo
 fn with_then(head: &[u8; 23], lists: &[u16], setting: &[u8]) -> bool {
     let n = length(head, 7);
     let end = change::THEN + n;
-    let mut then = [0i16; change::SLOTS];
+    let mut then = change::no_edges();
     if n <= then.len() && end <= lists.len() {
         change::to_edges(&lists[change::THEN..end], &mut then);
         return with_els(head, lists, &then[..n], setting);

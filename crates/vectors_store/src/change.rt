@@ -1,9 +1,13 @@
 // The lists of a store as they are kept from one case to the next, one after the other in one list of numbers: a case has only the
 // stretches that differ from the case before.
 ghost use Prim.Native.Nat.{_≤_};
+ghost use mathlib.Core.Path.{_≡_};
+ghost use lib.ListN.{length};
 
-// Where each list starts: the level list at 0, then, else, next, which have room for as many slots, and the bucket heads.
 pub const SLOTS: usize = 32800;
+
+// Where each list starts: level, then, else and next, which have room for as many slots, and the bucket heads.
+pub const LEVEL: usize = 0;
 
 pub const THEN: usize = 32800;
 
@@ -13,7 +17,27 @@ pub const NEXT: usize = 98400;
 
 pub const HEADS: usize = 131200;
 
-pub const ROOM: usize = 131500;
+const ROOM: usize = 131500;
+
+// Zeros for all lists, for the edges of one, and for the bytes of a stretch. The `ensures` give only the lengths: a function that has such an
+// array for a local of its own takes seconds to check.
+pub fn no_lists() -> [u16; ROOM]
+    ensures { λ r. ⌜ 131500 ≡ length r ⌝ }
+{
+    [0; ROOM]
+}
+
+pub fn no_edges() -> [i16; SLOTS]
+    ensures { λ r. ⌜ 32800 ≡ length r ⌝ }
+{
+    [0; SLOTS]
+}
+
+fn no_bytes() -> [u8; ROOM]
+    ensures { λ r. ⌜ 131500 ≡ length r ⌝ }
+{
+    [0; ROOM]
+}
 
 fn wide(b: u8) -> usize
     ensures { λ r. ⌜ r ≤ 255 ⌝ }
@@ -55,7 +79,7 @@ fn stretch(fd: i32, list: &mut [u16]) -> bool {
     }
     let start = replay::two(&head, 0) as usize + 65536 * wide(head[2]);
     let n = 2 * replay::two(&head, 3) as usize;
-    let mut bytes = [0u8; ROOM];
+    let mut bytes = no_bytes();
     let got = replay::fetch(fd, &mut bytes, n);
     got == n && put_from(&bytes[..got], list, start)
 }

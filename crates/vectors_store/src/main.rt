@@ -8,7 +8,7 @@ mod change;
 use replay::Tally;
 
 fn run(fd: i32) -> Tally {
-    let mut lists = [0u16; change::ROOM];
+    let mut lists = change::no_lists();
     let mut t = Tally::new();
     let mut left = replay::MOST;
     while left > 0 && !t.ended {

@@ -11,6 +11,9 @@ Inv-loop fd lists₀ t₀ left₀ lists t left = 131500 ≡ length lists
 abbrev μ-loop : tie.MeasureT-loop
 μ-loop fd lists₀ t₀ left₀ lists t left = left
 
+no-lists-requires : tie.Need-no-lists-requires Inv-loop μ-loop
+no-lists-requires c κs = search needs
+
 new-requires : tie.Need-new-requires Inv-loop μ-loop
 new-requires c κs = search needs
 
@@ -47,6 +50,7 @@ run-spec =
     (tie.spec
     Inv-loop
     μ-loop
+    no-lists-requires
     new-requires
     loop-holds
     slice-aggregate-one

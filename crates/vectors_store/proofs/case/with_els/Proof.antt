@@ -12,6 +12,9 @@ length-requires c κs = search needs
 add-end : tie.Need-add-end
 add-end c = search needs
 
+no-edges-requires : tie.Need-no-edges-requires
+no-edges-requires c κs = search needs
+
 sub-to-edges : tie.Need-sub-to-edges
 sub-to-edges c = search needs
 
@@ -30,11 +33,11 @@ to-edges-requires c κs = search needs
 array-share-prefix-els : tie.Need-array-share-prefix-els
 array-share-prefix-els c = search needs
 
-slice-aggregate-with-level : tie.Need-slice-aggregate-with-level
-slice-aggregate-with-level c = sym (length-take-le _ _ (omega (arith, c .before .before .to-edges .kept .1 .0, c .before .before .before .before .before .before .if1 .taken)))
+slice-aggregate-with-edges : tie.Need-slice-aggregate-with-edges
+slice-aggregate-with-edges c = sym (length-take-le _ _ (omega (arith, c .before .before .to-edges .kept .1 .0, c .before .before .before .before .before .before .if1 .taken)))
 
-with-level-requires : tie.Need-with-level-requires
-with-level-requires c κs = search needs
+with-edges-requires : tie.Need-with-edges-requires
+with-edges-requires c κs = search needs
 
 returns : tie.Need-returns
 returns c = search needs
@@ -48,13 +51,14 @@ with-els-spec =
     (tie.spec
     length-requires
     add-end
+    no-edges-requires
     sub-to-edges
     part-to-edges-start
     part-to-edges-end
     slice-aggregate-to-edges
     to-edges-requires
     array-share-prefix-els
-    slice-aggregate-with-level
-    with-level-requires
+    slice-aggregate-with-edges
+    with-edges-requires
     returns
     returns-2)

@@ -12,6 +12,9 @@ length-requires c κs = search needs
 add-end : tie.Need-add-end
 add-end c = search needs
 
+no-edges-requires : tie.Need-no-edges-requires
+no-edges-requires c κs = search needs
+
 sub-to-edges : tie.Need-sub-to-edges
 sub-to-edges c = search needs
 
@@ -48,6 +51,7 @@ with-then-spec =
     (tie.spec
     length-requires
     add-end
+    no-edges-requires
     sub-to-edges
     part-to-edges-start
     part-to-edges-end

@@ -61,7 +61,8 @@ pub record ExportPromise (settings : ExportSettings) (levels count : ℕ) (level
     (next heads : Part (List ℕ)) (roots : Part (List ℤ)) (order bytes starts lens rootstarts rootlens slots numbers out : Part (List ℕ))
     (r : Exported) : Type 0 where
   -- 'Export gives 1, 3, 4, 6, 5'; 'order inside a level is left open'
-  pub file : Exports (exporting (ofSettings settings) levels count level then els next heads roots order bytes starts lens rootstarts rootlens slots numbers out)
+  pub file : Exports
+      (exporting (ofSettings settings) levels count level then els next heads roots order bytes starts lens rootstarts rootlens slots numbers out)
       (oldStore levels count level then els next heads) r (new out)
   -- 'Scratch ends as zeros.'
   pub slots-left : new slots ≡ replicate (length (old slots)) 0

@@ -10,3 +10,5 @@ pub mod LoadsBack
 pub mod RootEntries
 pub mod RootsAnswer
 pub mod Starred
+pub mod Promised
+pub mod Functions

@@ -19,6 +19,11 @@ pub data Verdict : Type 0 where
   accepted : Verdict
   refusal : ℕ → ℕ → Verdict
 
+-- a verdict as C gets it, by number and line: zeros where nothing is refused
+abbrev pub Tells : ℕ → ℕ → Verdict → Type 0
+Tells n line accepted = (n ≡ 0) × (line ≡ 0)
+Tells n line (refusal k at) = (n ≡ k) × (line ≡ at)
+
 -- of a load
 abbrev pub ofAnswer : head.Answer → Verdict
 ofAnswer (head.header h) = accepted

@@ -5,3 +5,4 @@ pub mod Bytes
 pub mod Codes
 pub mod Limits
 pub mod Faults
+pub mod Texts

@@ -39,7 +39,7 @@ use Rattle.store.specs.Empty.{empty}
 use Rattle.store.proofs.Empty.{empty-keeps}
 use Rattle.header.specs.Header as head
 use Rattle.header.specs.Header.{tableOf, readOf, atLeast}
-use Rattle.header.specs.Examples.{bytesFrom, exampleLoaded}
+use Rattle.header.specs.Examples.{exampleLoaded}
 use Rattle.node_lines.specs.Line.{terminal, inner, deeper, childFault}
 use Rattle.node_lines.specs.Decode.{decodeFrom}
 use Rattle.node_lines.specs.Says.{saysBy, says}
@@ -77,11 +77,11 @@ bare-breaks =
 
 -- with one it is accepted
 bare-header : headerBy bare true .answer ≡ head.header bareHeader
-unfolding run isBlank isLineEnd isOf seek trim feedAt lineOf keyEnd fieldOf single judge u32List wordsFrom words edgeEnd edgeList isUtf8 nameList textAt alike lookup keyOf linesFrom linesOf endFrom endOf allOf lastFrom lastOf lasts ascending lastBelow idsFit allBelow distinct permidsFit rootsFault numberIn asciiIn varinfoIn ddIn u32sIn namesIn rootsIn agree firstFault numberFaults supportFaults nameCountFaults nameFaults rootFaults wholeFault tableOf readOf head.lengthFault atLeast head.listsFault head.loadOf bytesFrom
+unfolding run isBlank isLineEnd isOf seek trim feedAt lineOf keyEnd fieldOf single judge u32List wordsFrom words edgeEnd edgeList isUtf8 nameList textAt alike lookup keyOf linesFrom linesOf endFrom endOf allOf lastFrom lastOf lasts ascending lastBelow idsFit allBelow distinct permidsFit rootsFault numberIn asciiIn varinfoIn ddIn u32sIn namesIn rootsIn agree firstFault numberFaults supportFaults nameCountFaults nameFaults rootFaults wholeFault tableOf readOf head.lengthFault atLeast head.listsFault head.loadOf
 bare-header = refl
 
 bare-passes : Passes bare (empty 0 1) bareHeader
-unfolding isBlank isLineEnd isWhitespace alike ascending lastBelow idsFit decodeFrom buildOn build linesIn linesAnswer blankAll endsWell importOf listFits beforeNodes scratchFault listFault firstFault bytesFrom
+unfolding isBlank isLineEnd isWhitespace alike ascending lastBelow idsFit decodeFrom buildOn build linesIn linesAnswer blankAll endsWell importOf listFits beforeNodes scratchFault listFault firstFault
 bare-passes = record {
   header-read = ap (λ r. r .answer) (header-by bare (empty 0 1) (kept 0 1 (omega arith) (omega arith))) ∙ bare-header;
   unrefused = refl;
@@ -94,7 +94,7 @@ bare-loads = ap (λ r. r .answer) (passes-load bare (empty 0 1) bareHeader bare-
 
 -- the header of document 01's example
 example-header : headerBy example true ≡ exampleLoaded
-unfolding run isBlank isDigit isLineEnd isOf seek trim feedAt lineOf keyEnd valueStart valueEnd fieldOf digit number single judge u32List wordsFrom words entryStep edgeAt edgeEnd edgeList utf8Next isUtf8 nameList textAt alike lookup keyOf versionFault modeFault varinfoFault textFault singleFault u32ListFault rootListFault nameListFault faultOf linesFrom linesOf endFrom endOf allOf lastFrom lastOf lasts seatOf ascending lastBelow idsFit allBelow distinct permidsFit orderFrom supportOrder places sameBytes sameName sameNames chosen freeFrom orderedFrom orderedSeats suppFrom suppSeats variableNames rootsFault spans numberIn asciiIn varinfoIn ddIn u32sIn namesIn rootsIn upFrom agree variableNamesIn firstFault numberFaults supportFaults nameCountFaults nameFaults rootFaults wholeFault tableOf readOf head.lengthFault atLeast head.listsFault head.loadOf bytesFrom
+unfolding run isBlank isDigit isLineEnd isOf seek trim feedAt lineOf keyEnd valueStart valueEnd fieldOf digit number single judge u32List wordsFrom words entryStep edgeAt edgeEnd edgeList utf8Next isUtf8 nameList textAt alike lookup keyOf versionFault modeFault varinfoFault textFault singleFault u32ListFault rootListFault nameListFault faultOf linesFrom linesOf endFrom endOf allOf lastFrom lastOf lasts seatOf ascending lastBelow idsFit allBelow distinct permidsFit orderFrom supportOrder places sameBytes sameName sameNames chosen freeFrom orderedFrom orderedSeats suppFrom suppSeats variableNames rootsFault spans numberIn asciiIn varinfoIn ddIn u32sIn namesIn rootsIn upFrom agree variableNamesIn firstFault numberFaults supportFaults nameCountFaults nameFaults rootFaults wholeFault tableOf readOf head.lengthFault atLeast head.listsFault head.loadOf
 example-header = refl
 
 example-read : (σ : Store) → keeps limits σ ≡ true → headerOf example σ ≡ exampleLoaded
@@ -102,7 +102,7 @@ example-read σ q = header-by example σ q ∙ example-header
 
 -- it is accepted where there is a slot for each of its nodes
 example-passes : Passes example (empty 2 3) exampleHeader
-unfolding run isBlank isDigit isLineEnd isWhitespace isOf seek trim feedAt lineOf digit number single first wordsFrom words entryStep edgeAt edgeEnd edgeList children alike ascending lastBelow idsFit deeper childFault decodeFrom wordFrom numbered afterExtra variableWord textLine textLineAt minus eqZ empty findUpTo find added insert make edgeFor addLine buildOn build lineBy linesIn linesAnswer blankAll endsWell importOf listFits beforeNodes scratchFault listFault firstFault bytesFrom
+unfolding run isBlank isDigit isLineEnd isWhitespace isOf seek trim feedAt lineOf digit number single first wordsFrom words entryStep edgeAt edgeEnd edgeList children alike ascending lastBelow idsFit deeper childFault decodeFrom wordFrom numbered afterExtra variableWord textLine textLineAt minus eqZ empty findUpTo find added insert make edgeFor addLine buildOn build lineBy linesIn linesAnswer blankAll endsWell importOf listFits beforeNodes scratchFault listFault firstFault
 example-passes = record {
   header-read = ap (λ r. r .answer) (example-read (empty 2 3) (kept 2 3 (omega arith) (omega arith)));
   unrefused = refl;
@@ -115,7 +115,7 @@ example-loads = ap (λ r. r .answer) (passes-load example (empty 2 3) exampleHea
 
 -- its roots, in an empty store, are 3 and -3
 pub example-roots : loadOf example (empty 2 3) .roots ≡ pos 3 ∷ negsuc 2 ∷ replicate 1022 (pos 0)
-unfolding run isBlank isDigit isLineEnd isWhitespace isOf seek trim feedAt lineOf digit number single first wordsFrom words entryStep edgeAt edgeEnd edgeList children alike ascending lastBelow idsFit deeper childFault decodeFrom wordFrom numbered afterExtra variableWord textLine textLineAt minus eqZ empty findUpTo find added insert make edgeFor addLine buildOn build lineBy linesIn linesAnswer blankAll endsWell importOf listFits beforeNodes scratchFault listFault firstFault bytesFrom laid
+unfolding run isBlank isDigit isLineEnd isWhitespace isOf seek trim feedAt lineOf digit number single first wordsFrom words entryStep edgeAt edgeEnd edgeList children alike ascending lastBelow idsFit deeper childFault decodeFrom wordFrom numbered afterExtra variableWord textLine textLineAt minus eqZ empty findUpTo find added insert make edgeFor addLine buildOn build lineBy linesIn linesAnswer blankAll endsWell importOf listFits beforeNodes scratchFault listFault firstFault laid
 example-roots =
     ap (λ r. r .roots) (passes-load example (empty 2 3) exampleHeader example-passes)
     ∙ ap (λ r. importOf (setupOf example 2 exampleHeader) (empty 2 3) (example .file) 192 (laid (r .roots) (replicate 1024 (pos 0))) .roots)
@@ -124,7 +124,7 @@ example-roots =
 -- its lines, and the numbers of its roots
 example-lines : linesIn (setupOf example 2 exampleHeader) (example .file) 192 .lines
     ≡ terminal ∷ inner 1 (pos 1) (negsuc 0) ∷ inner 0 (pos 2) (negsuc 0) ∷ []
-unfolding run isBlank isDigit isLineEnd isOf seek trim feedAt lineOf digit number single first wordsFrom words entryStep edgeAt edgeEnd edgeList children deeper childFault decodeFrom wordFrom numbered afterExtra variableWord textLine textLineAt minus eqZ lineBy linesIn bytesFrom alike
+unfolding run isBlank isDigit isLineEnd isOf seek trim feedAt lineOf digit number single first wordsFrom words entryStep edgeAt edgeEnd edgeList children deeper childFault decodeFrom wordFrom numbered afterExtra variableWord textLine textLineAt minus eqZ lineBy linesIn alike
 example-lines = refl
 
 example-ids : rootsIn (example .file) (tableOf (example .file)) ≡ pos 3 ∷ negsuc 2 ∷ []
@@ -144,7 +144,7 @@ example-says a b = rw (example-lines, example-ids) (go a b)
 
 -- with a slot less it is refused with 40
 pub example-crowded : loadOf example (empty 2 2) ≡ refusedAt example (empty 2 2) 40 0
-unfolding run isBlank isDigit isLineEnd isWhitespace isOf seek trim feedAt lineOf digit number single first wordsFrom words entryStep edgeAt edgeEnd edgeList children alike ascending lastBelow idsFit deeper childFault decodeFrom wordFrom numbered afterExtra variableWord textLine textLineAt minus eqZ empty findUpTo find added insert make edgeFor addLine buildOn build lineBy linesIn linesAnswer blankAll endsWell importOf listFits beforeNodes scratchFault listFault firstFault bytesFrom loadOf
+unfolding run isBlank isDigit isLineEnd isWhitespace isOf seek trim feedAt lineOf digit number single first wordsFrom words entryStep edgeAt edgeEnd edgeList children alike ascending lastBelow idsFit deeper childFault decodeFrom wordFrom numbered afterExtra variableWord textLine textLineAt minus eqZ empty findUpTo find added insert make edgeFor addLine buildOn build lineBy linesIn linesAnswer blankAll endsWell importOf listFits beforeNodes scratchFault listFault firstFault loadOf
 example-crowded =
     load-refused example (empty 2 2) 40 0
     (ap (λ a. withHeader example (empty 2 2) a .answer)
@@ -161,7 +161,7 @@ filled-kept : keeps limits filled ≡ true
 filled-kept = rules-keeps limits filled (subst (Rules limits) after-filled (roots-answer example (empty 2 3) exampleHeader example-loads .rules))
 
 again-passes : Passes example filled exampleHeader
-unfolding run isBlank isDigit isLineEnd isWhitespace isOf seek trim feedAt lineOf digit number single first wordsFrom words entryStep edgeAt edgeEnd edgeList children alike ascending lastBelow idsFit deeper childFault decodeFrom wordFrom numbered afterExtra variableWord textLine textLineAt minus eqZ empty findUpTo find added insert make edgeFor addLine buildOn build lineBy linesIn linesAnswer blankAll endsWell importOf listFits beforeNodes scratchFault listFault firstFault bytesFrom
+unfolding run isBlank isDigit isLineEnd isWhitespace isOf seek trim feedAt lineOf digit number single first wordsFrom words entryStep edgeAt edgeEnd edgeList children alike ascending lastBelow idsFit deeper childFault decodeFrom wordFrom numbered afterExtra variableWord textLine textLineAt minus eqZ empty findUpTo find added insert make edgeFor addLine buildOn build lineBy linesIn linesAnswer blankAll endsWell importOf listFits beforeNodes scratchFault listFault firstFault
 again-passes = record {
   header-read = ap (λ r. r .answer) (example-read filled filled-kept);
   unrefused = refl;

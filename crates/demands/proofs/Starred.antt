@@ -33,7 +33,6 @@ use Rattle.store.specs.Make.{findUpTo, find, added, insert, make}
 use Rattle.store.specs.Empty.{empty}
 use Rattle.header.specs.Header as head
 use Rattle.header.specs.Header.{tableOf, readOf, atLeast}
-use Rattle.header.specs.Examples.{bytesFrom}
 use Rattle.node_lines.specs.Line.{Line, terminal, inner, deeper, childFault}
 use Rattle.node_lines.specs.Decode.{decodeFrom}
 use Rattle.import_ascii.specs.Text.{wordFrom, numbered, afterExtra, variableWord, textLine, textLineAt}
@@ -68,20 +67,20 @@ lines = terminal ∷ inner 1 (pos 1) (negsuc 0) ∷ inner 0 (pos 2) (negsuc 0) �
 
 -- so numbered as an export numbers them, they have the lines of the text
 lines-again : linesFor (exampleLeft .after) (numbering (exampleLeft .after) exampleRoots) ≡ lines
-unfolding run isBlank isDigit isLineEnd isWhitespace isOf seek trim feedAt lineOf digit number single first wordsFrom words entryStep edgeAt edgeEnd edgeList children alike ascending lastBelow idsFit deeper childFault decodeFrom wordFrom numbered afterExtra variableWord textLine textLineAt minus eqZ empty findUpTo find added insert make edgeFor addLine buildOn build lineBy linesIn linesAnswer blankAll endsWell importOf bytesFrom seatOf meetBy meet meetAll atDepth deepestFirst numbering supportFrom renumbered lineFor linesFor
+unfolding run isBlank isDigit isLineEnd isWhitespace isOf seek trim feedAt lineOf digit number single first wordsFrom words entryStep edgeAt edgeEnd edgeList children alike ascending lastBelow idsFit deeper childFault decodeFrom wordFrom numbered afterExtra variableWord textLine textLineAt minus eqZ empty findUpTo find added insert make edgeFor addLine buildOn build lineBy linesIn linesAnswer blankAll endsWell importOf seatOf meetBy meet meetAll atDepth deepestFirst numbering supportFrom renumbered lineFor linesFor
 lines-again =
     ap (λ rs. linesFor (exampleLeft .after) (numbering (exampleLeft .after) rs)) two-roots
     ∙ ap (λ σ. linesFor σ (numbering σ (pos 3 ∷ negsuc 2 ∷ []))) left-by-nodes
 
 -- their lines as text and in binary, written and read
 those-nodes : ThoseNodes lines (0x00 ∷ 0x00 ∷ 0x24 ∷ 0x02 ∷ 0x7c ∷ [])
-unfolding run isBlank isDigit isLineEnd isOf seek trim feedAt lineOf digit number single first wordsFrom words entryStep edgeAt edgeEnd edgeList children deeper childFault decodeFrom wordFrom numbered afterExtra variableWord textLine textLineAt lineBy linesIn bytesFrom minus escaped escapedAll groupsBy groups sevenBit childCode variableCode innerBytes binBytes encodeFrom nodeBytes codeOf byteAt meant groupsFrom numberAt idAt childAt variableAt binLineAt alike
+unfolding run isBlank isDigit isLineEnd isOf seek trim feedAt lineOf digit number single first wordsFrom words entryStep edgeAt edgeEnd edgeList children deeper childFault decodeFrom wordFrom numbered afterExtra variableWord textLine textLineAt lineBy linesIn minus escaped escapedAll groupsBy groups sevenBit childCode variableCode innerBytes binBytes encodeFrom nodeBytes codeOf byteAt meant groupsFrom numberAt idAt childAt variableAt binLineAt alike
 those-nodes = record { accepted = example-loads; of-text = refl; of-store = lines-again; written = refl; read = refl }
 
 -- the headers of the files with the ids 0 and 2
 headers : (headerBy threeVariables true .answer ≡ head.header threeHeader)
     × ((headerBy threeVariables true .ids ≡ 0 ∷ 2 ∷ []) × (headerBy twoVariables true .answer ≡ head.refusal 22 0))
-unfolding run isBlank isDigit isLineEnd isOf seek trim feedAt lineOf keyEnd valueStart valueEnd fieldOf digit number single judge u32List wordsFrom words edgeEnd edgeList isUtf8 nameList textAt alike lookup keyOf singleFault u32ListFault faultOf linesFrom linesOf endFrom endOf allOf lastFrom lastOf lasts seatOf ascending lastBelow idsFit allBelow distinct permidsFit rootsFault spans numberIn asciiIn varinfoIn ddIn u32sIn namesIn rootsIn agree firstFault numberFaults supportFaults nameCountFaults nameFaults rootFaults wholeFault tableOf readOf head.lengthFault atLeast head.listsFault head.loadOf bytesFrom
+unfolding run isBlank isDigit isLineEnd isOf seek trim feedAt lineOf keyEnd valueStart valueEnd fieldOf digit number single judge u32List wordsFrom words edgeEnd edgeList isUtf8 nameList textAt alike lookup keyOf singleFault u32ListFault faultOf linesFrom linesOf endFrom endOf allOf lastFrom lastOf lasts seatOf ascending lastBelow idsFit allBelow distinct permidsFit rootsFault spans numberIn asciiIn varinfoIn ddIn u32sIn namesIn rootsIn agree firstFault numberFaults supportFaults nameCountFaults nameFaults rootFaults wholeFault tableOf readOf head.lengthFault atLeast head.listsFault head.loadOf
 headers = (refl, (refl, refl))
 
 -- each in an empty store with one slot, which keeps the rules
@@ -93,7 +92,7 @@ two-kept = header-by twoVariables (empty 2 1) (kept 2 1 (omega arith) (omega ari
 
 -- three variables: the load passes all stages
 three-passes : Passes threeVariables (empty 3 1) threeHeader
-unfolding isBlank isLineEnd isWhitespace alike ascending lastBelow idsFit decodeFrom buildOn build linesIn linesAnswer blankAll endsWell importOf listFits beforeNodes scratchFault listFault firstFault bytesFrom empty
+unfolding isBlank isLineEnd isWhitespace alike ascending lastBelow idsFit decodeFrom buildOn build linesIn linesAnswer blankAll endsWell importOf listFits beforeNodes scratchFault listFault firstFault empty
 three-passes = record {
   header-read = ap (λ r. r .answer) three-kept ∙ headers .0;
   unrefused = refl;
@@ -116,5 +115,5 @@ two-loads = (two-refused, ap (λ r. r .ids) (load-refused twoVariables (empty 2 
 
 -- All starred cases of document 01.
 pub starred-holds : All starred
-unfolding run isBlank isDigit entryStep edgeAt edgeEnd edgeList escaped escapedAll groupsBy groups sevenBit meant byteAt groupsFrom numberAt bytesFrom
+unfolding run isBlank isDigit entryStep edgeAt edgeEnd edgeList escaped escapedAll groupsBy groups sevenBit meant byteAt groupsFrom numberAt
 starred-holds = (those-nodes, ((refl, refl), ((refl, refl), ((refl, refl), ((refl, refl), (refl, (refl, (refl, (refl, (refl, (three-loads, (two-loads, ((refl, refl), tt)))))))))))))

@@ -3,6 +3,7 @@ use Prim.Native.Nat.{ℕ}
 use mathlib.Core.Bool.{true}
 use mathlib.Core.List.{List, [], _∷_, _++_}
 use lib.IntN.{pos}
+use Rattle.codes.specs.Texts.{bytes}
 use Rattle.read_text.specs.Text.{place}
 use Rattle.header.specs.Header.{Header}
 use Rattle.header.specs.Examples as head
@@ -27,7 +28,7 @@ enough n = record {
 
 -- a file with no variable, no node and no root
 abbrev pub bare : Load
-bare = record { file = head.bytes ".nodes\n.end\n"; list = []; lent = enough 0 }
+bare = record { file = bytes ".nodes\n.end\n"; list = []; lent = enough 0 }
 
 abbrev pub bareHeader : Header
 bareHeader = record {
@@ -45,7 +46,7 @@ bareHeader = record {
 -- document 01's example, at the two levels of a store
 abbrev pub example : Load
 example = record {
-  file = head.example ++ head.bytes "1 T 0 0\n2 1 1 -1\n3 0 2 -1\n.end\n";
+  file = head.example ++ bytes "1 T 0 0\n2 1 1 -1\n3 0 2 -1\n.end\n";
   list = 0 ∷ 1 ∷ [];
   lent = enough 3;
 }

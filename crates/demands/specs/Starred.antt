@@ -15,7 +15,7 @@ use Rattle.writers.specs.Binary.{sevenBit}
 use Rattle.store.specs.Store.{Store}
 use Rattle.store.specs.Empty.{empty}
 use Rattle.header.specs.Header.{Header, Answer, header, refusal}
-use Rattle.header.specs.Examples.{bytes}
+use Rattle.codes.specs.Texts.{bytes}
 use Rattle.node_lines.specs.Line.{Line, terminal, inner}
 use Rattle.node_lines.specs.Decode.{nodeLines, allRead}
 use Rattle.imported.specs.Import.{setup, linesIn}

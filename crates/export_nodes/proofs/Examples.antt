@@ -12,7 +12,7 @@ use Rattle.numbering.specs.Numbering.{atDepth, deepestFirst, numbering}
 use Rattle.numbering.specs.Support.{supportFrom}
 use Rattle.export_nodes.specs.Lines.{renumbered, lineFor, linesFor}
 use Rattle.node_writers.specs.Encoded.{textBytes, childCode, variableCode, innerBytes, binBytes, encodeFrom, nodeBytes}
-use Rattle.export_nodes.specs.Examples.{bytesFrom, example, exampleNodes, exampleLines, exampleText, exampleBinary, mixed, mixedRoots}
+use Rattle.export_nodes.specs.Examples.{example, exampleNodes, exampleLines, exampleText, exampleBinary, mixed, mixedRoots}
 
 -- document 01's example: its lines, as text and in binary
 pub example-lines : linesFor example exampleNodes ≡ exampleLines
@@ -20,7 +20,7 @@ unfolding seatOf meetBy meet meetAll atDepth deepestFirst numbering supportFrom 
 example-lines = refl
 
 pub example-text : nodeBytes true exampleLines ≡ exampleText
-unfolding minus digits decimal edgeText spaced textBytes encodeFrom nodeBytes bytesFrom
+unfolding minus digits decimal edgeText spaced textBytes encodeFrom nodeBytes
 example-text = refl
 
 pub example-binary : nodeBytes false exampleLines ≡ exampleBinary

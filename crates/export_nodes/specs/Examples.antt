@@ -1,20 +1,11 @@
 -- Node lines of an export, computed by hand: document 01's example, in both modes.
-use Prim.Native.Nat.{ℕ, zero, suc, _+_}
-use Prim.Native.Char.{code}
-use Prim.Native.String.{String, len, charAt}
+use Prim.Native.Nat.{ℕ}
 use mathlib.Core.List.{List, [], _∷_}
 use lib.IntN.{ℤ, pos, negsuc}
+use Rattle.codes.specs.Texts.{bytes}
 use Rattle.store.specs.Store.{Store, store}
 use Rattle.node_lines.specs.Line.{Line, terminal, inner}
 use Rattle.numbering.specs.Numbering.{numbering}
-
--- the bytes of a text in ASCII
-unfoldable pub bytesFrom : ℕ → ℕ → String → List ℕ
-bytesFrom zero i s = []
-bytesFrom (suc n) i s = code (charAt s i) ∷ bytesFrom n (i + 1) s
-
-abbrev pub bytes : String → List ℕ
-bytes s = bytesFrom (len s) 0 s
 
 -- the nodes of document 01's example, and its roots
 abbrev pub example : Store

@@ -1,22 +1,13 @@
 -- Headers computed by hand: document 01's example, its starred cases `ids 0 2`, and one file for each refusal 10 to 26.
 use mathlib.Core.Path.{_≡_}
-use Prim.Native.Nat.{ℕ, zero, suc, _+_}
-use Prim.Native.Char.{code}
-use Prim.Native.String.{String, len, charAt}
+use Prim.Native.Nat.{ℕ}
 use mathlib.Core.List.{List, [], _∷_, _++_}
 use mathlib.Core.Bool.{true}
 use lib.ListN.{length}
 use lib.IntN.{pos, negsuc}
+use Rattle.codes.specs.Texts.{bytes}
 use Rattle.read_text.specs.Text.{place}
 use Rattle.header.specs.Header.{Loaded, header, refusal, nothing, lengthFault, loadOf}
-
--- the bytes of a text in ASCII
-unfoldable pub bytesFrom : ℕ → ℕ → String → List ℕ
-bytesFrom zero i s = []
-bytesFrom (suc n) i s = code (charAt s i) ∷ bytesFrom n (i + 1) s
-
-abbrev pub bytes : String → List ℕ
-bytes s = bytesFrom (len s) 0 s
 
 -- a load of a file's header, where nothing is found before the input's length
 abbrev pub loaded : List ℕ → Loaded

@@ -3,6 +3,7 @@ use Prim.Native.Nat.{ℕ, _^_}
 use mathlib.Core.List.{List, [], _∷_}
 use mathlib.Core.Bool.{Bool, false, cond, _&&_, _||_}
 use lib.Dec.{leb}
+use Rattle.codes.specs.Texts.{bytes}
 use Rattle.codes.specs.Answer.{Read, value, refused}
 use Rattle.codes.specs.Limits.{varLimit, rootLimit}
 use Rattle.read_numbers.specs.Number.{single}
@@ -20,20 +21,20 @@ why (refused n) = n
 
 -- '12 version other than DDDMP-2.0 or DDDMP-3.0'
 abbrev pub version20 : List ℕ
-version20 = 0x44 ∷ 0x44 ∷ 0x44 ∷ 0x4d ∷ 0x50 ∷ 0x2d ∷ 0x32 ∷ 0x2e ∷ 0x30 ∷ []
+version20 = bytes "DDDMP-2.0"
 
 abbrev pub version30 : List ℕ
-version30 = 0x44 ∷ 0x44 ∷ 0x44 ∷ 0x4d ∷ 0x50 ∷ 0x2d ∷ 0x33 ∷ 0x2e ∷ 0x30 ∷ []
+version30 = bytes "DDDMP-3.0"
 
 unfoldable pub versionFault : List ℕ → ℕ
 versionFault s = cond (alike s version20 || alike s version30) 0 12
 
 -- '13 unknown `.mode` or `.varinfo` value': the modes are A and B
 abbrev pub modeA : List ℕ
-modeA = 0x41 ∷ []
+modeA = bytes "A"
 
 abbrev pub modeB : List ℕ
-modeB = 0x42 ∷ []
+modeB = bytes "B"
 
 unfoldable pub modeFault : List ℕ → ℕ
 modeFault s = cond (alike s modeA || alike s modeB) 0 13

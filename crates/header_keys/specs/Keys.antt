@@ -2,6 +2,7 @@
 use Prim.Native.Nat.{ℕ}
 use mathlib.Core.List.{List, [], _∷_, _++_}
 use mathlib.Core.Bool.{cond}
+use Rattle.codes.specs.Texts.{bytes}
 use Rattle.header_keys.specs.declared.Key.{Key}
 use Rattle.header_keys.specs.declared.Key.the-variants.{Ver, Mode, Varinfo, Dd, Nnodes, Nvars, Nsuppvars, Nroots, Nodes, Varnames, Suppvarnames, Orderedvarnames, Ids, Permids, Auxids, Rootids, Rootnames, Unknown}
 use Rattle.read_text.specs.Alike.{alike}
@@ -17,28 +18,28 @@ name b k = record { bytes = b; key = k }
 -- the keys of single values, and `.nodes`
 abbrev pub singles : List Name
 singles =
-    name (0x2e ∷ 0x76 ∷ 0x65 ∷ 0x72 ∷ []) Ver  -- .ver
-    ∷ name (0x2e ∷ 0x6d ∷ 0x6f ∷ 0x64 ∷ 0x65 ∷ []) Mode  -- .mode
-    ∷ name (0x2e ∷ 0x76 ∷ 0x61 ∷ 0x72 ∷ 0x69 ∷ 0x6e ∷ 0x66 ∷ 0x6f ∷ []) Varinfo  -- .varinfo
-    ∷ name (0x2e ∷ 0x64 ∷ 0x64 ∷ []) Dd  -- .dd
-    ∷ name (0x2e ∷ 0x6e ∷ 0x6e ∷ 0x6f ∷ 0x64 ∷ 0x65 ∷ 0x73 ∷ []) Nnodes  -- .nnodes
-    ∷ name (0x2e ∷ 0x6e ∷ 0x76 ∷ 0x61 ∷ 0x72 ∷ 0x73 ∷ []) Nvars  -- .nvars
-    ∷ name (0x2e ∷ 0x6e ∷ 0x73 ∷ 0x75 ∷ 0x70 ∷ 0x70 ∷ 0x76 ∷ 0x61 ∷ 0x72 ∷ 0x73 ∷ []) Nsuppvars  -- .nsuppvars
-    ∷ name (0x2e ∷ 0x6e ∷ 0x72 ∷ 0x6f ∷ 0x6f ∷ 0x74 ∷ 0x73 ∷ []) Nroots  -- .nroots
-    ∷ name (0x2e ∷ 0x6e ∷ 0x6f ∷ 0x64 ∷ 0x65 ∷ 0x73 ∷ []) Nodes  -- .nodes
+    name (bytes ".ver") Ver
+    ∷ name (bytes ".mode") Mode
+    ∷ name (bytes ".varinfo") Varinfo
+    ∷ name (bytes ".dd") Dd
+    ∷ name (bytes ".nnodes") Nnodes
+    ∷ name (bytes ".nvars") Nvars
+    ∷ name (bytes ".nsuppvars") Nsuppvars
+    ∷ name (bytes ".nroots") Nroots
+    ∷ name (bytes ".nodes") Nodes
     ∷ []
 
 -- the keys of lists
 abbrev pub lists : List Name
 lists =
-    name (0x2e ∷ 0x76 ∷ 0x61 ∷ 0x72 ∷ 0x6e ∷ 0x61 ∷ 0x6d ∷ 0x65 ∷ 0x73 ∷ []) Varnames  -- .varnames
-    ∷ name (0x2e ∷ 0x73 ∷ 0x75 ∷ 0x70 ∷ 0x70 ∷ 0x76 ∷ 0x61 ∷ 0x72 ∷ 0x6e ∷ 0x61 ∷ 0x6d ∷ 0x65 ∷ 0x73 ∷ []) Suppvarnames  -- .suppvarnames
-    ∷ name (0x2e ∷ 0x6f ∷ 0x72 ∷ 0x64 ∷ 0x65 ∷ 0x72 ∷ 0x65 ∷ 0x64 ∷ 0x76 ∷ 0x61 ∷ 0x72 ∷ 0x6e ∷ 0x61 ∷ 0x6d ∷ 0x65 ∷ 0x73 ∷ []) Orderedvarnames  -- .orderedvarnames
-    ∷ name (0x2e ∷ 0x69 ∷ 0x64 ∷ 0x73 ∷ []) Ids  -- .ids
-    ∷ name (0x2e ∷ 0x70 ∷ 0x65 ∷ 0x72 ∷ 0x6d ∷ 0x69 ∷ 0x64 ∷ 0x73 ∷ []) Permids  -- .permids
-    ∷ name (0x2e ∷ 0x61 ∷ 0x75 ∷ 0x78 ∷ 0x69 ∷ 0x64 ∷ 0x73 ∷ []) Auxids  -- .auxids
-    ∷ name (0x2e ∷ 0x72 ∷ 0x6f ∷ 0x6f ∷ 0x74 ∷ 0x69 ∷ 0x64 ∷ 0x73 ∷ []) Rootids  -- .rootids
-    ∷ name (0x2e ∷ 0x72 ∷ 0x6f ∷ 0x6f ∷ 0x74 ∷ 0x6e ∷ 0x61 ∷ 0x6d ∷ 0x65 ∷ 0x73 ∷ []) Rootnames  -- .rootnames
+    name (bytes ".varnames") Varnames
+    ∷ name (bytes ".suppvarnames") Suppvarnames
+    ∷ name (bytes ".orderedvarnames") Orderedvarnames
+    ∷ name (bytes ".ids") Ids
+    ∷ name (bytes ".permids") Permids
+    ∷ name (bytes ".auxids") Auxids
+    ∷ name (bytes ".rootids") Rootids
+    ∷ name (bytes ".rootnames") Rootnames
     ∷ []
 
 -- the first key of a table whose bytes these are. '11 unknown key'.

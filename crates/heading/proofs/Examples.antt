@@ -6,16 +6,16 @@ use Rattle.writers.specs.Decimal.{digits, decimal, edgeText}
 use Rattle.writers.specs.Words.{spaced}
 use Rattle.heading.specs.Lines.{linesText}
 use Rattle.heading.specs.Heading.{idsFrom, permidsOf, variablesFrom, chosen, namedLines, introLines, countLines, idLines, rootLines, headLines, headText}
-use Rattle.heading.specs.Examples.{bytesFrom, example, exampleText, other, otherText, bare, bareText}
+use Rattle.heading.specs.Examples.{example, exampleText, other, otherText, bare, bareText}
 
 pub example-text : headText example ≡ exampleText
-unfolding minus seatOf digits decimal edgeText spaced linesText idsFrom permidsOf variablesFrom chosen namedLines introLines countLines idLines rootLines headLines headText bytesFrom
+unfolding minus seatOf digits decimal edgeText spaced linesText idsFrom permidsOf variablesFrom chosen namedLines introLines countLines idLines rootLines headLines headText
 example-text = refl
 
 pub other-text : headText other ≡ otherText
-unfolding minus seatOf digits decimal edgeText spaced linesText idsFrom permidsOf variablesFrom chosen namedLines introLines countLines idLines rootLines headLines headText bytesFrom
+unfolding minus seatOf digits decimal edgeText spaced linesText idsFrom permidsOf variablesFrom chosen namedLines introLines countLines idLines rootLines headLines headText
 other-text = refl
 
 pub bare-text : headText bare ≡ bareText
-unfolding minus seatOf digits decimal edgeText spaced linesText idsFrom permidsOf variablesFrom chosen namedLines introLines countLines idLines rootLines headLines headText bytesFrom
+unfolding minus seatOf digits decimal edgeText spaced linesText idsFrom permidsOf variablesFrom chosen namedLines introLines countLines idLines rootLines headLines headText
 bare-text = refl

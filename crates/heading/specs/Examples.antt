@@ -1,20 +1,11 @@
 -- The header of document 01's example.
-use Prim.Native.Nat.{ℕ, zero, suc, _+_}
-use Prim.Native.Char.{code}
-use Prim.Native.String.{String, len, charAt}
+use Prim.Native.Nat.{ℕ}
 use mathlib.Core.List.{List, [], _∷_}
 use mathlib.Core.Bool.{true, false}
 use lib.IntN.{pos, negsuc}
+use Rattle.codes.specs.Texts.{bytes}
 use Rattle.codes.specs.declared.DDDMPVersion.the-variants.{«V2_0», «V3_0»}
 use Rattle.heading.specs.Heading.{Heading}
-
--- the bytes of a text in ASCII
-unfoldable pub bytesFrom : ℕ → ℕ → String → List ℕ
-bytesFrom zero i s = []
-bytesFrom (suc n) i s = code (charAt s i) ∷ bytesFrom n (i + 1) s
-
-abbrev pub bytes : String → List ℕ
-bytes s = bytesFrom (len s) 0 s
 
 abbrev pub example : Heading
 example = record {

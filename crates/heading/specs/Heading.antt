@@ -5,6 +5,7 @@ use mathlib.Core.List.{List, [], _∷_, _++_, map}
 use lib.Dec.{eqb}
 use lib.ListN.{length, getD}
 use lib.IntN.{ℤ}
+use Rattle.codes.specs.Texts.{bytes}
 use Rattle.codes.specs.declared.DDDMPVersion.{DDDMPVersion}
 use Rattle.codes.specs.declared.DDDMPVersion.the-variants.{«V2_0», «V3_0»}
 use Rattle.seats.specs.Seats.{seatOf}
@@ -80,7 +81,7 @@ namedLines version support order names =
 -- the version, the mode, no extra words (4), and the diagram's name
 unfoldable pub introLines : DDDMPVersion → Bool → List ℕ → List HeaderLine
 introLines version ascii dd =
-    line Ver (versionText version ∷ []) ∷ line Mode (modeText ascii ∷ []) ∷ line Varinfo ((0x34 ∷ []) ∷ []) ∷ unlessEmpty dd (line Dd (dd ∷ []))
+    line Ver (versionText version ∷ []) ∷ line Mode (modeText ascii ∷ []) ∷ line Varinfo ((bytes "4") ∷ []) ∷ unlessEmpty dd (line Dd (dd ∷ []))
 
 unfoldable pub countLines : ℕ → ℕ → ℕ → List HeaderLine
 countLines nnodes nvars nsuppvars =

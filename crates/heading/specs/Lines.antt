@@ -1,29 +1,30 @@
 -- The lines of a header, as an export writes them: a key, and words with a space before each.
 use Prim.Native.Nat.{ℕ}
 use mathlib.Core.List.{List, [], _∷_, _++_}
+use Rattle.codes.specs.Texts.{bytes}
 use Rattle.header_keys.specs.declared.Key.{Key}
 use Rattle.header_keys.specs.declared.Key.the-variants.{Ver, Mode, Varinfo, Dd, Nnodes, Nvars, Nsuppvars, Nroots, Nodes, Varnames, Suppvarnames, Orderedvarnames, Ids, Permids, Auxids, Rootids, Rootnames, Unknown}
 use Rattle.writers.specs.Words.{spaced}
 
 -- a key as its bytes
 abbrev pub keyText : Key → List ℕ
-keyText Ver = 0x2e ∷ 0x76 ∷ 0x65 ∷ 0x72 ∷ []  -- .ver
-keyText Mode = 0x2e ∷ 0x6d ∷ 0x6f ∷ 0x64 ∷ 0x65 ∷ []  -- .mode
-keyText Varinfo = 0x2e ∷ 0x76 ∷ 0x61 ∷ 0x72 ∷ 0x69 ∷ 0x6e ∷ 0x66 ∷ 0x6f ∷ []  -- .varinfo
-keyText Dd = 0x2e ∷ 0x64 ∷ 0x64 ∷ []  -- .dd
-keyText Nnodes = 0x2e ∷ 0x6e ∷ 0x6e ∷ 0x6f ∷ 0x64 ∷ 0x65 ∷ 0x73 ∷ []  -- .nnodes
-keyText Nvars = 0x2e ∷ 0x6e ∷ 0x76 ∷ 0x61 ∷ 0x72 ∷ 0x73 ∷ []  -- .nvars
-keyText Nsuppvars = 0x2e ∷ 0x6e ∷ 0x73 ∷ 0x75 ∷ 0x70 ∷ 0x70 ∷ 0x76 ∷ 0x61 ∷ 0x72 ∷ 0x73 ∷ []  -- .nsuppvars
-keyText Nroots = 0x2e ∷ 0x6e ∷ 0x72 ∷ 0x6f ∷ 0x6f ∷ 0x74 ∷ 0x73 ∷ []  -- .nroots
-keyText Nodes = 0x2e ∷ 0x6e ∷ 0x6f ∷ 0x64 ∷ 0x65 ∷ 0x73 ∷ []  -- .nodes
-keyText Varnames = 0x2e ∷ 0x76 ∷ 0x61 ∷ 0x72 ∷ 0x6e ∷ 0x61 ∷ 0x6d ∷ 0x65 ∷ 0x73 ∷ []  -- .varnames
-keyText Suppvarnames = 0x2e ∷ 0x73 ∷ 0x75 ∷ 0x70 ∷ 0x70 ∷ 0x76 ∷ 0x61 ∷ 0x72 ∷ 0x6e ∷ 0x61 ∷ 0x6d ∷ 0x65 ∷ 0x73 ∷ []  -- .suppvarnames
-keyText Orderedvarnames = 0x2e ∷ 0x6f ∷ 0x72 ∷ 0x64 ∷ 0x65 ∷ 0x72 ∷ 0x65 ∷ 0x64 ∷ 0x76 ∷ 0x61 ∷ 0x72 ∷ 0x6e ∷ 0x61 ∷ 0x6d ∷ 0x65 ∷ 0x73 ∷ []  -- .orderedvarnames
-keyText Ids = 0x2e ∷ 0x69 ∷ 0x64 ∷ 0x73 ∷ []  -- .ids
-keyText Permids = 0x2e ∷ 0x70 ∷ 0x65 ∷ 0x72 ∷ 0x6d ∷ 0x69 ∷ 0x64 ∷ 0x73 ∷ []  -- .permids
-keyText Auxids = 0x2e ∷ 0x61 ∷ 0x75 ∷ 0x78 ∷ 0x69 ∷ 0x64 ∷ 0x73 ∷ []  -- .auxids
-keyText Rootids = 0x2e ∷ 0x72 ∷ 0x6f ∷ 0x6f ∷ 0x74 ∷ 0x69 ∷ 0x64 ∷ 0x73 ∷ []  -- .rootids
-keyText Rootnames = 0x2e ∷ 0x72 ∷ 0x6f ∷ 0x6f ∷ 0x74 ∷ 0x6e ∷ 0x61 ∷ 0x6d ∷ 0x65 ∷ 0x73 ∷ []  -- .rootnames
+keyText Ver = bytes ".ver"
+keyText Mode = bytes ".mode"
+keyText Varinfo = bytes ".varinfo"
+keyText Dd = bytes ".dd"
+keyText Nnodes = bytes ".nnodes"
+keyText Nvars = bytes ".nvars"
+keyText Nsuppvars = bytes ".nsuppvars"
+keyText Nroots = bytes ".nroots"
+keyText Nodes = bytes ".nodes"
+keyText Varnames = bytes ".varnames"
+keyText Suppvarnames = bytes ".suppvarnames"
+keyText Orderedvarnames = bytes ".orderedvarnames"
+keyText Ids = bytes ".ids"
+keyText Permids = bytes ".permids"
+keyText Auxids = bytes ".auxids"
+keyText Rootids = bytes ".rootids"
+keyText Rootnames = bytes ".rootnames"
 keyText Unknown = []
 
 pub record HeaderLine : Type 0 where
@@ -35,7 +36,7 @@ line k ws = record { key = k; words = ws }
 
 -- the bytes of a line, by those of its key
 abbrev pub keyedText : List ℕ → List (List ℕ) → List ℕ
-keyedText key ws = key ++ (spaced ws ++ (0x0a ∷ []))
+keyedText key ws = key ++ (spaced ws ++ (bytes "\n"))
 
 abbrev pub lineText : HeaderLine → List ℕ
 lineText l = keyedText (keyText (l .key)) (l .words)

@@ -11,39 +11,39 @@ use Rattle.read_text.specs.Alike.{alike}
 use Rattle.node_lines.specs.Line.{deeper, childFault}
 use Rattle.node_lines.specs.Decode.{decodeFrom}
 use Rattle.import_ascii.specs.Text.{wordFrom, numbered, afterExtra, variableWord, textLine, textLineAt}
-use Rattle.import_ascii.specs.Examples.{bytesFrom, decoded, example, exampleLines, own, ownLines, short, shortLines, All, accepted, refusals, firsts, extras}
+use Rattle.import_ascii.specs.Examples.{decoded, example, exampleLines, own, ownLines, short, shortLines, All, accepted, refusals, firsts, extras}
 
 -- document 01's example
 pub example-decodes : decoded 3 example ≡ exampleLines
-unfolding run isBlank isDigit isLineEnd isOf seek trim feedAt lineOf digit number single wordsFrom words first entryStep edgeAt edgeEnd edgeList children alike deeper childFault decodeFrom wordFrom numbered afterExtra variableWord textLine textLineAt bytesFrom
+unfolding run isBlank isDigit isLineEnd isOf seek trim feedAt lineOf digit number single wordsFrom words first entryStep edgeAt edgeEnd edgeList children alike deeper childFault decodeFrom wordFrom numbered afterExtra variableWord textLine textLineAt
 example-decodes = refl
 
 -- a line that is its own child
 pub own-stops : decoded 3 own ≡ ownLines
-unfolding run isBlank isDigit isLineEnd isOf seek trim feedAt lineOf digit number single wordsFrom words first entryStep edgeAt edgeEnd edgeList children alike deeper childFault decodeFrom wordFrom numbered afterExtra variableWord textLine textLineAt bytesFrom
+unfolding run isBlank isDigit isLineEnd isOf seek trim feedAt lineOf digit number single wordsFrom words first entryStep edgeAt edgeEnd edgeList children alike deeper childFault decodeFrom wordFrom numbered afterExtra variableWord textLine textLineAt
 own-stops = refl
 
 -- a text that ends early
 pub short-stops : decoded 2 short ≡ shortLines
-unfolding run isBlank isDigit isLineEnd isOf seek trim feedAt lineOf digit number single wordsFrom words first entryStep edgeAt edgeEnd edgeList children alike deeper childFault decodeFrom wordFrom numbered afterExtra variableWord textLine textLineAt bytesFrom
+unfolding run isBlank isDigit isLineEnd isOf seek trim feedAt lineOf digit number single wordsFrom words first entryStep edgeAt edgeEnd edgeList children alike deeper childFault decodeFrom wordFrom numbered afterExtra variableWord textLine textLineAt
 short-stops = refl
 
 -- lines that are read
 pub accepted-hold : All false accepted
-unfolding run isBlank isDigit isLineEnd isOf seek trim feedAt lineOf digit number single wordsFrom words first entryStep edgeAt edgeEnd edgeList children alike deeper childFault decodeFrom wordFrom numbered afterExtra variableWord textLine textLineAt bytesFrom
+unfolding run isBlank isDigit isLineEnd isOf seek trim feedAt lineOf digit number single wordsFrom words first entryStep edgeAt edgeEnd edgeList children alike deeper childFault decodeFrom wordFrom numbered afterExtra variableWord textLine textLineAt
 accepted-hold = (refl, (refl, (refl, (refl, (refl, (refl, (refl, tt)))))))
 
 -- a line for each refusal
 pub refusals-hold : All false refusals
-unfolding run isBlank isDigit isLineEnd isOf seek trim feedAt lineOf digit number single wordsFrom words first entryStep edgeAt edgeEnd edgeList children alike deeper childFault decodeFrom wordFrom numbered afterExtra variableWord textLine textLineAt bytesFrom
+unfolding run isBlank isDigit isLineEnd isOf seek trim feedAt lineOf digit number single wordsFrom words first entryStep edgeAt edgeEnd edgeList children alike deeper childFault decodeFrom wordFrom numbered afterExtra variableWord textLine textLineAt
 refusals-hold = (refl, (refl, (refl, (refl, (refl, (refl, (refl, (refl, (refl, (refl, (refl, (refl, (refl, (refl, (refl, (refl, (refl, (refl, (refl, (refl, (refl, (refl, (refl, (refl, tt))))))))))))))))))))))))
 
 -- the first refusal
 pub firsts-hold : All false firsts
-unfolding run isBlank isDigit isLineEnd isOf seek trim feedAt lineOf digit number single wordsFrom words first entryStep edgeAt edgeEnd edgeList children alike deeper childFault decodeFrom wordFrom numbered afterExtra variableWord textLine textLineAt bytesFrom
+unfolding run isBlank isDigit isLineEnd isOf seek trim feedAt lineOf digit number single wordsFrom words first entryStep edgeAt edgeEnd edgeList children alike deeper childFault decodeFrom wordFrom numbered afterExtra variableWord textLine textLineAt
 firsts-hold = (refl, (refl, (refl, (refl, (refl, (refl, (refl, tt)))))))
 
 -- lines with an extra word
 pub extras-hold : All true extras
-unfolding run isBlank isDigit isLineEnd isOf seek trim feedAt lineOf digit number single wordsFrom words first entryStep edgeAt edgeEnd edgeList children alike deeper childFault decodeFrom wordFrom numbered afterExtra variableWord textLine textLineAt bytesFrom
+unfolding run isBlank isDigit isLineEnd isOf seek trim feedAt lineOf digit number single wordsFrom words first entryStep edgeAt edgeEnd edgeList children alike deeper childFault decodeFrom wordFrom numbered afterExtra variableWord textLine textLineAt
 extras-hold = (refl, (refl, (refl, (refl, (refl, tt)))))

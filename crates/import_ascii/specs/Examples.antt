@@ -1,24 +1,15 @@
 -- Node lines of text, computed by hand: those of document 01's example, lines for each refusal, and lines with an extra word.
 use mathlib.Core.Path.{_≡_}
-use Prim.Native.Nat.{ℕ, zero, suc, _+_}
-use Prim.Native.Char.{code}
-use Prim.Native.String.{String, len, charAt}
+use Prim.Native.Nat.{ℕ, suc}
 use mathlib.Core.List.{List, [], _∷_}
 use mathlib.Core.Bool.{Bool, false}
 use lib.ListN.{length}
 use lib.IntN.{pos, negsuc}
+use Rattle.codes.specs.Texts.{bytes}
 use Rattle.codes.specs.Answer.{Step, got, fails}
 use Rattle.node_lines.specs.Line.{Line, terminal, inner}
 use Rattle.node_lines.specs.Decode.{NodeLines, nodeLines, allRead, stopped, decodeFrom}
 use Rattle.import_ascii.specs.Text.{textLineAt}
-
--- the bytes of a text in ASCII
-unfoldable pub bytesFrom : ℕ → ℕ → String → List ℕ
-bytesFrom zero i s = []
-bytesFrom (suc n) i s = code (charAt s i) ∷ bytesFrom n (i + 1) s
-
-abbrev pub bytes : String → List ℕ
-bytes s = bytesFrom (len s) 0 s
 
 -- two support positions, at the levels 0 and 1
 abbrev pub levels : List ℕ

@@ -1,10 +1,11 @@
 -- A node line of text. Document 01, 'Node lines': 'Text: number, extra word unless varinfo is 4, variable, two children.'
 use Prim.Native.Nat.{ℕ, zero, suc, _-_, _^_}
-use mathlib.Core.List.{List, [], _∷_}
+use mathlib.Core.List.{List}
 use mathlib.Core.Bool.{Bool, cond, _||_}
-use lib.ListN.{length, take, drop, getD}
+use lib.ListN.{length, drop, getD}
 use lib.IntN.{ℤ, natAbs}
 use lib.Dec.{ltb, eqb}
+use Rattle.codes.specs.Texts.{bytes}
 use Rattle.codes.specs.Answer.{Read, value, refused, Step, got, fails, then}
 use Rattle.read_lines.specs.Line.{isOf, seek, lineOf}
 use Rattle.read_numbers.specs.Number.{first, single}
@@ -42,7 +43,7 @@ variableWord extra n s = then (numbered n s) (λ _ at. then (afterExtra extra s 
 
 -- '33 terminal described by other than `T`'
 abbrev pub describedT : List ℕ → Read Line
-describedT word = cond (alike word (0x54 ∷ [])) (value terminal) (refused 33)
+describedT word = cond (alike word (bytes "T")) (value terminal) (refused 33)
 
 -- 'each child in turn meets 35, then 36'
 abbrev pub faultless : ℕ → ℕ → Line → Read Line

@@ -6,6 +6,7 @@ use mathlib.Core.List.{List, [], _∷_, map}
 use lib.ListN.{length, take, drop}
 use lib.IntN.{ℤ, pos, natAbs}
 use lib.Dec.{eqb}
+use Rattle.codes.specs.Texts.{bytes}
 use Rattle.codes.specs.Answer.{Read, value, refused, Step}
 use Rattle.codes.specs.Bytes.{isWhitespace}
 use Rattle.read_text.specs.Alike.{alike}
@@ -79,7 +80,7 @@ blankAll [] = true
 blankAll (x ∷ s) = isWhitespace x && blankAll s
 
 abbrev pub endWord : List ℕ
-endWord = 0x2e ∷ 0x65 ∷ 0x6e ∷ 0x64 ∷ []  -- .end
+endWord = bytes ".end"
 
 unfoldable pub endsWell : List ℕ → ℕ → Bool
 endsWell f at = alike (take 4 (drop at f)) endWord && blankAll (drop (at + 4) f)

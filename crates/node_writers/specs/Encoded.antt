@@ -5,6 +5,7 @@ use mathlib.Core.List.{List, [], _∷_, _++_, map}
 use lib.Dec.{eqb, ltb}
 use lib.ListN.{getD}
 use lib.IntN.{ℤ, natAbs}
+use Rattle.codes.specs.Texts.{bytes}
 use Rattle.codes.specs.declared.Code.{Code}
 use Rattle.codes.specs.declared.Code.the-variants.{Terminal, AbsoluteID, RelativeID, Relative1}
 use Rattle.edges.specs.Edge.{minus}
@@ -15,11 +16,11 @@ use Rattle.writers.specs.Binary.{escaped, sevenBit}
 
 -- a line of text: 'number, variable position, then, else'; a terminal is `T 0 0`
 abbrev pub wordsOf : Line → List (List ℕ)
-wordsOf terminal = (0x54 ∷ []) ∷ (0x30 ∷ []) ∷ (0x30 ∷ []) ∷ []
+wordsOf terminal = (bytes "T") ∷ (bytes "0") ∷ (bytes "0") ∷ []
 wordsOf (inner p t e) = decimal p ∷ edgeText t ∷ edgeText e ∷ []
 
 unfoldable pub textBytes : ℕ → Line → List ℕ
-textBytes n l = decimal n ++ (spaced (wordsOf l) ++ (0x0a ∷ []))
+textBytes n l = decimal n ++ (spaced (wordsOf l) ++ (bytes "\n"))
 
 -- 'Codes: 0 terminal (node 1), 1 absolute, 2 relative (that many before), 3 one before.'
 abbrev pub codeBits : Code → ℕ
@@ -84,4 +85,4 @@ nodeBytes ascii ls = encodeFrom (lineBytes ascii (map seatOf ls)) 1 ls
 
 -- what follows the nodes
 abbrev pub endText : List ℕ
-endText = 0x2e ∷ 0x65 ∷ 0x6e ∷ 0x64 ∷ 0x0a ∷ []  -- .end
+endText = bytes ".end\n"

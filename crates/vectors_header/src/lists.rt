@@ -4,7 +4,6 @@ ghost use Rattle.header.specs.Header.{MayRead};
 use crate::answer;
 use edges::Edge;
 use header::DumpHeader;
-use stages;
 
 // What each entry of a lent list is before the call.
 const FILL: u32 = 0x5a5a5a5a;
@@ -53,11 +52,11 @@ fn after_edges(stored: &[u8], from: usize, list: &[Edge]) -> usize {
 fn found_before(vars: &[usize], roots: &[usize], found: u8, f: &[u8]) -> u8
     ensures { λ r. ⌜ MayRead r (now (f .entry)) ⌝ }
 {
-    let lists = before::lists_fault(vars, roots);
+    let lists = stages::lengths_fault(vars, roots);
     if lists != 0 {
         return lists;
     }
-    before::length_fault(found, f.len())
+    stages::length_fault(found, f.len())
 }
 
 // Whether the call gives the stored answer, and leaves the stored lists.

@@ -3,8 +3,8 @@ use Rattle.header.proofs.Lengths.{length-may}
 use Rattle.vectors_header.proofs.lists.found_before.Statement.{statement}
 use Rattle.vectors_header.proofs.lists.found_before.Tie as tie
 
-lists-fault-requires : tie.Need-lists-fault-requires
-lists-fault-requires c κs = tt
+lengths-fault-requires : tie.Need-lengths-fault-requires
+lengths-fault-requires c κs = tt
 
 returns : tie.Need-returns
 returns c = λ z. absurd (c .if1 .taken z)
@@ -16,4 +16,4 @@ returns-2 : tie.Need-returns-2
 returns-2 c = length-may _ (c .before .before .before .before .before .before .args .f .now) (c .length-fault .ensures)
 
 pub found-before-spec : {M : Type 1} → statement M
-found-before-spec = tie.close (tie.spec lists-fault-requires returns length-fault-requires returns-2)
+found-before-spec = tie.close (tie.spec lengths-fault-requires returns length-fault-requires returns-2)

@@ -1,9 +1,18 @@
 // One case: what the caller found, the lengths of the lent lists, a file and its answer.
+ghost use mathlib.Core.Path.{_≡_};
+ghost use lib.ListN.{length};
 use crate::lists;
 use replay::Outcome;
 
 // Room for the longest file of a case, and for the longest answer.
-pub const ROOM: usize = 130000;
+const ROOM: usize = 130000;
+
+// Zeros. The `ensures` gives only the length: a function that has such an array for a local of its own takes seconds to check.
+pub fn room() -> [u8; ROOM]
+    ensures { λ r. ⌜ 130000 ≡ length r ⌝ }
+{
+    [0; ROOM]
+}
 
 // What follows a head. A case whose head asks for more bytes than the file has left, or than there is room for, isn't whole.
 fn after_head(fd: i32, head: &[u8; 27], f: &mut [u8], stored: &mut [u8]) -> Outcome {

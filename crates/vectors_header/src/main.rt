@@ -9,8 +9,8 @@ mod lists;
 use replay::Tally;
 
 fn run(fd: i32) -> Tally {
-    let mut f = [0u8; case::ROOM];
-    let mut stored = [0u8; case::ROOM];
+    let mut f = case::room();
+    let mut stored = case::room();
     let mut t = Tally::new();
     let mut left = replay::MOST;
     while left > 0 && !t.ended {

@@ -11,6 +11,12 @@ Inv-loop fd f₀ stored₀ t₀ left₀ f stored t left = (130000 ≡ length f) 
 abbrev μ-loop : tie.MeasureT-loop
 μ-loop fd f₀ stored₀ t₀ left₀ f stored t left = left
 
+room-requires : tie.Need-room-requires Inv-loop μ-loop
+room-requires c κs = search needs
+
+room-requires-2 : tie.Need-room-requires-2 Inv-loop μ-loop
+room-requires-2 c κs = search needs
+
 new-requires : tie.Need-new-requires Inv-loop μ-loop
 new-requires c κs = search needs
 
@@ -50,6 +56,8 @@ run-spec =
     (tie.spec
     Inv-loop
     μ-loop
+    room-requires
+    room-requires-2
     new-requires
     loop-holds
     slice-aggregate-one

@@ -7,6 +7,7 @@ use native.Mathlib.Omega.{arith}
 use lib.ListN.{length, replicate, length-replicate}
 use lib.IntN.{ℤ}
 use Rattle.codes.specs.Limits.{varLimit}
+use Rattle.codes.specs.Faults.{firstFault}
 use Rattle.store.specs.Store.{Store}
 use Rattle.store.specs.Rules.{limits}
 use Rattle.store.specs.Keeps.{keeps, keeps-true}
@@ -17,31 +18,31 @@ use Rattle.exported.specs.Export.{rootsFit, enough, namesFit, exportFault}
 
 module _ (σ : Store) (roots : List ℤ) (order : List ℕ) (p : Lent) (slots numbers out : ℕ) where
   pub refused-short : enough σ roots p slots numbers out ≡ false → 1 ≡ exportFault σ roots order p slots numbers out
-  unfolding exportFault
+  unfolding exportFault firstFault
   refused-short a = rw a
 
   module _ (a : enough σ roots p slots numbers out ≡ true) where
     pub refused-store : keeps limits σ ≡ false → 3 ≡ exportFault σ roots order p slots numbers out
-    unfolding exportFault
+    unfolding exportFault firstFault
     refused-store b = rw (a, b)
 
     module _ (b : keeps limits σ ≡ true) where
       pub refused-root : rootsFit (σ .count) roots ≡ false → 4 ≡ exportFault σ roots order p slots numbers out
-      unfolding exportFault
+      unfolding exportFault firstFault
       refused-root c = rw (a, b, c)
 
       module _ (c : rootsFit (σ .count) roots ≡ true) where
         pub refused-order : isOrder (σ .levels) order ≡ false → 6 ≡ exportFault σ roots order p slots numbers out
-        unfolding exportFault
+        unfolding exportFault firstFault
         refused-order d = rw (a, b, c, d)
 
         module _ (d : isOrder (σ .levels) order ≡ true) where
           pub refused-name : namesFit σ roots p ≡ false → 5 ≡ exportFault σ roots order p slots numbers out
-          unfolding exportFault
+          unfolding exportFault firstFault
           refused-name e = rw (a, b, c, d, e)
 
           pub refused-none : namesFit σ roots p ≡ true → 0 ≡ exportFault σ roots order p slots numbers out
-          unfolding exportFault
+          unfolding exportFault firstFault
           refused-none e = rw (a, b, c, d, e)
 
 -- a store that keeps the rules has no more levels than a table of variables has room for

@@ -1,26 +1,23 @@
 // The header of an export.
 ghost use mathlib.Core.Path.{_≡_};
 ghost use mathlib.Core.Bool.{true};
-ghost use mathlib.Core.List.{[], _∷_, map};
-ghost use Prim.Native.Nat.{_+_, _≤_};
-ghost use lib.ListN.{length};
-ghost use lib.Seq.{sets};
+ghost use mathlib.Core.List.{[], _∷_};
+ghost use Rattle.store.specs.Lent.{old};
 ghost use Rattle.read_text.specs.Text.{place};
-ghost use Rattle.header_keys.specs.declared.Key.the-variants.{Ver, Mode, Dd};
-ghost use Rattle.export_names.specs.Names.{nameAt, namesAt, fitPlace, listFits};
-ghost use Rattle.export_nodes.specs.Tables.{numberOf};
+ghost use Rattle.header_keys.specs.declared.Key.the-variants.{Ver, Mode};
+ghost use Rattle.export_names.specs.Names.{nameAt, fitPlace};
+ghost use Rattle.writers.specs.Written.{Fits, Written};
 ghost use Rattle.heading.specs.Lines.{line, lineText, linesText};
-ghost use Rattle.heading.specs.Heading.{versionText, modeText, unlessEmpty, introLines, rootLines, headText};
-ghost use Rattle.heading.specs.Tables.{seated, lent, headingBy, Ordered, Rooted, NamesFit};
+ghost use Rattle.heading.specs.Heading.{versionText, modeText, introLines};
+ghost use Rattle.export_header.specs.Promises.{DiagramAsks, DiagramPromise, RootsAsks, RootsPromise, HeaderAsks, HeaderPromise};
 use codes::DDDMPVersion;
 use edges::Edge;
 use edges::Index;
 
 // Writes `.ver`.
 fn write_version(version: DDDMPVersion, out: &mut [u8], at: usize) -> usize
-    requires { ⌜ at + length (lineText (line Ver (versionText version ∷ []))) ≤ length (now out) ⌝ }
-    ensures { λ r. ⌜ r ≡ at + length (lineText (line Ver (versionText version ∷ []))) ⌝ }
-    ensures { λ _. ⌜ now (out .exit) ≡ sets (now (out .entry)) at (lineText (line Ver (versionText version ∷ []))) ⌝ }
+    requires { ⌜ Fits out at (lineText (line Ver (versionText version ∷ []))) ⌝ }
+    ensures { λ r. ⌜ Written out at (lineText (line Ver (versionText version ∷ []))) r ⌝ }
 {
     match version {
         DDDMPVersion::V2_0 => writers::text::put_bytes(out, at, b".ver DDDMP-2.0\n"),
@@ -30,9 +27,8 @@ fn write_version(version: DDDMPVersion, out: &mut [u8], at: usize) -> usize
 
 // Writes `.mode`.
 fn write_mode(ascii: bool, out: &mut [u8], at: usize) -> usize
-    requires { ⌜ at + length (lineText (line Mode (modeText ascii ∷ []))) ≤ length (now out) ⌝ }
-    ensures { λ r. ⌜ r ≡ at + length (lineText (line Mode (modeText ascii ∷ []))) ⌝ }
-    ensures { λ _. ⌜ now (out .exit) ≡ sets (now (out .entry)) at (lineText (line Mode (modeText ascii ∷ []))) ⌝ }
+    requires { ⌜ Fits out at (lineText (line Mode (modeText ascii ∷ []))) ⌝ }
+    ensures { λ r. ⌜ Written out at (lineText (line Mode (modeText ascii ∷ []))) r ⌝ }
 {
     if ascii {
         return writers::text::put_bytes(out, at, b".mode A\n");
@@ -42,10 +38,8 @@ fn write_mode(ascii: bool, out: &mut [u8], at: usize) -> usize
 
 // Writes `.dd`, where the diagram has a name.
 fn write_diagram(out: &mut [u8], at: usize, bytes: &[u8], start: u32, len: u32) -> usize
-    requires { ⌜ start + len ≤ length (now bytes) ⌝ }
-    requires { ⌜ at + length (linesText (unlessEmpty (nameAt (now bytes) (place start len)) (line Dd (nameAt (now bytes) (place start len) ∷ [])))) ≤ length (now out) ⌝ }
-    ensures { λ r. ⌜ r ≡ at + length (linesText (unlessEmpty (nameAt (now (bytes .entry)) (place start len)) (line Dd (nameAt (now (bytes .entry)) (place start len) ∷ [])))) ⌝ }
-    ensures { λ _. ⌜ now (out .exit) ≡ sets (now (out .entry)) at (linesText (unlessEmpty (nameAt (now (bytes .entry)) (place start len)) (line Dd (nameAt (now (bytes .entry)) (place start len) ∷ [])))) ⌝ }
+    requires { ⌜ DiagramAsks out at bytes start len ⌝ }
+    ensures { λ r. ⌜ DiagramPromise out at bytes start len r ⌝ }
 {
     if len == 0 {
         return at;
@@ -66,9 +60,8 @@ fn write_intro(
     len: u32,
 ) -> usize
     requires { ⌜ fitPlace true (now bytes) (place start len) ≡ true ⌝ }
-    requires { ⌜ at + length (linesText (introLines version ascii (nameAt (now bytes) (place start len)))) ≤ length (now out) ⌝ }
-    ensures { λ r. ⌜ r ≡ at + length (linesText (introLines version ascii (nameAt (now (bytes .entry)) (place start len)))) ⌝ }
-    ensures { λ _. ⌜ now (out .exit) ≡ sets (now (out .entry)) at (linesText (introLines version ascii (nameAt (now (bytes .entry)) (place start len)))) ⌝ }
+    requires { ⌜ Fits out at (linesText (introLines version ascii (nameAt (now bytes) (place start len)))) ⌝ }
+    ensures { λ r. ⌜ Written out at (linesText (introLines version ascii (nameAt (old bytes) (place start len)))) r ⌝ }
 {
     let mode_at = write_version(version, out, at);
     let varinfo_at = write_mode(ascii, out, mode_at);
@@ -86,10 +79,8 @@ fn write_roots(
     starts: &[u32],
     lens: &[u32],
 ) -> usize
-    requires { ⌜ Rooted (now roots) (now numbers) × (listFits (length (now roots)) (now bytes) (now starts) (now lens) ≡ true) ⌝ }
-    requires { ⌜ at + length (linesText (rootLines (map (numberOf (now numbers)) (now roots)) (namesAt (now bytes) (now starts) (now lens)))) ≤ length (now out) ⌝ }
-    ensures { λ r. ⌜ r ≡ at + length (linesText (rootLines (map (numberOf (now (numbers .entry))) (now (roots .entry))) (namesAt (now (bytes .entry)) (now (starts .entry)) (now (lens .entry))))) ⌝ }
-    ensures { λ _. ⌜ now (out .exit) ≡ sets (now (out .entry)) at (linesText (rootLines (map (numberOf (now (numbers .entry))) (now (roots .entry))) (namesAt (now (bytes .entry)) (now (starts .entry)) (now (lens .entry))))) ⌝ }
+    requires { ⌜ RootsAsks out at roots numbers bytes starts lens ⌝ }
+    ensures { λ r. ⌜ RootsPromise out at roots numbers bytes starts lens r ⌝ }
 {
     let ids_key = head_numbers::write_count(out, at, b".nroots", roots.len());
     let ids_at = writers::text::put_bytes(out, ids_key, b".rootids");
@@ -120,12 +111,10 @@ pub fn write_header(
     roots: &[Edge],
     numbers: &[Index],
 ) -> usize
-    requires { ⌜ Ordered (now order) (now vars) (now seats) × Rooted (now roots) (now numbers) ⌝ }
-    requires { ⌜ NamesFit (lent (now bytes) (now starts) (now lens) (now rootstarts) (now rootlens) (place ddstart ddlen)) (length (now order)) (length (now roots)) ⌝ }
-    requires { ⌜ nsuppvars ≡ length (seated (now seats)) ⌝ }
-    requires { ⌜ at + length (headText (headingBy version ascii (lent (now bytes) (now starts) (now lens) (now rootstarts) (now rootlens) (place ddstart ddlen)) nnodes (now order) (now seats) (now roots) (now numbers))) ≤ length (now out) ⌝ }
-    ensures { λ r. ⌜ r ≡ at + length (headText (headingBy version ascii (lent (now (bytes .entry)) (now (starts .entry)) (now (lens .entry)) (now (rootstarts .entry)) (now (rootlens .entry)) (place ddstart ddlen)) nnodes (now (order .entry)) (now (seats .entry)) (now (roots .entry)) (now (numbers .entry)))) ⌝ }
-    ensures { λ _. ⌜ now (out .exit) ≡ sets (now (out .entry)) at (headText (headingBy version ascii (lent (now (bytes .entry)) (now (starts .entry)) (now (lens .entry)) (now (rootstarts .entry)) (now (rootlens .entry)) (place ddstart ddlen)) nnodes (now (order .entry)) (now (seats .entry)) (now (roots .entry)) (now (numbers .entry)))) ⌝ }
+    requires { ⌜ HeaderAsks version ascii out at bytes starts lens rootstarts rootlens ddstart ddlen nnodes nsuppvars
+        order vars seats roots numbers ⌝ }
+    ensures { λ r. ⌜ HeaderPromise version ascii out at bytes starts lens rootstarts rootlens ddstart ddlen nnodes
+        order seats roots numbers r ⌝ }
 {
     let counts_at = write_intro(version, ascii, out, at, bytes, ddstart, ddlen);
     let names_at = head_numbers::write_counts(

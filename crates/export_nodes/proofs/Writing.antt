@@ -8,7 +8,8 @@ use native.Mathlib.Numerals.{add-one}
 use lib.ListN.{length, getD, drop, length-append, drop-of-length-le}
 use lib.Seq.{sets, drop-cons}
 use Rattle.store.specs.Store.{Store}
-use Rattle.writers.proofs.Sets.{Wrote, sets-append}
+use Rattle.writers.specs.Written.{Wrote}
+use Rattle.writers.proofs.Sets.{sets-append}
 use Rattle.node_writers.specs.Encoded.{lineBytes, encodeFrom, nodeBytes}
 use Rattle.export_nodes.specs.Tables.{linesBy, nodeBy, Lined}
 use Rattle.export_nodes.proofs.TableLines.{lineSeats, node-line}
@@ -37,7 +38,7 @@ module _ (ascii : Bool) (σ : Store) (nodes numbers seats : List ℕ) where
   pub writing-end : {old : List ℕ} {at : ℕ} {out : List ℕ} {next i : ℕ} → Writing old at out next i → length nodes ≤ i
       → Wrote old at (nodeBytes ascii (linesBy σ numbers seats nodes)) next out
   writing-end {old} {at} {out} {next} {i} w h =
-      (omega (arith, w .ends, ap length (left-none i h)), ap (sets out next) (sym (left-none i h)) ∙ w .stored)
+      record { next = omega (arith, w .ends, ap length (left-none i h)); bytes = ap (sets out next) (sym (left-none i h)) ∙ w .stored }
 
 -- The line of the next node is the first of those that are left.
 module _ (ascii : Bool) {σ : Store} {nodes numbers seats : List ℕ} (L : Lined σ nodes numbers seats) (i : ℕ) (h : i < length nodes) where
@@ -61,6 +62,6 @@ module _ (ascii : Bool) {σ : Store} {nodes numbers seats : List ℕ} (L : Lined
         record {
           within = omega arith;
           long = long ∙ w .long;
-          ends = omega (arith, w .ends, p .0, length-more);
-          stored = rw (p .0, p .1) (sym (sets-append out next line _) ∙ ap (sets out next) (sym left-more) ∙ w .stored);
+          ends = omega (arith, w .ends, p .next, length-more);
+          stored = rw (p .next, p .bytes) (sym (sets-append out next line _) ∙ ap (sets out next) (sym left-more) ∙ w .stored);
         }

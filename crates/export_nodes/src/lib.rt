@@ -1,12 +1,12 @@
 // The node lines of an export, in their order.
 ghost use mathlib.Core.Path.{_≡_};
-ghost use Prim.Native.Nat.{_+_, _≤_};
+ghost use Prim.Native.Nat.{_≤_};
 ghost use mathlib.Core.List.{[]};
-ghost use lib.ListN.{length};
-ghost use lib.Seq.{sets};
 ghost use lib.IntN.{natAbs};
 ghost use Rattle.codes.specs.Limits.{nodeLimit};
 ghost use Rattle.store.specs.Store.{slots};
+ghost use Rattle.store.specs.Lent.{old};
+ghost use Rattle.writers.specs.Written.{Fits, Written};
 ghost use Rattle.node_writers.specs.Encoded.{nodeBytes};
 ghost use Rattle.export_nodes.specs.Tables.{numberOf, Numbered, linesBy, seatBy, innerBy, nodeBy, Seated, Inner, Lined};
 use edges::Edge;
@@ -51,9 +51,8 @@ fn put_inner(
     node: Index,
 ) -> usize
     requires { ⌜ (2 ≤ node) × (n ≤ nodeLimit) × Inner (slots (now level) (now then) (now els)) (now numbers) (now seats) n node ⌝ }
-    requires { ⌜ at + length (innerBy ascii (slots (now level) (now then) (now els)) (now numbers) (now seats) n node) ≤ length (now out) ⌝ }
-    ensures { λ r. ⌜ r ≡ at + length (innerBy ascii (slots (now (level .entry)) (now (then .entry)) (now (els .entry))) (now (numbers .entry)) (now (seats .entry)) n node) ⌝ }
-    ensures { λ _. ⌜ now (out .exit) ≡ sets (now (out .entry)) at (innerBy ascii (slots (now (level .entry)) (now (then .entry)) (now (els .entry))) (now (numbers .entry)) (now (seats .entry)) n node) ⌝ }
+    requires { ⌜ Fits out at (innerBy ascii (slots (now level) (now then) (now els)) (now numbers) (now seats) n node) ⌝ }
+    ensures { λ r. ⌜ Written out at (innerBy ascii (slots (old level) (old then) (old els)) (old numbers) (old seats) n node) r ⌝ }
 {
     let i = node as usize - 1;
     let t = then[i];
@@ -82,9 +81,8 @@ fn put_node(
     node: Index,
 ) -> usize
     requires { ⌜ (1 ≤ node) × (n ≤ nodeLimit) × (2 ≤ node → Inner (slots (now level) (now then) (now els)) (now numbers) (now seats) n node) ⌝ }
-    requires { ⌜ at + length (nodeBy ascii (slots (now level) (now then) (now els)) (now numbers) (now seats) n node) ≤ length (now out) ⌝ }
-    ensures { λ r. ⌜ r ≡ at + length (nodeBy ascii (slots (now (level .entry)) (now (then .entry)) (now (els .entry))) (now (numbers .entry)) (now (seats .entry)) n node) ⌝ }
-    ensures { λ _. ⌜ now (out .exit) ≡ sets (now (out .entry)) at (nodeBy ascii (slots (now (level .entry)) (now (then .entry)) (now (els .entry))) (now (numbers .entry)) (now (seats .entry)) n node) ⌝ }
+    requires { ⌜ Fits out at (nodeBy ascii (slots (now level) (now then) (now els)) (now numbers) (now seats) n node) ⌝ }
+    ensures { λ r. ⌜ Written out at (nodeBy ascii (slots (old level) (old then) (old els)) (old numbers) (old seats) n node) r ⌝ }
 {
     if node != 1 {
         return put_inner(ascii, level, then, els, numbers, seats, out, at, n, node);
@@ -108,9 +106,8 @@ pub fn write_nodes(
     at: usize,
 ) -> usize
     requires { ⌜ Lined (slots (now level) (now then) (now els)) (now nodes) (now numbers) (now seats) ⌝ }
-    requires { ⌜ at + length (nodeBytes ascii (linesBy (slots (now level) (now then) (now els)) (now numbers) (now seats) (now nodes))) ≤ length (now out) ⌝ }
-    ensures { λ r. ⌜ r ≡ at + length (nodeBytes ascii (linesBy (slots (now (level .entry)) (now (then .entry)) (now (els .entry))) (now (numbers .entry)) (now (seats .entry)) (now (nodes .entry)))) ⌝ }
-    ensures { λ _. ⌜ now (out .exit) ≡ sets (now (out .entry)) at (nodeBytes ascii (linesBy (slots (now (level .entry)) (now (then .entry)) (now (els .entry))) (now (numbers .entry)) (now (seats .entry)) (now (nodes .entry)))) ⌝ }
+    requires { ⌜ Fits out at (nodeBytes ascii (linesBy (slots (now level) (now then) (now els)) (now numbers) (now seats) (now nodes))) ⌝ }
+    ensures { λ r. ⌜ Written out at (nodeBytes ascii (linesBy (slots (old level) (old then) (old els)) (old numbers) (old seats) (old nodes))) r ⌝ }
 {
     let mut next = at;
     let mut i: usize = 0;

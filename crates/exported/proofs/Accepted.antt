@@ -1,6 +1,6 @@
 -- What an export that is not refused has shown of its parts.
-use mathlib.Core.Path.{_≡_, refl}
-use mathlib.Core.Bool.{Bool, true, false, cond, _&&_}
+use mathlib.Core.Path.{_≡_}
+use mathlib.Core.Bool.{Bool, true, _&&_}
 use mathlib.Core.List.{List, [], _∷_}
 use Prim.Native.Nat.{ℕ, zero, suc, _≤_, _<_}
 use native.Mathlib.Omega.{arith}
@@ -10,6 +10,8 @@ use lib.IntN.{ℤ, pos, natAbs}
 use borrow.Author.Tests.{leb-true, eqb-true}
 use Rattle.codes.specs.Limits.{rootLimit}
 use Rattle.codes.proofs.Bytes.{both}
+use Rattle.codes.proofs.Faults.{first-none, rest-none}
+use Rattle.codes.proofs.Refusals.{unless-none}
 use Rattle.store.specs.Store.{Store}
 use Rattle.store.specs.Rules.{limits, Rules}
 use Rattle.store.specs.Keeps.{keeps, keeps-true}
@@ -78,16 +80,9 @@ module _ (σ : Store) (roots : List ℤ) (order : List ℕ) (p : Lent) (slots nu
 
   pub accepted : exportFault σ roots order p slots numbers out ≡ 0 → Accepted σ roots order p slots numbers out
   unfolding exportFault
-  accepted =
-      go (enough σ roots p slots numbers out) (keeps limits σ) (rootsFit (σ .count) roots) (isOrder (σ .levels) order) (namesFit σ roots p)
-      refl refl refl refl refl
-    where
-      go : (a b c d e : Bool) → enough σ roots p slots numbers out ≡ a → keeps limits σ ≡ b → rootsFit (σ .count) roots ≡ c
-          → isOrder (σ .levels) order ≡ d → namesFit σ roots p ≡ e → _≡_ {A = ℕ} (cond a (cond b (cond c (cond d (cond e 0 5) 6) 4) 3) 1) 0
-          → Accepted σ roots order p slots numbers out
-      go true true true true true ea eb ec ed ee h = passed ea eb ec ed ee
-      go true true true true false ea eb ec ed ee h = absurd (omega arith)
-      go true true true false e ea eb ec ed ee h = absurd (omega arith)
-      go true true false d e ea eb ec ed ee h = absurd (omega arith)
-      go true false c d e ea eb ec ed ee h = absurd (omega arith)
-      go false b c d e ea eb ec ed ee h = absurd (omega arith)
+  accepted h =
+      let h₂ = rest-none _ _ h in
+      let h₃ = rest-none _ _ h₂ in
+      let h₄ = rest-none _ _ h₃ in
+      passed (unless-none _ 0 (first-none _ _ h)) (unless-none _ 2 (first-none _ _ h₂)) (unless-none _ 3 (first-none _ _ h₃))
+      (unless-none _ 5 (first-none _ _ h₄)) (unless-none _ 4 (first-none _ [] (rest-none _ _ h₄)))

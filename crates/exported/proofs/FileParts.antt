@@ -12,7 +12,8 @@ use Rattle.store.specs.Store.{Store}
 use Rattle.seats.proofs.Seating.{seat-most}
 use Rattle.export_size.specs.Size.{exportSize}
 use Rattle.export_names.proofs.FitLists.{place-length, list-count, list-sum}
-use Rattle.writers.proofs.Sets.{Wrote, wrote-then, sets-laid}
+use Rattle.writers.specs.Written.{Wrote}
+use Rattle.writers.proofs.Sets.{wrote-then, sets-laid}
 use Rattle.export_nodes.specs.Exported.{Exported}
 use Rattle.export_nodes.specs.Lines.{renumbered, linesFor}
 use Rattle.node_writers.specs.Encoded.{nodeBytes, endText}
@@ -100,4 +101,4 @@ module _ (s : Settings) {σ : Store} {roots : List ℤ} {order : List ℕ} {p : 
       unfolding fileOf
       file-written {l} u v w z =
           let f = wrote-then l 0 h (b ++ endText) u (wrote-then _ _ b endText v w) in
-          rw (← hq, ← bq, ← z) (omega (arith, f .0), f .1 ∙ sets-laid l (h ++ (b ++ endText)))
+          rw (← hq, ← bq, ← z) (omega (arith, f .next), f .bytes ∙ sets-laid l (h ++ (b ++ endText)))

@@ -3,11 +3,12 @@
 use Prim.Native.Nat.{ℕ, zero, suc}
 use mathlib.Core.List.{List, [], _∷_, _++_, map}
 use Rattle.seats.specs.Seats.{Seats}
-use mathlib.Core.Bool.{Bool, true, cond, _&&_}
+use mathlib.Core.Bool.{Bool, true, _&&_}
 use lib.Dec.{leb}
 use lib.ListN.{length}
 use lib.IntN.{ℤ, natAbs}
 use Rattle.codes.specs.Limits.{rootLimit}
+use Rattle.codes.specs.Faults.{firstFault, unless}
 use Rattle.store.specs.Store.{Store}
 use Rattle.store.specs.Rules.{limits}
 use Rattle.store.specs.Keeps.{keeps}
@@ -52,12 +53,13 @@ namesFit σ roots p =
 -- 'Export gives 1, 3, 4, 6, 5.' The refusal, 0 of none.
 unfoldable pub exportFault : Store → List ℤ → List ℕ → Lent → ℕ → ℕ → ℕ → ℕ
 exportFault σ roots order p slots numbers out =
-    cond (enough σ roots p slots numbers out)
-    (cond (keeps limits σ)
-    (cond (rootsFit (σ .count) roots)
-    (cond (isOrder (σ .levels) order)
-    (cond (namesFit σ roots p) 0 5)
-    6) 4) 3) 1
+    firstFault (
+    unless (enough σ roots p slots numbers out) 1
+    ∷ unless (keeps limits σ) 3
+    ∷ unless (rootsFit (σ .count) roots) 4
+    ∷ unless (isOrder (σ .levels) order) 6
+    ∷ unless (namesFit σ roots p) 5
+    ∷ [])
 
 -- what the header says, where the lines are those of the nodes ns
 unfoldable pub headingOf : Settings → Store → List ℤ → List ℕ → Lent → List ℕ → Heading

@@ -117,7 +117,8 @@ impl ExportSettings {
         numbers: &mut [Index],
         out: &mut [u8],
     ) -> Exported
-        ensures { λ r. ⌜ ExportPromise self levels count level then els next heads roots order bytes starts lens rootstarts rootlens slots numbers out r ⌝ }
+        ensures { λ r. ⌜ ExportPromise self levels count level then els next heads roots order
+            bytes starts lens rootstarts rootlens slots numbers out r ⌝ }
     {
         let dd = self.dd;
         let version = self.version;

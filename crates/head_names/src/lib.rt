@@ -1,27 +1,24 @@
 // The lines of a header that hold names, written.
-ghost use mathlib.Core.Path.{_≡_};
-ghost use mathlib.Core.Bool.{true};
 ghost use mathlib.Core.List.{[], _∷_};
 ghost use Prim.Native.Nat.{_+_, _≤_, _<_};
 ghost use lib.ListN.{length, getD};
-ghost use lib.Seq.{sets};
+ghost use Rattle.store.specs.Lent.{old};
 ghost use Rattle.read_text.specs.Text.{place};
-ghost use Rattle.seats.specs.Seats.{Seats};
-ghost use Rattle.header_keys.specs.declared.Key.the-variants.{Rootnames};
-ghost use Rattle.export_names.specs.Names.{nameAt, namesAt, listFits};
-ghost use Rattle.variable_order.specs.Order.{isOrder};
+ghost use Rattle.export_names.specs.Names.{nameAt, namesAt};
 ghost use Rattle.writers.specs.Words.{spaced};
-ghost use Rattle.heading.specs.Lines.{line, keyedText, linesText};
-ghost use Rattle.heading.specs.Heading.{idsFrom, variablesFrom, chosen, unlessEmpty, varnameLines, namedLines};
-ghost use Rattle.heading.specs.Tables.{seated, Seatable, Ordered, Inside};
+ghost use Rattle.writers.specs.Written.{Fits, Written};
+ghost use Rattle.heading.specs.Lines.{keyedText, linesText};
+ghost use Rattle.heading.specs.Heading.{varnameLines};
+ghost use Rattle.heading.specs.Tables.{Inside};
+ghost use Rattle.head_names.specs.Promises.{SuppNamesAsks, SuppNamesPromise, OrderedNamesAsks, OrderedNamesPromise};
+ghost use Rattle.head_names.specs.Promises.{NamesAsks, NamesPromise, RootnamesAsks, RootnamesPromise};
 use codes::DDDMPVersion;
 
 // Writes the name at a place.
 pub fn put_place(out: &mut [u8], at: usize, bytes: &[u8], start: u32, len: u32) -> usize
     requires { ⌜ start + len ≤ length (now bytes) ⌝ }
-    requires { ⌜ at + length (nameAt (now bytes) (place start len)) ≤ length (now out) ⌝ }
-    ensures { λ r. ⌜ r ≡ at + length (nameAt (now (bytes .entry)) (place start len)) ⌝ }
-    ensures { λ _. ⌜ now (out .exit) ≡ sets (now (out .entry)) at (nameAt (now (bytes .entry)) (place start len)) ⌝ }
+    requires { ⌜ Fits out at (nameAt (now bytes) (place start len)) ⌝ }
+    ensures { λ r. ⌜ Written out at (nameAt (old bytes) (place start len)) r ⌝ }
 {
     let first = start as usize;
     let end = first + len as usize;
@@ -38,9 +35,8 @@ fn put_name(
     i: usize,
 ) -> usize
     requires { ⌜ Inside (now bytes) (now starts) (now lens) × (i < length (now lens)) ⌝ }
-    requires { ⌜ at + length (0x20 ∷ getD (namesAt (now bytes) (now starts) (now lens)) i []) ≤ length (now out) ⌝ }
-    ensures { λ r. ⌜ r ≡ at + length (0x20 ∷ getD (namesAt (now (bytes .entry)) (now (starts .entry)) (now (lens .entry))) i []) ⌝ }
-    ensures { λ _. ⌜ now (out .exit) ≡ sets (now (out .entry)) at (0x20 ∷ getD (namesAt (now (bytes .entry)) (now (starts .entry)) (now (lens .entry))) i []) ⌝ }
+    requires { ⌜ Fits out at (0x20 ∷ getD (namesAt (now bytes) (now starts) (now lens)) i []) ⌝ }
+    ensures { λ r. ⌜ Written out at (0x20 ∷ getD (namesAt (old bytes) (old starts) (old lens)) i []) r ⌝ }
 {
     let next = writers::text::put_byte(out, at, b' ');
     put_place(out, next, bytes, starts[i], lens[i])
@@ -49,9 +45,8 @@ fn put_name(
 // Writes all names of a list, in its order.
 fn put_names(out: &mut [u8], at: usize, bytes: &[u8], starts: &[u32], lens: &[u32]) -> usize
     requires { ⌜ Inside (now bytes) (now starts) (now lens) ⌝ }
-    requires { ⌜ at + length (spaced (namesAt (now bytes) (now starts) (now lens))) ≤ length (now out) ⌝ }
-    ensures { λ r. ⌜ r ≡ at + length (spaced (namesAt (now (bytes .entry)) (now (starts .entry)) (now (lens .entry)))) ⌝ }
-    ensures { λ _. ⌜ now (out .exit) ≡ sets (now (out .entry)) at (spaced (namesAt (now (bytes .entry)) (now (starts .entry)) (now (lens .entry)))) ⌝ }
+    requires { ⌜ Fits out at (spaced (namesAt (now bytes) (now starts) (now lens))) ⌝ }
+    ensures { λ r. ⌜ Written out at (spaced (namesAt (old bytes) (old starts) (old lens))) r ⌝ }
 {
     let mut next = at;
     let mut i: usize = 0;
@@ -72,9 +67,8 @@ fn write_list(
     lens: &[u32],
 ) -> usize
     requires { ⌜ Inside (now bytes) (now starts) (now lens) ⌝ }
-    requires { ⌜ at + length (keyedText (now key) (namesAt (now bytes) (now starts) (now lens))) ≤ length (now out) ⌝ }
-    ensures { λ r. ⌜ r ≡ at + length (keyedText (now (key .entry)) (namesAt (now (bytes .entry)) (now (starts .entry)) (now (lens .entry)))) ⌝ }
-    ensures { λ _. ⌜ now (out .exit) ≡ sets (now (out .entry)) at (keyedText (now (key .entry)) (namesAt (now (bytes .entry)) (now (starts .entry)) (now (lens .entry)))) ⌝ }
+    requires { ⌜ Fits out at (keyedText (now key) (namesAt (now bytes) (now starts) (now lens))) ⌝ }
+    ensures { λ r. ⌜ Written out at (keyedText (old key) (namesAt (old bytes) (old starts) (old lens))) r ⌝ }
 {
     let names_at = writers::text::put_bytes(out, at, key);
     let end = put_names(out, names_at, bytes, starts, lens);
@@ -91,11 +85,8 @@ fn put_supp_names(
     order: &[u16],
     seats: &[u16],
 ) -> usize
-    requires { ⌜ Inside (now bytes) (now starts) (now lens) × (length (now lens) ≡ length (now order)) ⌝ }
-    requires { ⌜ Seatable (now order) (now seats) ⌝ }
-    requires { ⌜ at + length (spaced (chosen (idsFrom (seated (now seats)) 0 (now order)) (namesAt (now bytes) (now starts) (now lens)))) ≤ length (now out) ⌝ }
-    ensures { λ r. ⌜ r ≡ at + length (spaced (chosen (idsFrom (seated (now (seats .entry))) 0 (now (order .entry))) (namesAt (now (bytes .entry)) (now (starts .entry)) (now (lens .entry))))) ⌝ }
-    ensures { λ _. ⌜ now (out .exit) ≡ sets (now (out .entry)) at (spaced (chosen (idsFrom (seated (now (seats .entry))) 0 (now (order .entry))) (namesAt (now (bytes .entry)) (now (starts .entry)) (now (lens .entry))))) ⌝ }
+    requires { ⌜ SuppNamesAsks out at bytes starts lens order seats ⌝ }
+    ensures { λ r. ⌜ SuppNamesPromise out at bytes starts lens order seats r ⌝ }
 {
     let mut next = at;
     let mut v: usize = 0;
@@ -118,11 +109,8 @@ fn put_ordered_names(
     order: &[u16],
     vars: &[u16],
 ) -> usize
-    requires { ⌜ Inside (now bytes) (now starts) (now lens) × (length (now lens) ≡ length (now order)) ⌝ }
-    requires { ⌜ (isOrder (length (now order)) (now order) ≡ true) × Seats (now order) (now vars) × (length (now order) ≤ length (now vars)) ⌝ }
-    requires { ⌜ at + length (spaced (chosen (variablesFrom (length (now order)) 0 (now order)) (namesAt (now bytes) (now starts) (now lens)))) ≤ length (now out) ⌝ }
-    ensures { λ r. ⌜ r ≡ at + length (spaced (chosen (variablesFrom (length (now (order .entry))) 0 (now (order .entry))) (namesAt (now (bytes .entry)) (now (starts .entry)) (now (lens .entry))))) ⌝ }
-    ensures { λ _. ⌜ now (out .exit) ≡ sets (now (out .entry)) at (spaced (chosen (variablesFrom (length (now (order .entry))) 0 (now (order .entry))) (namesAt (now (bytes .entry)) (now (starts .entry)) (now (lens .entry))))) ⌝ }
+    requires { ⌜ OrderedNamesAsks out at bytes starts lens order vars ⌝ }
+    ensures { λ r. ⌜ OrderedNamesPromise out at bytes starts lens order r ⌝ }
 {
     let mut next = at;
     let mut l: usize = 0;
@@ -144,9 +132,8 @@ fn write_varnames(
     lens: &[u32],
 ) -> usize
     requires { ⌜ Inside (now bytes) (now starts) (now lens) ⌝ }
-    requires { ⌜ at + length (linesText (varnameLines version (namesAt (now bytes) (now starts) (now lens)))) ≤ length (now out) ⌝ }
-    ensures { λ r. ⌜ r ≡ at + length (linesText (varnameLines version (namesAt (now (bytes .entry)) (now (starts .entry)) (now (lens .entry))))) ⌝ }
-    ensures { λ _. ⌜ now (out .exit) ≡ sets (now (out .entry)) at (linesText (varnameLines version (namesAt (now (bytes .entry)) (now (starts .entry)) (now (lens .entry))))) ⌝ }
+    requires { ⌜ Fits out at (linesText (varnameLines version (namesAt (now bytes) (now starts) (now lens)))) ⌝ }
+    ensures { λ r. ⌜ Written out at (linesText (varnameLines version (namesAt (old bytes) (old starts) (old lens)))) r ⌝ }
 {
     match version {
         DDDMPVersion::V2_0 => at,
@@ -166,10 +153,8 @@ pub fn write_names(
     vars: &[u16],
     seats: &[u16],
 ) -> usize
-    requires { ⌜ (listFits (length (now order)) (now bytes) (now starts) (now lens) ≡ true) × Ordered (now order) (now vars) (now seats) ⌝ }
-    requires { ⌜ at + length (linesText (namedLines version (seated (now seats)) (now order) (namesAt (now bytes) (now starts) (now lens)))) ≤ length (now out) ⌝ }
-    ensures { λ r. ⌜ r ≡ at + length (linesText (namedLines version (seated (now (seats .entry))) (now (order .entry)) (namesAt (now (bytes .entry)) (now (starts .entry)) (now (lens .entry))))) ⌝ }
-    ensures { λ _. ⌜ now (out .exit) ≡ sets (now (out .entry)) at (linesText (namedLines version (seated (now (seats .entry))) (now (order .entry)) (namesAt (now (bytes .entry)) (now (starts .entry)) (now (lens .entry))))) ⌝ }
+    requires { ⌜ NamesAsks out at bytes starts lens version order vars seats ⌝ }
+    ensures { λ r. ⌜ NamesPromise out at bytes starts lens version order seats r ⌝ }
 {
     // With no variables there are no names either, and their lines are written empty.
     if lens.len() != order.len() {
@@ -191,10 +176,8 @@ pub fn write_rootnames(
     starts: &[u32],
     lens: &[u32],
 ) -> usize
-    requires { ⌜ Inside (now bytes) (now starts) (now lens) ⌝ }
-    requires { ⌜ at + length (linesText (unlessEmpty (namesAt (now bytes) (now starts) (now lens)) (line Rootnames (namesAt (now bytes) (now starts) (now lens))))) ≤ length (now out) ⌝ }
-    ensures { λ r. ⌜ r ≡ at + length (linesText (unlessEmpty (namesAt (now (bytes .entry)) (now (starts .entry)) (now (lens .entry))) (line Rootnames (namesAt (now (bytes .entry)) (now (starts .entry)) (now (lens .entry)))))) ⌝ }
-    ensures { λ _. ⌜ now (out .exit) ≡ sets (now (out .entry)) at (linesText (unlessEmpty (namesAt (now (bytes .entry)) (now (starts .entry)) (now (lens .entry))) (line Rootnames (namesAt (now (bytes .entry)) (now (starts .entry)) (now (lens .entry)))))) ⌝ }
+    requires { ⌜ RootnamesAsks out at bytes starts lens ⌝ }
+    ensures { λ r. ⌜ RootnamesPromise out at bytes starts lens r ⌝ }
 {
     if lens.len() == 0 {
         return at;

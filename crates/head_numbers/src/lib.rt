@@ -1,12 +1,13 @@
 // The lines of a header that hold numbers, written.
 ghost use mathlib.Core.Path.{_≡_};
 ghost use mathlib.Core.List.{[], _∷_, map};
-ghost use Prim.Native.Nat.{_+_, _≤_, _<_};
+ghost use Prim.Native.Nat.{_<_};
 ghost use lib.ListN.{length, getD};
 ghost use lib.IntN.{natAbs};
-ghost use lib.Seq.{sets};
+ghost use Rattle.store.specs.Lent.{old};
 ghost use Rattle.writers.specs.Decimal.{decimal, edgeText};
 ghost use Rattle.writers.specs.Words.{spaced};
+ghost use Rattle.writers.specs.Written.{Fits, Written};
 ghost use Rattle.reached.specs.Walk.{isIn};
 ghost use Rattle.export_nodes.specs.Tables.{numberOf, Numbered};
 ghost use Rattle.heading.specs.Lines.{keyedText, linesText};
@@ -17,9 +18,8 @@ use edges::Index;
 
 // Writes a number with a space before it.
 fn put_spaced(out: &mut [u8], at: usize, n: u64) -> usize
-    requires { ⌜ at + length (0x20 ∷ decimal n) ≤ length (now out) ⌝ }
-    ensures { λ r. ⌜ r ≡ at + length (0x20 ∷ decimal n) ⌝ }
-    ensures { λ _. ⌜ now (out .exit) ≡ sets (now (out .entry)) at (0x20 ∷ decimal n) ⌝ }
+    requires { ⌜ Fits out at (0x20 ∷ decimal n) ⌝ }
+    ensures { λ r. ⌜ Written out at (0x20 ∷ decimal n) r ⌝ }
 {
     let next = writers::text::put_byte(out, at, b' ');
     writers::text::put_decimal(out, next, n)
@@ -27,9 +27,8 @@ fn put_spaced(out: &mut [u8], at: usize, n: u64) -> usize
 
 // Writes a line of a key and a number.
 pub fn write_count(out: &mut [u8], at: usize, key: &[u8], n: usize) -> usize
-    requires { ⌜ at + length (keyedText (now key) (decimal n ∷ [])) ≤ length (now out) ⌝ }
-    ensures { λ r. ⌜ r ≡ at + length (keyedText (now (key .entry)) (decimal n ∷ [])) ⌝ }
-    ensures { λ _. ⌜ now (out .exit) ≡ sets (now (out .entry)) at (keyedText (now (key .entry)) (decimal n ∷ [])) ⌝ }
+    requires { ⌜ Fits out at (keyedText (now key) (decimal n ∷ [])) ⌝ }
+    ensures { λ r. ⌜ Written out at (keyedText (old key) (decimal n ∷ [])) r ⌝ }
 {
     let n_at = writers::text::put_bytes(out, at, key);
     let end = put_spaced(out, n_at, n as u64);
@@ -44,9 +43,8 @@ pub fn write_counts(
     nvars: usize,
     nsuppvars: usize,
 ) -> usize
-    requires { ⌜ at + length (linesText (countLines nnodes nvars nsuppvars)) ≤ length (now out) ⌝ }
-    ensures { λ r. ⌜ r ≡ at + length (linesText (countLines nnodes nvars nsuppvars)) ⌝ }
-    ensures { λ _. ⌜ now (out .exit) ≡ sets (now (out .entry)) at (linesText (countLines nnodes nvars nsuppvars)) ⌝ }
+    requires { ⌜ Fits out at (linesText (countLines nnodes nvars nsuppvars)) ⌝ }
+    ensures { λ r. ⌜ Written out at (linesText (countLines nnodes nvars nsuppvars)) r ⌝ }
 {
     let nvars_at = write_count(out, at, b".nnodes", nnodes);
     let nsuppvars_at = write_count(out, nvars_at, b".nvars", nvars);
@@ -56,7 +54,7 @@ pub fn write_counts(
 // Is a variable in the support? Its level then has a seat.
 pub fn in_support(order: &[u16], seats: &[u16], v: usize) -> bool
     requires { ⌜ Seatable (now order) (now seats) × (v < length (now order)) ⌝ }
-    ensures { λ r. ⌜ r ≡ isIn (getD (now (order .entry)) v 0) (seated (now (seats .entry))) ⌝ }
+    ensures { λ r. ⌜ r ≡ isIn (getD (old order) v 0) (seated (old seats)) ⌝ }
 {
     seats[order[v] as usize] != 0
 }
@@ -64,9 +62,8 @@ pub fn in_support(order: &[u16], seats: &[u16], v: usize) -> bool
 // Writes the support variables.
 fn put_ids(out: &mut [u8], at: usize, order: &[u16], seats: &[u16]) -> usize
     requires { ⌜ Seatable (now order) (now seats) ⌝ }
-    requires { ⌜ at + length (spaced (map decimal (idsFrom (seated (now seats)) 0 (now order)))) ≤ length (now out) ⌝ }
-    ensures { λ r. ⌜ r ≡ at + length (spaced (map decimal (idsFrom (seated (now (seats .entry))) 0 (now (order .entry))))) ⌝ }
-    ensures { λ _. ⌜ now (out .exit) ≡ sets (now (out .entry)) at (spaced (map decimal (idsFrom (seated (now (seats .entry))) 0 (now (order .entry))))) ⌝ }
+    requires { ⌜ Fits out at (spaced (map decimal (idsFrom (seated (now seats)) 0 (now order)))) ⌝ }
+    ensures { λ r. ⌜ Written out at (spaced (map decimal (idsFrom (seated (old seats)) 0 (old order)))) r ⌝ }
 {
     let mut next = at;
     let mut v: usize = 0;
@@ -82,9 +79,8 @@ fn put_ids(out: &mut [u8], at: usize, order: &[u16], seats: &[u16]) -> usize
 // Writes their levels, in the order of the variables.
 fn put_permids(out: &mut [u8], at: usize, order: &[u16], seats: &[u16]) -> usize
     requires { ⌜ Seatable (now order) (now seats) ⌝ }
-    requires { ⌜ at + length (spaced (map decimal (permidsOf (seated (now seats)) (now order)))) ≤ length (now out) ⌝ }
-    ensures { λ r. ⌜ r ≡ at + length (spaced (map decimal (permidsOf (seated (now (seats .entry))) (now (order .entry))))) ⌝ }
-    ensures { λ _. ⌜ now (out .exit) ≡ sets (now (out .entry)) at (spaced (map decimal (permidsOf (seated (now (seats .entry))) (now (order .entry))))) ⌝ }
+    requires { ⌜ Fits out at (spaced (map decimal (permidsOf (seated (now seats)) (now order)))) ⌝ }
+    ensures { λ r. ⌜ Written out at (spaced (map decimal (permidsOf (seated (old seats)) (old order)))) r ⌝ }
 {
     let mut next = at;
     let mut v: usize = 0;
@@ -100,9 +96,8 @@ fn put_permids(out: &mut [u8], at: usize, order: &[u16], seats: &[u16]) -> usize
 // Writes `.ids` and `.permids`. `vars` isn't read: it belongs to what `Ordered` says.
 pub fn write_ids(out: &mut [u8], at: usize, order: &[u16], vars: &[u16], seats: &[u16]) -> usize
     requires { ⌜ Ordered (now order) (now vars) (now seats) ⌝ }
-    requires { ⌜ at + length (linesText (idLines (seated (now seats)) (now order))) ≤ length (now out) ⌝ }
-    ensures { λ r. ⌜ r ≡ at + length (linesText (idLines (seated (now (seats .entry))) (now (order .entry)))) ⌝ }
-    ensures { λ _. ⌜ now (out .exit) ≡ sets (now (out .entry)) at (linesText (idLines (seated (now (seats .entry))) (now (order .entry)))) ⌝ }
+    requires { ⌜ Fits out at (linesText (idLines (seated (now seats)) (now order))) ⌝ }
+    ensures { λ r. ⌜ Written out at (linesText (idLines (seated (old seats)) (old order))) r ⌝ }
 {
     let ids_at = writers::text::put_bytes(out, at, b".ids");
     let permids_key = put_ids(out, ids_at, order, seats);
@@ -114,9 +109,8 @@ pub fn write_ids(out: &mut [u8], at: usize, order: &[u16], vars: &[u16], seats: 
 // Writes a root, as the number of its line, with a space before it.
 fn put_root(out: &mut [u8], at: usize, root: Edge, numbers: &[Index]) -> usize
     requires { ⌜ Numbered (now numbers) (natAbs root) ⌝ }
-    requires { ⌜ at + length (0x20 ∷ edgeText (numberOf (now numbers) root)) ≤ length (now out) ⌝ }
-    ensures { λ r. ⌜ r ≡ at + length (0x20 ∷ edgeText (numberOf (now (numbers .entry)) root)) ⌝ }
-    ensures { λ _. ⌜ now (out .exit) ≡ sets (now (out .entry)) at (0x20 ∷ edgeText (numberOf (now (numbers .entry)) root)) ⌝ }
+    requires { ⌜ Fits out at (0x20 ∷ edgeText (numberOf (now numbers) root)) ⌝ }
+    ensures { λ r. ⌜ Written out at (0x20 ∷ edgeText (numberOf (old numbers) root)) r ⌝ }
 {
     let next = writers::text::put_byte(out, at, b' ');
     writers::text::put_edge(out, next, export_nodes::number_of(numbers, root))
@@ -125,9 +119,8 @@ fn put_root(out: &mut [u8], at: usize, root: Edge, numbers: &[Index]) -> usize
 // Writes the roots, as numbers of lines.
 pub fn put_roots(out: &mut [u8], at: usize, roots: &[Edge], numbers: &[Index]) -> usize
     requires { ⌜ Rooted (now roots) (now numbers) ⌝ }
-    requires { ⌜ at + length (spaced (map edgeText (map (numberOf (now numbers)) (now roots)))) ≤ length (now out) ⌝ }
-    ensures { λ r. ⌜ r ≡ at + length (spaced (map edgeText (map (numberOf (now (numbers .entry))) (now (roots .entry))))) ⌝ }
-    ensures { λ _. ⌜ now (out .exit) ≡ sets (now (out .entry)) at (spaced (map edgeText (map (numberOf (now (numbers .entry))) (now (roots .entry))))) ⌝ }
+    requires { ⌜ Fits out at (spaced (map edgeText (map (numberOf (now numbers)) (now roots)))) ⌝ }
+    ensures { λ r. ⌜ Written out at (spaced (map edgeText (map (numberOf (old numbers)) (old roots)))) r ⌝ }
 {
     let mut next = at;
     let mut i: usize = 0;

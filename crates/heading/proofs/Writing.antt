@@ -6,7 +6,8 @@ use native.Mathlib.Omega.{arith}
 use lib.ListN.{length, length-append}
 use lib.Seq.{sets, length-sets}
 use Rattle.writers.specs.Words.{spaced}
-use Rattle.writers.proofs.Sets.{Wrote, sets-append}
+use Rattle.writers.specs.Written.{Wrote}
+use Rattle.writers.proofs.Sets.{sets-append}
 
 -- While parts are written: those that are left, from the position reached on, give all that is to be written; and there is room for it.
 pub record Writing (old : List ℕ) (at : ℕ) (all out : List ℕ) (next : ℕ) (parts : List (List ℕ)) : Type 0 where
@@ -32,15 +33,15 @@ module _ {old : List ℕ} {at : ℕ} {all out : List ℕ} {next : ℕ} where
     unfolding flatten
     writing-more p = record {
       room = w .room;
-      long = rw (p .1) (length-sets out next u ∙ w .long);
-      ends = w .ends ∙ rw (p .0) (omega (arith, length-append u (flatten us)));
-      left = w .left ∙ rw (p .0, p .1) (sets-append out next u (flatten us));
+      long = rw (p .bytes) (length-sets out next u ∙ w .long);
+      ends = w .ends ∙ rw (p .next) (omega (arith, length-append u (flatten us)));
+      left = w .left ∙ rw (p .next, p .bytes) (sets-append out next u (flatten us));
     }
 
   -- once none is left all is written
   pub writing-end : Writing old at all out next [] → Wrote old at all next out
   unfolding flatten
-  writing-end w = (omega (arith, w .ends), sym (w .left))
+  writing-end w = record { next = omega (arith, w .ends); bytes = sym (w .left) }
 
 -- words, each with a space before it, as parts
 abbrev pub words : List (List ℕ) → List (List ℕ)

@@ -11,7 +11,7 @@ use Rattle.node_lines.specs.Line.{terminal, inner}
 use Rattle.writers.specs.Decimal.{decimal, edgeText}
 use Rattle.writers.specs.Words.{spaced}
 use Rattle.writers.specs.Binary.{escaped}
-use Rattle.writers.proofs.Sets.{Wrote}
+use Rattle.writers.specs.Written.{Wrote}
 use Rattle.node_writers.specs.Encoded.{textBytes, codeByte, numberFor, childCode, variableCode, innerBytes}
 use Rattle.node_writers.proofs.Parts.{joined, total, length-joined, Writes, wrote-all}
 

@@ -4,7 +4,8 @@ use mathlib.Core.List.{List, [], _∷_, _++_}
 use Prim.Native.Nat.{ℕ, _+_}
 use native.Mathlib.Omega.{arith}
 use lib.ListN.{length, length-append}
-use Rattle.writers.proofs.Sets.{Wrote, wrote-then}
+use Rattle.writers.specs.Written.{Wrote}
+use Rattle.writers.proofs.Sets.{wrote-then}
 
 -- lists after one another
 abbrev pub joined : List (List ℕ) → List ℕ
@@ -27,5 +28,5 @@ pub data Writes : List ℕ → ℕ → List (List ℕ) → ℕ → List ℕ → 
 
 -- so all of them are
 pub wrote-all : (ws : List (List ℕ)) {l out : List ℕ} {at end : ℕ} → Writes l at ws end out → Wrote l at (joined ws) end out
-wrote-all [] none = (omega arith, refl)
+wrote-all [] none = record { next = omega arith; bytes = refl }
 wrote-all (w ∷ ws) {l} {out} {at} (then p q) = wrote-then l at w (joined ws) p (wrote-all ws q)

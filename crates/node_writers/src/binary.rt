@@ -1,12 +1,11 @@
 // A node line in binary.
 ghost use mathlib.Core.Path.{_≡_};
 ghost use mathlib.Core.Bool.{false};
-ghost use Prim.Native.Nat.{_+_, _-_, _≤_, _<_};
-ghost use lib.ListN.{length};
-ghost use lib.Seq.{sets};
+ghost use Prim.Native.Nat.{_-_, _<_};
 ghost use lib.IntN.{natAbs};
 ghost use Rattle.codes.specs.declared.Code.the-variants.{Terminal};
 ghost use Rattle.writers.specs.Binary.{escaped};
+ghost use Rattle.writers.specs.Written.{Fits, Written};
 ghost use Rattle.node_writers.specs.Encoded.{codeBits, codeByte, numberFor, childCode, smaller, variableCode, innerBytes};
 use codes::Code;
 use edges::Edge;
@@ -90,9 +89,8 @@ fn variable_code(p: u16, seat: u16) -> Code
 
 // Writes the number that follows a code.
 fn put_number(out: &mut [u8], at: usize, code: Code, absolute: u16, distance: u16) -> usize
-    requires { ⌜ at + length (numberFor code absolute distance) ≤ length (now out) ⌝ }
-    ensures { λ r. ⌜ r ≡ at + length (numberFor code absolute distance) ⌝ }
-    ensures { λ _. ⌜ now (out .exit) ≡ sets (now (out .entry)) at (numberFor code absolute distance) ⌝ }
+    requires { ⌜ Fits out at (numberFor code absolute distance) ⌝ }
+    ensures { λ r. ⌜ Written out at (numberFor code absolute distance) r ⌝ }
 {
     match code {
         Code::Terminal => at,
@@ -104,9 +102,8 @@ fn put_number(out: &mut [u8], at: usize, code: Code, absolute: u16, distance: u1
 
 // Writes the terminal's line.
 pub fn put_terminal(out: &mut [u8], at: usize) -> usize
-    requires { ⌜ at + length (escaped (codeByte Terminal Terminal false Terminal)) ≤ length (now out) ⌝ }
-    ensures { λ r. ⌜ r ≡ at + length (escaped (codeByte Terminal Terminal false Terminal)) ⌝ }
-    ensures { λ _. ⌜ now (out .exit) ≡ sets (now (out .entry)) at (escaped (codeByte Terminal Terminal false Terminal)) ⌝ }
+    requires { ⌜ Fits out at (escaped (codeByte Terminal Terminal false Terminal)) ⌝ }
+    ensures { λ r. ⌜ Written out at (escaped (codeByte Terminal Terminal false Terminal)) r ⌝ }
 {
     let code = node_code(Code::Terminal, Code::Terminal, false, Code::Terminal);
     writers::binary::write_escaped(out, at, code)
@@ -115,9 +112,8 @@ pub fn put_terminal(out: &mut [u8], at: usize) -> usize
 // Writes a line of a support position and two children, by the seat that its variable may count down from.
 pub fn put_inner(out: &mut [u8], at: usize, n: Index, p: u16, t: Edge, e: Edge, seat: u16) -> usize
     requires { ⌜ (natAbs t < n) × (natAbs e < n) ⌝ }
-    requires { ⌜ at + length (innerBytes n p t e seat) ≤ length (now out) ⌝ }
-    ensures { λ r. ⌜ r ≡ at + length (innerBytes n p t e seat) ⌝ }
-    ensures { λ _. ⌜ now (out .exit) ≡ sets (now (out .entry)) at (innerBytes n p t e seat) ⌝ }
+    requires { ⌜ Fits out at (innerBytes n p t e seat) ⌝ }
+    ensures { λ r. ⌜ Written out at (innerBytes n p t e seat) r ⌝ }
 {
     let then = edges::magnitude(t);
     let els = edges::magnitude(e);

@@ -1,10 +1,7 @@
 // A node line of text.
-ghost use mathlib.Core.Path.{_≡_};
-ghost use Prim.Native.Nat.{_+_, _≤_};
 ghost use mathlib.Core.List.{_∷_};
-ghost use lib.ListN.{length};
-ghost use lib.Seq.{sets};
 ghost use Rattle.writers.specs.Decimal.{decimal, edgeText};
+ghost use Rattle.writers.specs.Written.{Fits, Written};
 ghost use Rattle.node_lines.specs.Line.{terminal, inner};
 ghost use Rattle.node_writers.specs.Encoded.{textBytes};
 use edges::Edge;
@@ -12,9 +9,8 @@ use edges::Index;
 
 // Writes the terminal's line.
 pub fn put_terminal(out: &mut [u8], at: usize, n: Index) -> usize
-    requires { ⌜ at + length (textBytes n terminal) ≤ length (now out) ⌝ }
-    ensures { λ r. ⌜ r ≡ at + length (textBytes n terminal) ⌝ }
-    ensures { λ _. ⌜ now (out .exit) ≡ sets (now (out .entry)) at (textBytes n terminal) ⌝ }
+    requires { ⌜ Fits out at (textBytes n terminal) ⌝ }
+    ensures { λ r. ⌜ Written out at (textBytes n terminal) r ⌝ }
 {
     let next = writers::text::put_decimal(out, at, n as u64);
     writers::text::put_bytes(out, next, b" T 0 0\n")
@@ -22,9 +18,8 @@ pub fn put_terminal(out: &mut [u8], at: usize, n: Index) -> usize
 
 // Writes a number after a space.
 fn put_number(out: &mut [u8], at: usize, n: u16) -> usize
-    requires { ⌜ at + length (0x20 ∷ decimal n) ≤ length (now out) ⌝ }
-    ensures { λ r. ⌜ r ≡ at + length (0x20 ∷ decimal n) ⌝ }
-    ensures { λ _. ⌜ now (out .exit) ≡ sets (now (out .entry)) at (0x20 ∷ decimal n) ⌝ }
+    requires { ⌜ Fits out at (0x20 ∷ decimal n) ⌝ }
+    ensures { λ r. ⌜ Written out at (0x20 ∷ decimal n) r ⌝ }
 {
     let next = writers::text::put_byte(out, at, b' ');
     writers::text::put_decimal(out, next, n as u64)
@@ -32,9 +27,8 @@ fn put_number(out: &mut [u8], at: usize, n: u16) -> usize
 
 // Writes an edge after a space.
 fn put_edge(out: &mut [u8], at: usize, e: Edge) -> usize
-    requires { ⌜ at + length (0x20 ∷ edgeText e) ≤ length (now out) ⌝ }
-    ensures { λ r. ⌜ r ≡ at + length (0x20 ∷ edgeText e) ⌝ }
-    ensures { λ _. ⌜ now (out .exit) ≡ sets (now (out .entry)) at (0x20 ∷ edgeText e) ⌝ }
+    requires { ⌜ Fits out at (0x20 ∷ edgeText e) ⌝ }
+    ensures { λ r. ⌜ Written out at (0x20 ∷ edgeText e) r ⌝ }
 {
     let next = writers::text::put_byte(out, at, b' ');
     writers::text::put_edge(out, next, e)
@@ -42,9 +36,8 @@ fn put_edge(out: &mut [u8], at: usize, e: Edge) -> usize
 
 // Writes a line of a support position and two children.
 pub fn put_inner(out: &mut [u8], at: usize, n: Index, p: u16, t: Edge, e: Edge) -> usize
-    requires { ⌜ at + length (textBytes n (inner p t e)) ≤ length (now out) ⌝ }
-    ensures { λ r. ⌜ r ≡ at + length (textBytes n (inner p t e)) ⌝ }
-    ensures { λ _. ⌜ now (out .exit) ≡ sets (now (out .entry)) at (textBytes n (inner p t e)) ⌝ }
+    requires { ⌜ Fits out at (textBytes n (inner p t e)) ⌝ }
+    ensures { λ r. ⌜ Written out at (textBytes n (inner p t e)) r ⌝ }
 {
     let variable = writers::text::put_decimal(out, at, n as u64);
     let then = put_number(out, variable, p);

@@ -1,2 +1,3 @@
 pub mod Reached
 pub mod Walk
+pub mod Promises

@@ -2,11 +2,11 @@
 ghost use mathlib.Core.Path.{_≡_};
 ghost use mathlib.Core.List.{[]};
 ghost use Prim.Native.Nat.{_-_, _≤_};
-ghost use lib.ListN.{length, getD, replicate, take};
+ghost use lib.ListN.{length, getD, replicate};
 ghost use lib.IntN.{pos, natAbs};
-ghost use Rattle.codes.specs.Lent.{laid};
 ghost use Rattle.store.specs.Store.{store};
-ghost use Rattle.reached.specs.Walk.{meet, meetAll, Marks, Meets, Listed, Walks};
+ghost use Rattle.reached.specs.Walk.{Meets, Walks};
+ghost use Rattle.reached.specs.Promises.{MeetPromise, MeetAllPromise};
 use edges::Edge;
 use edges::Index;
 
@@ -29,7 +29,7 @@ fn meet(
     at: usize,
 ) -> usize
     requires { ⌜ Meets (store 0 0 [] (now then) (now els) [] []) (now met) (now marks) at n ⌝ }
-    ensures { λ r. ⌜ Listed (meet (store 0 0 [] (now (then .entry)) (now (els .entry)) [] []) (take at (now (met .entry))) n) (now (met .entry)) r (now (met .exit)) (now (marks .exit)) ⌝ }
+    ensures { λ r. ⌜ MeetPromise then els n met marks at r ⌝ }
 {
     let i = n as usize - 1;
     if marks[i] != 0 {
@@ -54,9 +54,7 @@ pub fn meet_all(
 ) -> usize
     requires { ⌜ Walks (store 0 0 [] (now then) (now els) [] []) (now roots) (length (now met)) (length (now marks)) ⌝ }
     requires { ⌜ (now met ≡ replicate (length (now met)) 0) × (now marks ≡ replicate (length (now marks)) 0) ⌝ }
-    ensures { λ r. ⌜ r ≡ length (meetAll (store 0 0 [] (now (then .entry)) (now (els .entry)) [] []) [] (now (roots .entry))) ⌝ }
-    ensures { λ _. ⌜ now (met .exit) ≡ laid (meetAll (store 0 0 [] (now (then .entry)) (now (els .entry)) [] []) [] (now (roots .entry))) (replicate (length (now (met .entry))) 0) ⌝ }
-    ensures { λ _. ⌜ Marks (meetAll (store 0 0 [] (now (then .entry)) (now (els .entry)) [] []) [] (now (roots .entry))) (now (marks .exit)) ⌝ }
+    ensures { λ r. ⌜ MeetAllPromise then els roots met marks r ⌝ }
 {
     let mut at: usize = 0;
     let mut i: usize = 0;

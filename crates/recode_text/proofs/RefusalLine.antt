@@ -9,7 +9,8 @@ use lib.ListN.{length, replicate, length-append, length-replicate}
 use Rattle.codes.specs.Lent.{laid}
 use Rattle.codes.proofs.Lent.{length-laid}
 use Rattle.writers.specs.Decimal.{digits, decimal}
-use Rattle.writers.proofs.Sets.{Wrote, sets-laid}
+use Rattle.writers.specs.Written.{Wrote}
+use Rattle.writers.proofs.Sets.{sets-laid}
 use Rattle.heading.proofs.Writing.{Writing, writing-start}
 use Rattle.recode_text.specs.Text.{refusedWord, lineWord, refusalText}
 
@@ -57,7 +58,7 @@ module _ (n line : ℕ) where
   -- once all is written it lies over the front of zeros
   pub refusal-end : {old : List ℕ} {end : ℕ} {out : List ℕ} → old ≡ replicate 64 0 → Wrote old 0 (refusalText n line) end out
       → (end ≡ length (refusalText n line)) × (out ≡ laid (refusalText n line) (replicate 64 0))
-  refusal-end {old} e w = (omega (arith, w .0), w .1 ∙ sets-laid old (refusalText n line) ∙ rw e)
+  refusal-end {old} e w = (omega (arith, w .next), w .bytes ∙ sets-laid old (refusalText n line) ∙ rw e)
 
   -- and within them
   pub refusal-within : {end : ℕ} {out : List ℕ} → (end ≡ length (refusalText n line)) × (out ≡ laid (refusalText n line) (replicate 64 0))

@@ -26,7 +26,8 @@ use Rattle.read_numbers.proofs.Number.{single-some}
 use Rattle.read_numbers.proofs.Digits.{decimal-last, digits-last, answers-number}
 use Rattle.read_edges.proofs.SignedEntries.{signed-led}
 use Rattle.writers.specs.Decimal.{digits, decimal, edgeText}
-use Rattle.writers.proofs.Sets.{Wrote}
+use Rattle.writers.specs.Written.{Wrote}
+use Rattle.writers.proofs.Sets.{wrote-byte}
 use Rattle.writers.proofs.Notation.{Notation, written-one, wrote-last, length-last, written-some, written-short, written-by}
 
 -- Decimal digits are written in base ten, whatever follows.
@@ -44,12 +45,12 @@ in-ten =
 module _ (n : ℕ) (old : List ℕ) (at : ℕ) where
   pub put-one : {d : ℕ} → n < 10 → d ≡ 48 + n → Wrote old at (decimal n) (at + 1) (set old at d)
   unfolding decimal
-  put-one h e = rw (written-one in-ten 19 0 n h, e) (refl, refl)
+  put-one h e = rw (written-one in-ten 19 0 n h, e) (wrote-byte old at _)
 
   pub put-more : {m : List ℕ} {end d : ℕ} → 10 ≤ n → n < 2 ^ 64 → Wrote old at (decimal (n / 10)) end m → d ≡ 48 + n % 10
       → Wrote old at (decimal n) (end + 1) (set m end d)
   unfolding decimal
-  put-more h s w e = rw e (wrote-last in-ten 19 0 n h (omega arith) old at w (refl, refl))
+  put-more h s w e = rw e (wrote-last in-ten 19 0 n h (omega arith) old at w (wrote-byte _ _ _))
 
 module _ (n : ℕ) where
   pub length-one : n < 10 → length (decimal n) ≡ 1

@@ -6,7 +6,8 @@ use native.Mathlib.Omega.{arith}
 use native.Mathlib.Decide.{decLt}
 use native.Mathlib.Nat.{div-lt-iff-lt-mul, pow-zero, pow-suc, one-mul, mul-suc}
 use lib.ListN.{length, length-append}
-use Rattle.writers.proofs.Sets.{Wrote, wrote-then}
+use Rattle.writers.specs.Written.{Wrote}
+use Rattle.writers.proofs.Sets.{wrote-then}
 
 -- `digit more d` is what is written for a digit d; `more` is 1 where further digits follow. `bytes k more n` is what is written for a
 -- number, with room for k digits and one more: its only digit, or what is written without its last digit, and then that.

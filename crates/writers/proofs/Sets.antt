@@ -7,6 +7,7 @@ use native.Mathlib.Numerals.{add-one}
 use lib.ListN.{length, getD, drop, set, length-append, length-set, drop-of-length-le}
 use lib.Seq.{sets, drop-cons}
 use Rattle.codes.specs.Lent.{laid}
+use Rattle.writers.specs.Written.{Wrote}
 
 module _ {A : Type 0} where
   -- A list is stored by storing its parts one after another.
@@ -14,17 +15,6 @@ module _ {A : Type 0} where
   sets-append l at [] v = ap (λ (n : ℕ). sets l n v) (omega arith)
   sets-append l at (x ∷ u) v =
       sets-append (set l at x) (suc at) u v ∙ ap (λ (n : ℕ). sets (sets (set l at x) (suc at) u) n v) (omega arith)
-
-  -- What a writer promises: a list is stored from a position on, and the answer is the position after it. Two writers one after the
-  -- other write both their lists.
-  abbrev pub Wrote : List A → ℕ → List A → ℕ → List A → Type 0
-  Wrote l at w end out = (end ≡ at + length w) × (out ≡ sets l at w)
-
-  pub wrote-then : (l : List A) (at : ℕ) (u v : List A) {m k : List A} {e r : ℕ} → Wrote l at u e m → Wrote m e v r k → Wrote l at (u ++ v) r k
-  wrote-then l at u v p q = (q .0 ∙ omega (arith, p .0, length-append u v), q .1 ∙ rw (p .0, p .1) (sym (sets-append l at u v)))
-
-  pub wrote-cons : (l : List A) (at : ℕ) (a : A) (w : List A) {k : List A} {r : ℕ} → Wrote (set l at a) (at + 1) w r k → Wrote l at (a ∷ w) r k
-  wrote-cons l at a w q = wrote-then l at (a ∷ []) w (refl, refl) q
 
   -- what stands before the stores stays
   sets-after : (a : A) (l : List A) (at : ℕ) (w : List A) → sets (a ∷ l) (suc at) w ≡ a ∷ sets l at w
@@ -41,6 +31,20 @@ module _ {A : Type 0} where
       none [] at = refl
       none (x ∷ w) at = none w (suc at)
   sets-laid (a ∷ l) (x ∷ w) = sets-after x l 0 w ∙ ap (λ m. x ∷ m) (sets-laid l w)
+
+-- One byte is written by storing it.
+pub wrote-byte : (l : List ℕ) (at a : ℕ) → Wrote l at (a ∷ []) (at + 1) (set l at a)
+wrote-byte l at a = record { next = refl; bytes = refl }
+
+-- Two writers one after the other write both their lists.
+pub wrote-then : (l : List ℕ) (at : ℕ) (u v : List ℕ) {m k : List ℕ} {e r : ℕ} → Wrote l at u e m → Wrote m e v r k → Wrote l at (u ++ v) r k
+wrote-then l at u v p q = record {
+  next = q .next ∙ omega (arith, p .next, length-append u v);
+  bytes = q .bytes ∙ rw (p .next, p .bytes) (sym (sets-append l at u v));
+}
+
+pub wrote-cons : (l : List ℕ) (at a : ℕ) (w : List ℕ) {k : List ℕ} {r : ℕ} → Wrote (set l at a) (at + 1) w r k → Wrote l at (a ∷ w) r k
+wrote-cons l at a w q = wrote-then l at (a ∷ []) w (wrote-byte l at a) q
 
 -- While a list is stored element by element: what is left to store gives all that is to be stored.
 pub record Storing (old : List ℕ) (at : ℕ) (w out : List ℕ) (i : ℕ) : Type 0 where

@@ -10,7 +10,7 @@ use Rattle.codes.specs.Answer.{got}
 use Rattle.read_binary.specs.Binary.{byteAt, numberAt}
 use Rattle.read_binary.proofs.Decoded.{Going, number-going, going-last, going-more}
 use Rattle.writers.specs.Binary.{escaped, escapedAll, groupsBy, groups, sevenBit}
-use Rattle.writers.proofs.Sets.{Wrote}
+use Rattle.writers.specs.Written.{Wrote}
 use Rattle.writers.proofs.Notation.{Notation, written-one, length-last, wrote-last, written-some, written-short, written-by}
 use Rattle.writers.proofs.Escaped.{escaped-length, escaped-short, escaped-reads}
 

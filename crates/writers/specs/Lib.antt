@@ -1,4 +1,5 @@
 pub mod Decimal
 pub mod Words
+pub mod Written
 pub mod Binary
 pub mod Examples

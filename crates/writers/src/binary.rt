@@ -1,15 +1,13 @@
 // Escaped bytes and 7-bit numbers.
 ghost use mathlib.Core.Path.{_≡_};
-ghost use Prim.Native.Nat.{_+_, _*_, _≤_, _<_};
-ghost use lib.ListN.{length};
-ghost use lib.Seq.{sets};
+ghost use Prim.Native.Nat.{_+_, _*_, _<_};
 ghost use Rattle.writers.specs.Binary.{escaped, escapedAll, groupsBy, sevenBit};
+ghost use Rattle.writers.specs.Written.{Fits, Written};
 
 // Writes a byte, escaped where it must be.
 pub fn write_escaped(out: &mut [u8], at: usize, b: u8) -> usize
-    requires { ⌜ at + length (escaped b) ≤ length (now out) ⌝ }
-    ensures { λ r. ⌜ r ≡ at + length (escaped b) ⌝ }
-    ensures { λ _. ⌜ now (out .exit) ≡ sets (now (out .entry)) at (escaped b) ⌝ }
+    requires { ⌜ Fits out at (escaped b) ⌝ }
+    ensures { λ r. ⌜ Written out at (escaped b) r ⌝ }
 {
     let code = match b {
         0x00 => 0x00,
@@ -36,9 +34,8 @@ fn group(bits: u64, more: u8) -> u8
 
 // Writes a number in 7-bit groups, highest first: each but the last says that more follow, and the last says what `more` does.
 fn put_groups(out: &mut [u8], at: usize, more: u8, n: u64) -> usize
-    requires { ⌜ (more < 2) × (at + length (escapedAll (groupsBy 9 more n)) ≤ length (now out)) ⌝ }
-    ensures { λ r. ⌜ r ≡ at + length (escapedAll (groupsBy 9 more n)) ⌝ }
-    ensures { λ _. ⌜ now (out .exit) ≡ sets (now (out .entry)) at (escapedAll (groupsBy 9 more n)) ⌝ }
+    requires { ⌜ (more < 2) × Fits out at (escapedAll (groupsBy 9 more n)) ⌝ }
+    ensures { λ r. ⌜ Written out at (escapedAll (groupsBy 9 more n)) r ⌝ }
 {
     if n < 128 {
         return write_escaped(out, at, group(n, more));
@@ -49,9 +46,8 @@ fn put_groups(out: &mut [u8], at: usize, more: u8, n: u64) -> usize
 
 // Encodes a number in 7-bit groups and writes it, escaped.
 pub fn encode_7bit(out: &mut [u8], at: usize, n: u64) -> usize
-    requires { ⌜ at + length (sevenBit n) ≤ length (now out) ⌝ }
-    ensures { λ r. ⌜ r ≡ at + length (sevenBit n) ⌝ }
-    ensures { λ _. ⌜ now (out .exit) ≡ sets (now (out .entry)) at (sevenBit n) ⌝ }
+    requires { ⌜ Fits out at (sevenBit n) ⌝ }
+    ensures { λ r. ⌜ Written out at (sevenBit n) r ⌝ }
 {
     put_groups(out, at, 0, n)
 }

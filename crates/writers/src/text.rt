@@ -1,17 +1,16 @@
 // Bytes and decimal numbers.
 ghost use mathlib.Core.Path.{_≡_};
-ghost use Prim.Native.Nat.{_+_, _≤_, _<_};
+ghost use Prim.Native.Nat.{_+_, _<_};
 ghost use mathlib.Core.List.{[], _∷_};
 ghost use lib.ListN.{length};
-ghost use lib.Seq.{sets};
 ghost use Rattle.writers.specs.Decimal.{decimal, edgeText};
+ghost use Rattle.writers.specs.Written.{Fits, Written};
 use edges::Edge;
 
 // Writes one byte.
 pub fn put_byte(out: &mut [u8], at: usize, b: u8) -> usize
     requires { ⌜ at < length (now out) ⌝ }
-    ensures { λ r. ⌜ r ≡ at + 1 ⌝ }
-    ensures { λ _. ⌜ now (out .exit) ≡ sets (now (out .entry)) at (b ∷ []) ⌝ }
+    ensures { λ r. ⌜ Written out at (b ∷ []) r ⌝ }
 {
     out[at] = b;
     at + 1
@@ -19,9 +18,8 @@ pub fn put_byte(out: &mut [u8], at: usize, b: u8) -> usize
 
 // Writes bytes as they are.
 pub fn put_bytes(out: &mut [u8], at: usize, bytes: &[u8]) -> usize
-    requires { ⌜ at + length (now bytes) ≤ length (now out) ⌝ }
-    ensures { λ r. ⌜ r ≡ at + length (now (bytes .entry)) ⌝ }
-    ensures { λ _. ⌜ now (out .exit) ≡ sets (now (out .entry)) at (now (bytes .entry)) ⌝ }
+    requires { ⌜ Fits out at (now bytes) ⌝ }
+    ensures { λ r. ⌜ Written out at (now (bytes .entry)) r ⌝ }
 {
     let mut i: usize = 0;
     while i < bytes.len() {
@@ -41,9 +39,8 @@ fn digit(n: u64) -> u8
 
 // Writes a number in decimal digits.
 pub fn put_decimal(out: &mut [u8], at: usize, n: u64) -> usize
-    requires { ⌜ at + length (decimal n) ≤ length (now out) ⌝ }
-    ensures { λ r. ⌜ r ≡ at + length (decimal n) ⌝ }
-    ensures { λ _. ⌜ now (out .exit) ≡ sets (now (out .entry)) at (decimal n) ⌝ }
+    requires { ⌜ Fits out at (decimal n) ⌝ }
+    ensures { λ r. ⌜ Written out at (decimal n) r ⌝ }
 {
     if n < 10 {
         out[at] = digit(n);
@@ -56,9 +53,8 @@ pub fn put_decimal(out: &mut [u8], at: usize, n: u64) -> usize
 
 // Writes an edge: a minus, where it has one, and its node's number.
 pub fn put_edge(out: &mut [u8], at: usize, e: Edge) -> usize
-    requires { ⌜ at + length (edgeText e) ≤ length (now out) ⌝ }
-    ensures { λ r. ⌜ r ≡ at + length (edgeText e) ⌝ }
-    ensures { λ _. ⌜ now (out .exit) ≡ sets (now (out .entry)) at (edgeText e) ⌝ }
+    requires { ⌜ Fits out at (edgeText e) ⌝ }
+    ensures { λ r. ⌜ Written out at (edgeText e) r ⌝ }
 {
     let n = edges::magnitude(e) as u64;
     if edges::is_minus(e) {

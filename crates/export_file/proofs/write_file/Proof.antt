@@ -80,12 +80,12 @@ abbrev seats : tie.After-seat-levels → List ℕ
 seats d = d .seat-levels .last .1 .1 .1 .0
 
 front : (d : tie.After-number-nodes) → d .number-nodes .result ≤ length (nodes d)
-front d = nodes-room (taken (start d)) (d .number-nodes .ensures .0) (d .number-nodes .ensures .1 .0)
+front d = nodes-room (taken (start d)) (d .number-nodes .ensures .many) (d .number-nodes .ensures .lies)
 
 tables : (d : tie.After-seat-levels) → Filled (σ (origin d)) (ns (origin d)) (numbers (numbered d)) (seats d)
 tables d =
-    filled (taken (origin d)) (numbered d .number-nodes .ensures .0) (numbered d .number-nodes .ensures .1 .0)
-    (numbered d .number-nodes .ensures .1 .1) (numbered d .number-nodes .kept .1 .1 .1 .1 .1 .1 .1 .0) (d .seat-levels .ensures .1)
+    filled (taken (origin d)) (numbered d .number-nodes .ensures .many) (numbered d .number-nodes .ensures .lies)
+    (numbered d .number-nodes .ensures .numbered) (numbered d .number-nodes .kept .1 .1 .1 .1 .1 .1 .1 .0) (d .seat-levels .ensures .1)
     (omega (arith, d .seat-levels .kept .1 .1 .1 .0))
 
 -- by them the header and the lines are those of the nodes
@@ -95,7 +95,7 @@ header-is : (d : tie.After-seat-levels)
     (seats d) (origin d .args .roots .now) (numbers (numbered d)))
     ≡ headText
     (headingOf (chosen (origin d)) (σ (origin d)) (origin d .args .roots .now) (origin d .args .order .now) (names (origin d)) (ns (origin d)))
-header-is d = ap headText (heading-same (taken (origin d)) (tables d) _ _ (numbered d .number-nodes .ensures .0))
+header-is d = ap headText (heading-same (taken (origin d)) (tables d) _ _ (numbered d .number-nodes .ensures .many))
 
 lines-are : (d : tie.After-seat-levels)
     → nodeBytes (origin d .args .ascii)
@@ -104,7 +104,7 @@ lines-are : (d : tie.After-seat-levels)
     ≡ nodeBytes (origin d .args .ascii) (linesFor (σ (origin d)) (ns (origin d)))
 lines-are d =
     ap (nodeBytes (origin d .args .ascii))
-    (lines-same (taken (origin d)) (numbered d .number-nodes .ensures .0) (numbered d .number-nodes .ensures .1 .0) (numbers (numbered d)) (seats d)
+    (lines-same (taken (origin d)) (numbered d .number-nodes .ensures .many) (numbered d .number-nodes .ensures .lies) (numbers (numbered d)) (seats d)
     (tables d))
 
 -- the output is as long as it was, once the lines are written
@@ -143,8 +143,8 @@ seat-levels-requires : tie.Need-seat-levels-requires
 seat-levels-requires c κs = (
   (
     nodes-placed (taken (start (c .before .before .before .before .before .before)))
-        (c .before .before .before .before .before .before .number-nodes .ensures .0)
-        (c .before .before .before .before .before .before .number-nodes .ensures .1 .0),
+        (c .before .before .before .before .before .before .number-nodes .ensures .many)
+        (c .before .before .before .before .before .before .number-nodes .ensures .lies),
     taken (start (c .before .before .before .before .before .before)) .rules .sizes .levels-limit,
   ),
   refl,
@@ -155,19 +155,14 @@ slice-aggregate-write-header c = sym (c .before .before .before .seat-levels .ke
 
 write-header-requires : tie.Need-write-header-requires
 write-header-requires c κs =
-    let d = c .before .before .before .before in (
-      (
-        ordered (taken (origin d)) (origin d .args .vars .now) (seats d) (origin d .pre .vars-long) (origin d .pre .seats) (tables d .seats-long),
-        rooted (taken (origin d)) (tables d),
-      ),
-      (
-        taken (origin d) .names,
-        (
-          seats-count (taken (origin d)) (numbered d .number-nodes .ensures .0) (numbered d .number-nodes .ensures .1 .0) (tables d) (d .seat-levels .ensures .0),
-          head-room (chosen (origin d)) (taken (origin d)) (exported (taken (origin d))) (header-is d),
-        ),
-      ),
-    )
+    let d = c .before .before .before .before in
+    record {
+      ordered = ordered (taken (origin d)) (origin d .args .vars .now) (seats d) (origin d .pre .vars-long) (origin d .pre .seats) (tables d .seats-long);
+      rooted = rooted (taken (origin d)) (tables d);
+      names = taken (origin d) .names;
+      counted = seats-count (taken (origin d)) (numbered d .number-nodes .ensures .many) (numbered d .number-nodes .ensures .lies) (tables d) (d .seat-levels .ensures .0);
+      room = head-room (chosen (origin d)) (taken (origin d)) (exported (taken (origin d))) (header-is d);
+    }
 
 slice-reshare-prefix-write-nodes : tie.Need-slice-reshare-prefix-write-nodes
 slice-reshare-prefix-write-nodes c = front (numbered (seated (c .before .before)))
@@ -182,8 +177,8 @@ write-nodes-requires : tie.Need-write-nodes-requires
 write-nodes-requires c κs =
     let h = c .before .before .before .before .before .before in
     let d = seated h in (
-      lined (taken (origin d)) (numbered d .number-nodes .ensures .0) (numbered d .number-nodes .ensures .1 .0) (tables d),
-      body-room (chosen (origin d)) (taken (origin d)) (exported (taken (origin d))) (header-is d) (lines-are d) (h .write-header .ensures .0)
+      lined (taken (origin d)) (numbered d .number-nodes .ensures .many) (numbered d .number-nodes .ensures .lies) (tables d),
+      body-room (chosen (origin d)) (taken (origin d)) (exported (taken (origin d))) (header-is d) (lines-are d) (h .write-header .ensures .next)
           (h .write-header .kept .1 .1 .0),
     )
 
@@ -194,8 +189,8 @@ put-bytes-requires : tie.Need-put-bytes-requires
 put-bytes-requires c κs =
     let w = c .before .before .before .before in
     let d = seated (headed w) in
-    end-room (chosen (origin d)) (taken (origin d)) (exported (taken (origin d))) (header-is d) (lines-are d) (headed w .write-header .ensures .0)
-    (w .write-nodes .ensures .0) (out-kept w)
+    end-room (chosen (origin d)) (taken (origin d)) (exported (taken (origin d))) (header-is d) (lines-are d) (headed w .write-header .ensures .next)
+    (w .write-nodes .ensures .next) (out-kept w)
 
 same-length : tie.Need-same-length
 same-length c = numbered (seated (headed (c .before .before .before .before .before .before .before))) .number-nodes .kept .1 .1 .1 .1 .1 .1 .0

@@ -20,12 +20,12 @@ abbrev name : tie.Start → List ℕ
 name s = nameAt (s .args .bytes .now) (place (s .args .start) (s .args .len))
 
 name-length : (s : tie.Start) → length (name s) ≡ s .args .len
-name-length s = length-name (s .args .bytes .now) (s .args .start) (s .args .len) (s .pre .0)
+name-length s = length-name (s .args .bytes .now) (s .args .start) (s .args .len) (s .pre .inside)
 
 returns : tie.Need-returns
 returns c =
     let s = c .before .before .before in
-    rw (unless-none (name s) (line Dd (name s ∷ [])) (omega (arith, name-length s, c .if1 .taken))) (omega arith, refl)
+    rw (unless-none (name s) (line Dd (name s ∷ [])) (omega (arith, name-length s, c .if1 .taken))) (record { next = omega arith; bytes = refl })
 
 abbrev parts : tie.Start → List (List ℕ)
 parts s = diagramParts (name s)
@@ -37,7 +37,7 @@ Left s out next k = Writing (s .args .out .now) (s .args .at) (linesText (unless
 left-0 : (c : tie.Else1) → Left (c .before .before .before) (c .before .before .before .args .out .now) (c .before .before .before .args .at) 0
 left-0 c =
     let s = c .before .before .before in
-    writing-start (s .args .out .now) (s .args .at) (diagram-parts (name s) (omega (arith, name-length s, c .if1 .left))) (s .pre .1)
+    writing-start (s .args .out .now) (s .args .at) (diagram-parts (name s) (omega (arith, name-length s, c .if1 .left))) (s .pre .room)
 
 left-1 : (c : tie.After-put-bytes) → Left (c .before .before .before .before .before .before) (c .put-bytes .last .0) (c .put-bytes .result) 1
 left-1 c = writing-more (left-0 (c .before .before .before)) (c .put-bytes .ensures)
@@ -52,7 +52,7 @@ put-bytes-requires : tie.Need-put-bytes-requires
 put-bytes-requires c κs = writing-room (left-0 (c .before .before))
 
 put-place-requires : tie.Need-put-place-requires
-put-place-requires c κs = (c .before .before .before .before .before .before .before .before .before .pre .0, writing-room (left-1 (c .before .before .before)))
+put-place-requires c κs = (c .before .before .before .before .before .before .before .before .before .pre .inside, writing-room (left-1 (c .before .before .before)))
 
 put-byte-requires : tie.Need-put-byte-requires
 put-byte-requires c κs = omega (arith, writing-room (left-2 (c .before .before .before)))

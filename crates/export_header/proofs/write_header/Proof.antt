@@ -27,7 +27,7 @@ abbrev Left : tie.Start → List ℕ → ℕ → ℕ → Type 0
 Left s out next k = Writing (s .args .out .now) (s .args .at) (headText (heading s)) out next (drop k (parts s))
 
 left-0 : (s : tie.Start) → Left s (s .args .out .now) (s .args .at) 0
-left-0 s = writing-start (s .args .out .now) (s .args .at) (head-parts (heading s) (sym (s .pre .1 .1 .0))) (s .pre .1 .1 .1)
+left-0 s = writing-start (s .args .out .now) (s .args .at) (head-parts (heading s) (sym (s .pre .counted))) (s .pre .room)
 
 left-1 : (c : tie.After-write-intro) → Left (c .before .before .before .before .before .before .before .before .before .before .before .before) (c .write-intro .last .1 .1 .0) (c .write-intro .result) 1
 left-1 c = writing-more (left-0 (c .before .before .before .before .before .before .before .before .before .before .before .before)) (c .write-intro .ensures)
@@ -45,19 +45,21 @@ left-5 : (c : tie.After-write-roots) → Left (c .before .before .before .before
 left-5 c = writing-more (left-4 (c .before .before .before .before)) (c .write-roots .ensures)
 
 write-intro-requires : tie.Need-write-intro-requires
-write-intro-requires c κs = (c .before .before .before .before .before .before .before .before .before .before .before .pre .1 .0 .diagram, writing-room (left-0 (c .before .before .before .before .before .before .before .before .before .before .before)))
+write-intro-requires c κs = (c .before .before .before .before .before .before .before .before .before .before .before .pre .names .diagram, writing-room (left-0 (c .before .before .before .before .before .before .before .before .before .before .before)))
 
 write-counts-requires : tie.Need-write-counts-requires
 write-counts-requires c κs = writing-room (left-1 (c .before .before .before))
 
 write-names-requires : tie.Need-write-names-requires
-write-names-requires c κs = let s = c .before .before .before .before .before .before .before .before .before .before .before .before .before .before .before .before .before .before .before in ((s .pre .1 .0 .names, s .pre .0 .0), writing-room (left-2 (c .before .before .before)))
+write-names-requires c κs = let s = c .before .before .before .before .before .before .before .before .before .before .before .before .before .before .before .before .before .before .before in
+    record { names-fit = s .pre .names .names; ordered = s .pre .ordered; room = writing-room (left-2 (c .before .before .before)) }
 
 write-ids-requires : tie.Need-write-ids-requires
-write-ids-requires c κs = (c .before .before .before .before .before .before .before .before .before .before .before .before .before .before .before .before .before .before .before .before .before .before .before .pre .0 .0, writing-room (left-3 (c .before .before .before)))
+write-ids-requires c κs = (c .before .before .before .before .before .before .before .before .before .before .before .before .before .before .before .before .before .before .before .before .before .before .before .pre .ordered, writing-room (left-3 (c .before .before .before)))
 
 write-roots-requires : tie.Need-write-roots-requires
-write-roots-requires c κs = let s = c .before .before .before .before .before .before .before .before .before .before .before .before .before .before .before .before .before .before .before .before .before .before .before .before .before .before .before in ((s .pre .0 .1, s .pre .1 .0 .rootnames), writing-room (left-4 (c .before .before .before)))
+write-roots-requires c κs = let s = c .before .before .before .before .before .before .before .before .before .before .before .before .before .before .before .before .before .before .before .before .before .before .before .before .before .before .before in
+    record { rooted = s .pre .rooted; names-fit = s .pre .names .rootnames; room = writing-room (left-4 (c .before .before .before)) }
 
 slice-aggregate-put-bytes : tie.Need-slice-aggregate-put-bytes
 slice-aggregate-put-bytes c = search needs

@@ -55,7 +55,10 @@ put-bytes-requires c κs = writing-room (left-2 (c .before .before .before .befo
 write-diagram-requires : tie.Need-write-diagram-requires
 write-diagram-requires c κs =
     let s = c .before .before .before .before .before .before .before .before .before .before .before .before .before .before .before .before in
-    (place-inside true (s .args .bytes .now) (s .args .start) (s .args .len) (s .pre .0), writing-room (left-3 (c .before .before .before)))
+    record {
+      inside = place-inside true (s .args .bytes .now) (s .args .start) (s .args .len) (s .pre .0);
+      room = writing-room (left-3 (c .before .before .before));
+    }
 
 same-length : tie.Need-same-length
 same-length c = search needs

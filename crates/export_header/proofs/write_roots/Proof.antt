@@ -31,7 +31,7 @@ Left s out next k = Writing (s .args .out .now) (s .args .at) (linesText (rootLi
 left-0 : (s : tie.Start) → Left s (s .args .out .now) (s .args .at) 0
 left-0 s =
     writing-start (s .args .out .now) (s .args .at)
-    (root-parts (rootids s) (rootnames s) (length-map (s .args .roots .now) (numberOf (s .args .numbers .now)))) (s .pre .1)
+    (root-parts (rootids s) (rootnames s) (length-map (s .args .roots .now) (numberOf (s .args .numbers .now)))) (s .pre .room)
 
 left-1 : (c : tie.After-write-count) → Left (c .before .before .before .before .before .before .before .before) (c .write-count .last .0) (c .write-count .result) 1
 left-1 c = writing-more (left-0 (c .before .before .before .before .before .before .before .before)) (c .write-count .ensures)
@@ -58,7 +58,7 @@ put-bytes-requires : tie.Need-put-bytes-requires
 put-bytes-requires c κs = writing-room (left-1 (c .before .before .before .before))
 
 put-roots-requires : tie.Need-put-roots-requires
-put-roots-requires c κs = (c .before .before .before .before .before .before .before .before .before .before .before .before .before .before .before .before .pre .0 .0, writing-room (left-2 (c .before .before .before)))
+put-roots-requires c κs = (c .before .before .before .before .before .before .before .before .before .before .before .before .before .before .before .before .pre .rooted, writing-room (left-2 (c .before .before .before)))
 
 put-byte-requires : tie.Need-put-byte-requires
 put-byte-requires c κs = omega (arith, writing-room (left-3 (c .before .before .before)))
@@ -66,7 +66,10 @@ put-byte-requires c κs = omega (arith, writing-room (left-3 (c .before .before 
 write-rootnames-requires : tie.Need-write-rootnames-requires
 write-rootnames-requires c κs =
     let s = c .before .before .before .before .before .before .before .before .before .before .before .before .before .before .before .before .before .before .before .before .before .before .before .before in
-    (list-inside (length (s .args .roots .now)) (s .args .bytes .now) (s .args .starts .now) (s .args .lens .now) (s .pre .0 .1), writing-room (left-4 (c .before .before .before)))
+    record {
+      inside = list-inside (length (s .args .roots .now)) (s .args .bytes .now) (s .args .starts .now) (s .args .lens .now) (s .pre .names-fit);
+      room = writing-room (left-4 (c .before .before .before));
+    }
 
 same-length : tie.Need-same-length
 same-length c = search needs

@@ -30,7 +30,7 @@ put-place-requires c κs =
     let p = s .pre .0 in (
       p .0 .within (s .args .i) (p .1),
       rw (← (name-at (s .args .bytes .now) (s .args .starts .now) (s .args .lens .now) (s .args .i) (p .0 .even)))
-          (omega (arith, s .pre .1, c .before .before .before .before .before .put-byte .ensures .0, c .before .before .before .before .before .put-byte .kept .0)),
+          (omega (arith, s .pre .1, c .before .before .before .before .before .put-byte .ensures .next, c .before .before .before .before .before .put-byte .kept .0)),
     )
 
 same-length : tie.Need-same-length

@@ -23,13 +23,13 @@ loop-holds : tie.Need-loop-holds Inv-loop μ-loop
 loop-holds c =
     let s = c .before .before .before .before .before .before .args in
     names-as (namesAt (s .bytes .now) (s .starts .now) (s .lens .now)) (variables-start (s .order .now))
-    (words-start (s .out .now) (s .at) _ (c .before .before .before .before .before .before .pre .1 .1))
+    (words-start (s .out .now) (s .at) _ (c .before .before .before .before .before .before .pre .room))
 
 mul-variable : tie.Need-mul-variable Inv-loop μ-loop
-mul-variable c = omega (arith, c .before .before .before .before .before .before .before .before .pre .1 .0 .2, c .before .before .before .before .before .before .before .before .good .1 .1 .1 .1 .1 .1 .0 .1)
+mul-variable c = omega (arith, c .before .before .before .before .before .before .before .before .pre .vars-long, c .before .before .before .before .before .before .before .before .good .1 .1 .1 .1 .1 .1 .0 .1)
 
 shared-slice-read-variable : tie.Need-shared-slice-read-variable Inv-loop μ-loop
-shared-slice-read-variable c = omega (arith, c .before .before .before .before .before .before .before .before .before .pre .1 .0 .2)
+shared-slice-read-variable c = omega (arith, c .before .before .before .before .before .before .before .before .before .pre .vars-long)
 
 cast-variable : tie.Need-cast-variable Inv-loop μ-loop
 cast-variable c = omega (arith, c .shared-slice-known6 .given (c .before .before .loop .l))
@@ -37,21 +37,21 @@ cast-variable c = omega (arith, c .shared-slice-known6 .given (c .before .before
 sub-variable : tie.Need-sub-variable Inv-loop μ-loop
 sub-variable c =
     let s = c .before .before .before .before .before .before .before .before .before .args in
-    let p = c .before .before .before .before .before .before .before .before .before .pre .1 .0 in
-    variable-some (s .order .now) (s .vars .now) (p .0) (p .1) (p .2) (c .before .before .loop .l) (c .before .loop-test .taken)
+    let p = c .before .before .before .before .before .before .before .before .before .pre in
+    variable-some (s .order .now) (s .vars .now) (p .is-order) (p .vars-there) (p .vars-long) (c .before .before .loop .l) (c .before .loop-test .taken)
 
 put-name-requires : tie.Need-put-name-requires Inv-loop μ-loop
 unfolding chosen
 put-name-requires c κs =
     let s = c .before .before .before .before .before .before .before .before .before .before .args in
-    let q = c .before .before .before .before .before .before .before .before .before .before .pre .0 in
-    let p = c .before .before .before .before .before .before .before .before .before .before .pre .1 .0 in
+    let q = c .before .before .before .before .before .before .before .before .before .before .pre in
+    let p = q in
     let l = c .before .before .before .loop in
     let t = c .before .before .loop-test .taken in
-    let some = variable-some (s .order .now) (s .vars .now) (p .0) (p .1) (p .2) (l .l) t in
-    let there = variable-there (s .order .now) (s .vars .now) (p .0) (p .1) (p .2) (l .l) t in
-    let e = variable-next (s .order .now) (s .vars .now) (p .0) (p .1) (p .2) (l .l) t in
-    ((q .0, omega (arith, q .1)), writing-room (names-as (namesAt (s .bytes .now) (s .starts .now) (s .lens .now)) e (l .inv)))
+    let some = variable-some (s .order .now) (s .vars .now) (p .is-order) (p .vars-there) (p .vars-long) (l .l) t in
+    let there = variable-there (s .order .now) (s .vars .now) (p .is-order) (p .vars-there) (p .vars-long) (l .l) t in
+    let e = variable-next (s .order .now) (s .vars .now) (p .is-order) (p .vars-there) (p .vars-long) (l .l) t in
+    ((q .inside, omega (arith, q .named)), writing-room (names-as (namesAt (s .bytes .now) (s .starts .now) (s .lens .now)) e (l .inv)))
 
 add-l : tie.Need-add-l Inv-loop μ-loop
 add-l c = omega arith
@@ -63,9 +63,9 @@ loop-again : tie.Need-loop-again Inv-loop μ-loop
 unfolding chosen
 loop-again c =
     let s = c .before .before .before .before .before .before .before .before .before .before .before .before .before .args in
-    let p = c .before .before .before .before .before .before .before .before .before .before .before .before .before .pre .1 .0 in
+    let p = c .before .before .before .before .before .before .before .before .before .before .before .before .before .pre in
     let l = c .before .before .before .before .before .before .loop in
-    let e = variable-next (s .order .now) (s .vars .now) (p .0) (p .1) (p .2) (l .l) (c .before .before .before .before .before .loop-test .taken) in
+    let e = variable-next (s .order .now) (s .vars .now) (p .is-order) (p .vars-there) (p .vars-long) (l .l) (c .before .before .before .before .before .loop-test .taken) in
     writing-more (names-as (namesAt (s .bytes .now) (s .starts .now) (s .lens .now)) e (l .inv)) (c .before .before .put-name .ensures)
 
 same-length : tie.Need-same-length Inv-loop μ-loop

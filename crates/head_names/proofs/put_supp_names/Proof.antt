@@ -23,20 +23,20 @@ abbrev μ-loop : tie.MeasureT-loop
 μ-loop out₀ at bytes starts lens order seats next₀ v₀ out next v = length order - v
 
 loop-holds : tie.Need-loop-holds Inv-loop μ-loop
-loop-holds c = let s = c .before .before .before .before .before .before .args in words-start (s .out .now) (s .at) _ (c .before .before .before .before .before .before .pre .1 .1)
+loop-holds c = let s = c .before .before .before .before .before .before .args in words-start (s .out .now) (s .at) _ (c .before .before .before .before .before .before .pre .room)
 
 in-support-requires : tie.Need-in-support-requires Inv-loop μ-loop
-in-support-requires c κs = (c .before .before .before .before .before .before .before .before .pre .1 .0, c .loop-test .taken)
+in-support-requires c κs = (c .before .before .before .before .before .before .before .before .pre .seatable, c .loop-test .taken)
 
 put-name-requires : tie.Need-put-name-requires Inv-loop μ-loop
 unfolding chosen
 put-name-requires c κs =
     let s = c .before .before .before .before .before .before .before .before .before .before .before .args in
-    let p = c .before .before .before .before .before .before .before .before .before .before .before .pre .0 in
+    let p = c .before .before .before .before .before .before .before .before .before .before .before .pre in
     let l = c .before .before .before .before .loop in
     let t = c .before .before .before .loop-test .taken in
     let e = id-next (seated (s .seats .now)) (s .order .now) (l .v) t (sym (c .before .before .in-support .ensures) ∙ c .before .if1 .taken) in
-    ((p .0, omega (arith, p .1, t)), writing-room (names-as (namesAt (s .bytes .now) (s .starts .now) (s .lens .now)) e (l .inv)))
+    ((p .inside, omega (arith, p .named, t)), writing-room (names-as (namesAt (s .bytes .now) (s .starts .now) (s .lens .now)) e (l .inv)))
 
 add-v : tie.Need-add-v Inv-loop μ-loop
 add-v c = omega arith

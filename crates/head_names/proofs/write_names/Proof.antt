@@ -21,13 +21,13 @@ names s = namesAt (s .args .bytes .now) (s .args .starts .now) (s .args .lens .n
 
 -- the names lie inside the lent bytes
 inside : (s : tie.Start) → Inside (s .args .bytes .now) (s .args .starts .now) (s .args .lens .now)
-inside s = list-inside (length (s .args .order .now)) (s .args .bytes .now) (s .args .starts .now) (s .args .lens .now) (s .pre .0 .0)
+inside s = list-inside (length (s .args .order .now)) (s .args .bytes .now) (s .args .starts .now) (s .args .lens .now) (s .pre .names-fit)
 
 returns : tie.Need-returns
 returns c =
     let s = c .before .before .before .before .before .before .before .before in
     rw (name-parts-none (s .args .version) (seated (s .args .seats .now)) (s .args .order .now) (names s) (λ e. c .if1 .taken (sym (inside s .many) ∙ e)))
-    (omega arith, refl)
+    (record { next = omega arith; bytes = refl })
 
 abbrev parts : tie.Start → List (List ℕ)
 parts s = nameParts (s .args .version) (seated (s .args .seats .now)) (s .args .order .now) (names s)
@@ -41,7 +41,7 @@ left-0 : (c : tie.Else1) → Left (c .before .before .before .before .before .be
 left-0 c =
     let s = c .before .before .before .before .before .before .before .before in
     writing-start (s .args .out .now) (s .args .at)
-    (name-parts (s .args .version) (seated (s .args .seats .now)) (s .args .order .now) (names s) (inside s .many ∙ c .if1 .left)) (s .pre .1)
+    (name-parts (s .args .version) (seated (s .args .seats .now)) (s .args .order .now) (names s) (inside s .many ∙ c .if1 .left)) (s .pre .room)
 
 left-1 : (c : tie.After-write-varnames) → Left (c .before .before .before .before .before .before .before .before .before .before) (c .write-varnames .last .1 .0) (c .write-varnames .result) 1
 left-1 c = writing-more (left-0 (c .before .before)) (c .write-varnames .ensures)
@@ -70,7 +70,12 @@ put-bytes-requires c κs = writing-room (left-1 (c .before .before .before .befo
 put-supp-names-requires : tie.Need-put-supp-names-requires
 put-supp-names-requires c κs =
     let s = c .before .before .before .before .before .before .before .before .before .before .before .before .before .before .before .before .before .before in
-    ((inside s, c .before .before .before .before .before .before .before .before .before .before .if1 .left), (ordered-seatable (s .pre .0 .1), writing-room (left-2 (c .before .before .before))))
+    record {
+      inside = inside s;
+      named = c .before .before .before .before .before .before .before .before .before .before .if1 .left;
+      seatable = ordered-seatable (s .pre .ordered);
+      room = writing-room (left-2 (c .before .before .before));
+    }
 
 slice-aggregate-put-bytes-2 : tie.Need-slice-aggregate-put-bytes-2
 slice-aggregate-put-bytes-2 c = search needs
@@ -81,8 +86,15 @@ put-bytes-requires-2 c κs = writing-room (left-3 (c .before .before .before .be
 put-ordered-names-requires : tie.Need-put-ordered-names-requires
 put-ordered-names-requires c κs =
     let s = c .before .before .before .before .before .before .before .before .before .before .before .before .before .before .before .before .before .before .before .before .before .before .before .before .before .before .before in
-    let o = s .pre .0 .1 in
-    ((inside s, c .before .before .before .before .before .before .before .before .before .before .before .before .before .before .before .before .before .before .before .if1 .left), ((o .is-order, o .vars-there, o .vars-long), writing-room (left-4 (c .before .before .before))))
+    let o = s .pre .ordered in
+    record {
+      inside = inside s;
+      named = c .before .before .before .before .before .before .before .before .before .before .before .before .before .before .before .before .before .before .before .if1 .left;
+      is-order = o .is-order;
+      vars-there = o .vars-there;
+      vars-long = o .vars-long;
+      room = writing-room (left-4 (c .before .before .before));
+    }
 
 put-byte-requires : tie.Need-put-byte-requires
 put-byte-requires c κs = omega (arith, writing-room (left-5 (c .before .before .before)))

@@ -16,17 +16,17 @@ abbrev names : tie.Start → List (List ℕ)
 names s = namesAt (s .args .bytes .now) (s .args .starts .now) (s .args .lens .now)
 
 returns : tie.Need-returns
-returns c = let s = c .before .before .before .before .before in rw (unless-none (names s) (line Rootnames (names s)) (s .pre .0 .many ∙ c .if1 .taken)) (omega arith, refl)
+returns c = let s = c .before .before .before .before .before in rw (unless-none (names s) (line Rootnames (names s)) (s .pre .inside .many ∙ c .if1 .taken)) (record { next = omega arith; bytes = refl })
 
 -- where there are names their line is written
 some-is : (c : tie.Else1) → linesText (unlessEmpty (names (c .before .before .before .before .before)) (line Rootnames (names (c .before .before .before .before .before)))) ≡ lineText (line Rootnames (names (c .before .before .before .before .before)))
-some-is c = unless-some (names (c .before .before .before .before .before)) (line Rootnames (names (c .before .before .before .before .before))) (omega (arith, c .before .before .before .before .before .pre .0 .many, c .if1 .left))
+some-is c = unless-some (names (c .before .before .before .before .before)) (line Rootnames (names (c .before .before .before .before .before))) (omega (arith, c .before .before .before .before .before .pre .inside .many, c .if1 .left))
 
 slice-aggregate-write-list : tie.Need-slice-aggregate-write-list
 slice-aggregate-write-list c = search needs
 
 write-list-requires : tie.Need-write-list-requires
-write-list-requires c κs = (c .before .before .before .before .before .before .before .pre .0, rw (some-is (c .before .before)) at (c .before .before .before .before .before .before .before .pre .1))
+write-list-requires c κs = (c .before .before .before .before .before .before .before .pre .inside, rw (some-is (c .before .before)) at (c .before .before .before .before .before .before .before .pre .room))
 
 same-length : tie.Need-same-length
 same-length c = search needs

@@ -33,7 +33,7 @@ write-list-requires c κs = (c .before .before .before .before .before .before .
 
 returns : tie.Need-returns
 unfolding linesText
-returns c = rw (c .enum-told .given .1) (omega arith, refl)
+returns c = rw (c .enum-told .given .1) (record { next = omega arith; bytes = refl })
 
 same-length : tie.Need-same-length
 same-length c = search needs

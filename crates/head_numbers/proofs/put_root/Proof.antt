@@ -25,7 +25,7 @@ number-of-requires : tie.Need-number-of-requires
 number-of-requires c κs = search needs
 
 put-edge-requires : tie.Need-put-edge-requires
-put-edge-requires c κs = rw (edge-is c) (omega (arith, c .before .before .before .before .before .before .before .before .pre .1, c .before .before .before .before .put-byte .ensures .0, c .before .before .before .before .put-byte .kept .0))
+put-edge-requires c κs = rw (edge-is c) (omega (arith, c .before .before .before .before .before .before .before .before .pre .1, c .before .before .before .before .put-byte .ensures .next, c .before .before .before .before .put-byte .kept .0))
 
 same-length : tie.Need-same-length
 same-length c = search needs

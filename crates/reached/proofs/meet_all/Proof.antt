@@ -65,7 +65,7 @@ same-length-2 c = c .before .loop .inv .1
 returns : tie.Need-returns Inv-loop μ-loop
 returns c =
     let l = roots-end (c .before .loop .inv .0) (c .loop-test .left) in
-    (l .many, (l .lies ∙ ap (laid _) (c .before .before .before .before .pre .1 .0), l .marked))
+    record { many = l .many; lies = l .lies ∙ ap (laid _) (c .before .before .before .before .pre .1 .0); marked = l .marked }
 
 pub meet-all-spec : {M : Type 1} → statement M
 meet-all-spec =

@@ -7,6 +7,7 @@ use native.Mathlib.Numerals.{add-one}
 use lib.ListN.{length, length-set}
 use borrow.Author.Needs.{needs}
 use Rattle.writers.specs.Binary.{escaped}
+use Rattle.writers.proofs.Sets.{wrote-byte}
 use Rattle.writers.proofs.Escaped.{escaped-plain}
 use Rattle.writers.proofs.binary.write_escaped.Statement.{statement}
 use Rattle.writers.proofs.binary.write_escaped.Tie as tie
@@ -30,7 +31,7 @@ same-length : tie.Need-same-length
 same-length c = search needs
 
 returns : tie.Need-returns
-returns c = rw (plain c) (refl, refl)
+returns c = rw (plain c) (wrote-byte _ _ _)
 
 slice-write-out-2 : tie.Need-slice-write-out-2
 slice-write-out-2 c = omega (arith, ap length (coded c))
@@ -48,7 +49,7 @@ same-length-2 : tie.Need-same-length-2
 same-length-2 c = search needs
 
 returns-2 : tie.Need-returns-2
-returns-2 c = rw (coded c) (refl, rw add-one)
+returns-2 c = rw (coded c) (record { next = refl; bytes = rw add-one })
 
 pub write-escaped-spec : {M : Type 1} → statement M
 write-escaped-spec =

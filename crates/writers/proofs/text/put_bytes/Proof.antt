@@ -41,7 +41,7 @@ same-length : tie.Need-same-length Inv-loop μ-loop
 same-length c = c .before .loop .inv .long
 
 returns : tie.Need-returns Inv-loop μ-loop
-returns c = (refl, storing-end (c .before .loop .inv) (c .loop-test .left))
+returns c = record { next = refl; bytes = storing-end (c .before .loop .inv) (c .loop-test .left) }
 
 pub put-bytes-spec : {M : Type 1} → statement M
 put-bytes-spec =

@@ -1,0 +1,21 @@
+-- What a walk promises.
+use Prim.Native.Nat.{ℕ}
+use mathlib.Core.List.{List, []}
+use lib.ListN.{length, replicate, take}
+use lib.IntN.{ℤ}
+use Rattle.store.specs.Store.{Store, store}
+use Rattle.store.specs.Lent.{Part, old, new}
+use Rattle.reached.specs.Walk.{meet, meetAll, Listed}
+
+module _ (then els : Part (List ℤ)) where
+  -- a walk reads no more of a store than its then and else
+  abbrev links : Store
+  links = store 0 0 [] (old then) (old els) [] []
+
+  -- the node and those under it that weren't listed are, after the first `at`; all that are listed are marked
+  abbrev pub MeetPromise : ℕ → Part (List ℕ) → Part (List ℕ) → ℕ → ℕ → Type 0
+  MeetPromise n met marks at r = Listed (meet links (take at (old met)) n) (old met) r (new met) (new marks)
+
+  -- the nodes that the roots lead to are listed, zeros after them, and they are marked
+  abbrev pub MeetAllPromise : Part (List ℤ) → Part (List ℕ) → Part (List ℕ) → ℕ → Type 0
+  MeetAllPromise roots met marks r = Listed (meetAll links [] (old roots)) (replicate (length (old met)) 0) r (new met) (new marks)

@@ -4,7 +4,8 @@ use mathlib.Core.Path.{_≡_}
 use mathlib.Core.List.{List}
 use lib.ListN.{length, replicate}
 use lib.IntN.{ℤ, pos}
-use Rattle.store.specs.Lent.{Part, old, new, oldStore, newStore}
+use Rattle.codes.specs.Lent.{Part, old, new}
+use Rattle.store.specs.Lent.{oldStore, newStore}
 use Rattle.header.specs.declared.Loaded.{Loaded}
 use Rattle.header.specs.Kinds.{ofLoaded}
 use Rattle.stages.specs.Stages.{Noded, nodesAfter}

@@ -6,7 +6,7 @@ use borrow.Fn.Kinds.{Dens, endedOf}
 use contract.Lifetimes.{Lfts}
 use denote.Ref.{RefT}
 use denote.Triple.Clauses.{AtExit}
-use Rattle.store.specs.Lent.{Part}
+use Rattle.codes.specs.Lent.{Part}
 use Rattle.evaluation.specs.declared.Evaluation.{Evaluation}
 use Rattle.header.specs.declared.Loaded.{Loaded}
 use Rattle.exporter.specs.declared.Exported.{Exported}

@@ -4,7 +4,8 @@ use mathlib.Core.Path.{_≡_}
 use mathlib.Core.List.{List}
 use lib.IntN.{ℤ}
 use Rattle.store.specs.Rules.{limits}
-use Rattle.store.specs.Lent.{Part, old, oldStore}
+use Rattle.codes.specs.Lent.{Part, old}
+use Rattle.store.specs.Lent.{oldStore}
 use Rattle.evaluation.specs.declared.Evaluation.{Evaluation}
 use Rattle.evaluation.specs.Evaluation.{evaluation}
 use Rattle.evaluation.specs.Evaluated.{ofEvaluation}

@@ -5,7 +5,8 @@ use mathlib.Core.List.{List}
 use lib.IntN.{ℤ}
 use Rattle.read_text.specs.declared.Place.{Place}
 use Rattle.header_values.specs.Kinds.{ofPlace}
-use Rattle.store.specs.Lent.{Part, old, new, oldStore}
+use Rattle.codes.specs.Lent.{Part, old, new}
+use Rattle.store.specs.Lent.{oldStore}
 use Rattle.heading.specs.Tables.{lent}
 use Rattle.exported.specs.Export.{exportFault, VarsIf}
 

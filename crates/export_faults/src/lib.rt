@@ -4,7 +4,7 @@ ghost use mathlib.Core.Bool.{true, _&&_};
 ghost use lib.Dec.{leb};
 ghost use lib.ListN.{replicate};
 ghost use Rattle.codes.specs.Limits.{varLimit};
-ghost use Rattle.store.specs.Lent.{old};
+ghost use Rattle.codes.specs.Lent.{old};
 ghost use Rattle.header_values.specs.Kinds.{ofPlace};
 ghost use Rattle.export_names.specs.Names.{fitPlace, listFits};
 ghost use Rattle.export_size.specs.Size.{exportSize};

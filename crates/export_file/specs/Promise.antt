@@ -6,12 +6,12 @@ use mathlib.Core.List.{List}
 use lib.ListN.{length, replicate}
 use lib.IntN.{ℤ}
 use denote.Ref.{RefT, now}
-use Rattle.codes.specs.Lent.{laid}
+use Rattle.codes.specs.Lent.{laid, Part, old, new}
 use Rattle.codes.specs.declared.DDDMPVersion.{DDDMPVersion}
 use Rattle.read_text.specs.declared.Place.{Place}
 use Rattle.header_values.specs.Kinds.{ofPlace}
 use Rattle.store.specs.Store.{Store}
-use Rattle.store.specs.Lent.{Part, old, new, storeNow, oldStore}
+use Rattle.store.specs.Lent.{storeNow, oldStore}
 use Rattle.seats.specs.Seats.{Seats}
 use Rattle.reached.specs.Reached.{bare}
 use Rattle.numbering.specs.Numbering.{numbering}

@@ -5,9 +5,9 @@ use mathlib.Core.List.{List}
 use lib.ListN.{length, replicate}
 use lib.IntN.{ℤ}
 use Rattle.codes.specs.Answer.{Read, value, refused}
-use Rattle.codes.specs.Lent.{laid}
+use Rattle.codes.specs.Lent.{laid, Part, old, new}
 use Rattle.store.specs.Store.{Store}
-use Rattle.store.specs.Lent.{Part, old, new, oldStore}
+use Rattle.store.specs.Lent.{oldStore}
 use Rattle.numbering.specs.Allowed.{Allowed}
 use Rattle.heading.specs.Tables.{Lent, lent}
 use Rattle.exported.specs.Settings.{Settings}

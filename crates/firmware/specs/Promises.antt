@@ -4,7 +4,8 @@ use mathlib.Core.Path.{_≡_}
 use mathlib.Core.List.{List}
 use lib.ListN.{length, replicate}
 use lib.IntN.{ℤ}
-use Rattle.store.specs.Lent.{Part, old, new, oldStore, newStore}
+use Rattle.codes.specs.Lent.{Part, old, new}
+use Rattle.store.specs.Lent.{oldStore, newStore}
 use Rattle.calls.specs.Load as calls
 use Rattle.calls.specs.Load.{Parts, lengthsOf, partsOf}
 use Rattle.calls.specs.Calls.{evaluateOf}

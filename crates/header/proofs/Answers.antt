@@ -5,6 +5,7 @@ use mathlib.Core.List.{List, map}
 use Prim.Native.Nat.{ℕ, zero, suc, _≤_}
 use lib.ListN.{length, replicate}
 use Rattle.codes.specs.declared.VarInfo.{VarInfo}
+use Rattle.codes.specs.Lent.{Part, old, new}
 use Rattle.header_lines.specs.Sweep.{Span, keys, spanStart, spanEnd, Table, EndWithin, atNodes, refusedAt, linesOf, endOf, sound, lasts}
 use Rattle.header_lines.specs.declared.Swept.{Swept}
 use Rattle.header_lines.specs.declared.Swept.the-variants as swept
@@ -16,7 +17,9 @@ use Rattle.header_values.specs.Kinds.{ofVarInfo, ofPlace}
 use Rattle.header_values.specs.Values.{spans, nnodesIn, nvarsIn, nsuppvarsIn, nrootsIn, asciiIn, varinfoIn, ddIn}
 use Rattle.header_values.proofs.Spanned.{spans-parts}
 use Rattle.header_checks.specs.Whole.{wholeFault}
-use Rattle.header.specs.Kinds.{ofHeader}
+use Rattle.header.specs.declared.Loaded.{Loaded}
+use Rattle.header.specs.Kinds.{ofHeader, ofLoaded}
+use Rattle.header.specs.Promises.{JudgePromise}
 use Rattle.header.specs.Header.{Header, Answer, header, refusal, headerIn, tableOf, settled, judged, readOf, after, tableBy, NextWithin}
 use Rattle.header_lists.specs.Settled.{Settled}
 use Rattle.header.proofs.NoValues.{none-settled}
@@ -39,13 +42,30 @@ pub header-read : (f : List ℕ) (t : List Span) (next lines : ℕ)
     }) ≡ headerIn f t next lines
 header-read f t next lines ea v ev d ed en em es er = rw (ea, ev, ed, en, em, es, er)
 
--- What `judge` promises, of its answer and the two lists that it leaves.
+-- What `judge` promises, as facts of its answer and the two lists that it leaves.
 abbrev pub Promised : ℕ → List ℕ → Answer → List ℕ → List ℕ → Type 0
 Promised n f a starts ends =
     (a ≡ after n f)
     × ((starts ≡ map spanStart (tableBy f a))
     × ((ends ≡ map spanEnd (tableBy f a))
     × (Table f starts ends × (Settled f (tableBy f a) × NextWithin f a))))
+
+module _ {n : ℕ} {f starts ends : Part (List ℕ)} {r : Loaded} where
+  -- these facts keep its promise
+  pub judges : Promised n (old f) (ofLoaded r) (new starts) (new ends) → JudgePromise f n starts ends r
+  judges p =
+      record {
+        answer = p .0;
+        table = p .1 .1 .1 .0;
+        settled = p .1 .1 .1 .1 .0;
+        within = p .1 .1 .1 .1 .1;
+        starts-left = p .1 .0;
+        ends-left = p .1 .1 .0;
+      }
+
+  -- and follow from it
+  pub promised : JudgePromise f n starts ends r → Promised n (old f) (ofLoaded r) (new starts) (new ends)
+  promised p = (p .answer, (p .starts-left, (p .ends-left, (p .table, (p .settled, p .within)))))
 
 -- a refusal leaves two lists of zeros
 refused : (n : ℕ) (f : List ℕ) (k line : ℕ) {starts ends : List ℕ} → refusal k line ≡ after n f

@@ -5,7 +5,7 @@ use Prim.Native.Nat.{ℕ, zero, suc}
 use native.Mathlib.Omega.{arith}
 use lib.IntN.{ℤ, pos}
 use lib.ListN.{length, replicate}
-use Rattle.codes.specs.Lent.{laid}
+use Rattle.codes.specs.Lent.{Part, old, new, laid}
 use Rattle.codes.specs.Limits.{rootLimit}
 use Rattle.read_text.specs.Text.{startOf, lenOf}
 use Rattle.header_lines.specs.Sweep.{Span, End, atNodes, refusedAt, endOf, linesOf}
@@ -15,7 +15,10 @@ use Rattle.support.specs.Support.{supportOrder}
 use Rattle.header_values.specs.Values.{spans, pad, nvarsIn, u32sIn, namesIn, rootsIn}
 use Rattle.header_checks.specs.Names.{variableNamesIn}
 use Rattle.header_checks.specs.Whole.{wholeFault}
-use Rattle.header.specs.Header.{Header, Answer, header, refusal, tableOf, settled, judged, readOf, after, Loaded, listsIn, listsBy, loadOf, tableBy, NextWithin}
+use Rattle.header.specs.Header.{Header, Answer, header, refusal, tableOf, settled, judged, readOf, after, listsIn, listsBy, loadOf, tableBy}
+use Rattle.header.specs.declared.Loaded as code
+use Rattle.header.specs.Kinds.{ofLoaded}
+use Rattle.header.specs.Promises.{LoadHeaderPromise}
 use Rattle.header_lists.specs.Settled.{Settled}
 use Rattle.header.proofs.NoValues.{no-lists}
 use Rattle.header.proofs.Faultless.{faultless-roots}
@@ -66,38 +69,33 @@ module _ (n : ℕ) (f : List ℕ) (a : Answer) {starts ends : List ℕ} (w : Pro
   all-loaded = ap (λ t. listsIn f t a) held-spans ∙ lists-by f a ∙ ap (listsBy f) (w .0)
 
 -- What a load leaves in its nine lists.
-module _ (f : List ℕ) (n : ℕ) (ids order permids auxids names lens : List ℕ) (roots : List ℤ) (rootnames rootlens : List ℕ) where
-  -- the load
-  abbrev here : Loaded
-  here = loadOf n f
-
-  module _ (a : Answer) {starts ends : List ℕ} (w : Promised n f a starts ends) where
-    -- the table that the last phase reads
-    abbrev table : List Span
-    table = spans starts ends
-
-    -- each list is that of the load
-    pub load-leaves : {ids' order' permids' auxids' names' lens' : List ℕ} {roots' : List ℤ} {rootnames' rootlens' : List ℕ}
-        → ids' ≡ pad (length ids) (u32sIn f table Ids)
-        → order' ≡ pad (length order) (supportOrder (nvarsIn f table) (u32sIn f table Ids) (u32sIn f table Permids))
-        → permids' ≡ pad (length permids) (u32sIn f table Permids)
-        → auxids' ≡ pad (length auxids) (u32sIn f table Auxids)
-        → names' ≡ pad (length names) (map startOf (variableNamesIn f table))
-        → lens' ≡ pad (length lens) (map lenOf (variableNamesIn f table))
-        → roots' ≡ laid (map edgeOf (rootsIn f table)) (replicate (length roots) (pos 0))
-        → rootnames' ≡ pad (length rootnames) (map startOf (namesIn rootLimit f table Rootnames))
-        → rootlens' ≡ pad (length rootlens) (map lenOf (namesIn rootLimit f table Rootnames))
-        → (a ≡ here .answer)
-        × (NextWithin f a
-        × ((ids' ≡ pad (length ids) (here .ids))
-        × ((order' ≡ pad (length order) (here .order))
-        × ((permids' ≡ pad (length permids) (here .permids))
-        × ((auxids' ≡ pad (length auxids) (here .auxids))
-        × ((names' ≡ pad (length names) (map startOf (here .names)))
-        × ((lens' ≡ pad (length lens) (map lenOf (here .names)))
-        × ((roots' ≡ laid (here .roots) (replicate (length roots) (pos 0)))
-        × ((rootnames' ≡ pad (length rootnames) (map startOf (here .rootnames)))
-        × (rootlens' ≡ pad (length rootlens) (map lenOf (here .rootnames))))))))))))
-    load-leaves e0 e1 e2 e3 e4 e5 e6 e7 e8 =
-        rw (← (all-loaded n f a w))
-        (refl, (w .1 .1 .1 .1 .1, (e0, (e1, (e2, (e3, (e4, (e5, (e6 ∙ rw (held-edges n f a w), (e7, e8))))))))))
+module _ {f : Part (List ℕ)} {n : ℕ} {ids order permids auxids names lens : Part (List ℕ)} {roots : Part (List ℤ)}
+    {rootnames rootlens : Part (List ℕ)} {r : code.Loaded} {starts ends : List ℕ} (w : Promised n (old f) (ofLoaded r) starts ends) where
+  -- each list is that of the load
+  pub load-leaves : new ids ≡ pad (length (old ids)) (u32sIn (old f) (spans starts ends) Ids)
+      → new order
+      ≡ pad (length (old order)) (supportOrder (nvarsIn (old f) (spans starts ends)) (u32sIn (old f) (spans starts ends) Ids) (u32sIn (old f) (spans starts ends) Permids))
+      → new permids ≡ pad (length (old permids)) (u32sIn (old f) (spans starts ends) Permids)
+      → new auxids ≡ pad (length (old auxids)) (u32sIn (old f) (spans starts ends) Auxids)
+      → new names ≡ pad (length (old names)) (map startOf (variableNamesIn (old f) (spans starts ends)))
+      → new lens ≡ pad (length (old lens)) (map lenOf (variableNamesIn (old f) (spans starts ends)))
+      → new roots ≡ laid (map edgeOf (rootsIn (old f) (spans starts ends))) (replicate (length (old roots)) (pos 0))
+      → new rootnames ≡ pad (length (old rootnames)) (map startOf (namesIn rootLimit (old f) (spans starts ends) Rootnames))
+      → new rootlens ≡ pad (length (old rootlens)) (map lenOf (namesIn rootLimit (old f) (spans starts ends) Rootnames))
+      → LoadHeaderPromise f n ids order permids auxids names lens roots rootnames rootlens r
+  load-leaves e0 e1 e2 e3 e4 e5 e6 e7 e8 =
+      let loaded = all-loaded n (old f) (ofLoaded r) w in
+      record {
+        answer = ap (λ l. l .answer) loaded;
+        within = w .1 .1 .1 .1 .1;
+        ids-left = e0 ∙ ap (λ l. pad (length (old ids)) (l .ids)) loaded;
+        order-left = e1 ∙ ap (λ l. pad (length (old order)) (l .order)) loaded;
+        permids-left = e2 ∙ ap (λ l. pad (length (old permids)) (l .permids)) loaded;
+        auxids-left = e3 ∙ ap (λ l. pad (length (old auxids)) (l .auxids)) loaded;
+        names-left = e4 ∙ ap (λ l. pad (length (old names)) (map startOf (l .names))) loaded;
+        lens-left = e5 ∙ ap (λ l. pad (length (old lens)) (map lenOf (l .names))) loaded;
+        roots-left =
+            e6 ∙ rw (held-edges n (old f) (ofLoaded r) w) (ap (λ l. laid (l .roots) (replicate (length (old roots)) (pos 0))) loaded);
+        rootnames-left = e7 ∙ ap (λ l. pad (length (old rootnames)) (map startOf (l .rootnames))) loaded;
+        rootlens-left = e8 ∙ ap (λ l. pad (length (old rootlens)) (map lenOf (l .rootnames))) loaded;
+      }

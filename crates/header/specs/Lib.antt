@@ -1,3 +1,4 @@
 pub mod Header
 pub mod Kinds
+pub mod Promises
 pub mod Examples

@@ -1,16 +1,12 @@
 // The header of a file: `DumpHeader::load`, in three phases. `header_lines` judges each line and keeps the place of each key's last value;
 // `header_checks` checks the header as a whole; `header_lists` reads each list from its place into the lent one.
 ghost use mathlib.Core.Path.{_≡_};
-ghost use mathlib.Core.List.{map};
-ghost use lib.IntN.{pos};
-ghost use lib.ListN.{length, replicate};
-ghost use Rattle.codes.specs.Lent.{laid};
-ghost use Rattle.read_text.specs.Text.{startOf, lenOf};
-ghost use Rattle.header_lines.specs.Sweep.{Table, keys, spanStart, spanEnd};
-ghost use Rattle.header.specs.Kinds.{ofHeader, ofLoaded};
-ghost use Rattle.header_values.specs.Values.{spans, pad};
-ghost use Rattle.header.specs.Header.{headerIn, MayRead, after, tableBy, loadOf, NextWithin};
-ghost use Rattle.header_lists.specs.Settled.{Settled};
+ghost use lib.ListN.{replicate};
+ghost use Rattle.header_lines.specs.Sweep.{Table, keys};
+ghost use Rattle.header_values.specs.Values.{spans};
+ghost use Rattle.header.specs.Kinds.{ofHeader};
+ghost use Rattle.header.specs.Header.{headerIn, MayRead};
+ghost use Rattle.header.specs.Promises.{JudgePromise, LoadHeaderPromise};
 use codes::VarInfo;
 use codes::limits;
 use edges::Edge;
@@ -62,12 +58,7 @@ fn judge(f: &[u8], found: u8, starts: &mut [u32], ends: &mut [u32]) -> Loaded
     requires { ⌜ MayRead found (now f) ⌝ }
     requires { ⌜ now starts ≡ replicate keys 0 ⌝ }
     requires { ⌜ now ends ≡ replicate keys 0 ⌝ }
-    ensures { λ r. ⌜ ofLoaded r ≡ after found (now (f .entry)) ⌝ }
-    ensures { λ r. ⌜ now (starts .exit) ≡ map spanStart (tableBy (now (f .entry)) (ofLoaded r)) ⌝ }
-    ensures { λ r. ⌜ now (ends .exit) ≡ map spanEnd (tableBy (now (f .entry)) (ofLoaded r)) ⌝ }
-    ensures { λ _. ⌜ Table (now (f .entry)) (now (starts .exit)) (now (ends .exit)) ⌝ }
-    ensures { λ r. ⌜ Settled (now (f .entry)) (tableBy (now (f .entry)) (ofLoaded r)) ⌝ }
-    ensures { λ r. ⌜ NextWithin (now (f .entry)) (ofLoaded r) ⌝ }
+    ensures { λ r. ⌜ JudgePromise f found starts ends r ⌝ }
 {
     if found != 0 {
         return Loaded::Refused(found, 0);
@@ -108,17 +99,7 @@ impl DumpHeader {
         rootlens: &mut [u32],
     ) -> Loaded
         requires { ⌜ MayRead found (now f) ⌝ }
-        ensures { λ r. ⌜ ofLoaded r ≡ loadOf found (now (f .entry)) .answer ⌝ }
-        ensures { λ r. ⌜ NextWithin (now (f .entry)) (ofLoaded r) ⌝ }
-        ensures { λ _. ⌜ now (ids .exit) ≡ pad (length (now (ids .entry))) (loadOf found (now (f .entry)) .ids) ⌝ }
-        ensures { λ _. ⌜ now (order .exit) ≡ pad (length (now (order .entry))) (loadOf found (now (f .entry)) .order) ⌝ }
-        ensures { λ _. ⌜ now (permids .exit) ≡ pad (length (now (permids .entry))) (loadOf found (now (f .entry)) .permids) ⌝ }
-        ensures { λ _. ⌜ now (auxids .exit) ≡ pad (length (now (auxids .entry))) (loadOf found (now (f .entry)) .auxids) ⌝ }
-        ensures { λ _. ⌜ now (names .exit) ≡ pad (length (now (names .entry))) (map startOf (loadOf found (now (f .entry)) .names)) ⌝ }
-        ensures { λ _. ⌜ now (lens .exit) ≡ pad (length (now (lens .entry))) (map lenOf (loadOf found (now (f .entry)) .names)) ⌝ }
-        ensures { λ _. ⌜ now (roots .exit) ≡ laid (loadOf found (now (f .entry)) .roots) (replicate (length (now (roots .entry))) (pos 0)) ⌝ }
-        ensures { λ _. ⌜ now (rootnames .exit) ≡ pad (length (now (rootnames .entry))) (map startOf (loadOf found (now (f .entry)) .rootnames)) ⌝ }
-        ensures { λ _. ⌜ now (rootlens .exit) ≡ pad (length (now (rootlens .entry))) (map lenOf (loadOf found (now (f .entry)) .rootnames)) ⌝ }
+        ensures { λ r. ⌜ LoadHeaderPromise f found ids order permids auxids names lens roots rootnames rootlens r ⌝ }
     {
         let mut starts = [0u32; header_keys::KEYS];
         let mut ends = [0u32; header_keys::KEYS];

@@ -7,12 +7,14 @@ use native.Mathlib.Omega.{arith}
 use lib.ListN.{length, take, replicate, length-map}
 use borrow.Author.Tests.{eq-eqb, ne-eqb, not-true, not-false}
 use Rattle.codes.specs.Limits.{varLimit}
+use Rattle.codes.specs.Lent.{Part, old, new}
 use Rattle.read_text.specs.Text.{Place, startOf, lenOf}
 use Rattle.header_lines.specs.Sweep.{Span}
 use Rattle.header_keys.specs.declared.Key.{Key}
 use Rattle.header_keys.specs.declared.Key.the-variants.{Ids, Permids}
 use Rattle.variable_names.specs.Names.{places, sameNames, chosen}
 use Rattle.variable_names.proofs.Placed.{places-parts}
+use Rattle.header_values.specs.Promises.{NamesPromise, table}
 use Rattle.header_values.specs.Values.{pad, namesIn}
 use Rattle.header_values.proofs.Counted.{u32s-most, names-most}
 use Rattle.header_values.proofs.Fronts.{front-fits, front-is, front-long}
@@ -30,6 +32,12 @@ HasNames f t k a b n starts lens =
     (n ≡ length (namesIn varLimit f t k))
     × ((starts ≡ pad (length a) (map startOf (namesIn varLimit f t k)))
     × (lens ≡ pad (length b) (map lenOf (namesIn varLimit f t k))))
+
+-- what reading a list of names promises
+pub names-read : {f starts ends : Part (List ℕ)} {k : Key} {names lens : Part (List ℕ)} {n : ℕ}
+    → NamesPromise f starts ends k varLimit names lens n
+    → HasNames (old f) (table starts ends) k (old names) (old lens) n (new names) (new lens)
+names-read r = (r .answer, (r .names-left, r .lens-left))
 
 -- which had room for them
 module _ (f : List ℕ) (t : List Span) (k : Key) {a b : List ℕ} (r : NameRoom f t k a b) {n : ℕ} {starts lens : List ℕ}

@@ -5,8 +5,8 @@ ghost use lib.ListN.{length};
 ghost use Rattle.codes.specs.Lent.{laid};
 ghost use Rattle.codes.specs.Limits.{varLimit};
 ghost use Rattle.header_lines.specs.Sweep.{Table};
-ghost use Rattle.variable_names.specs.Names.{sameNames, chosen};
-ghost use Rattle.header_checks.specs.Names.{upFrom, agree, suppvarnamesIn};
+ghost use Rattle.header_checks.specs.Names.{upFrom, suppvarnamesIn};
+ghost use Rattle.header_checks.specs.Promises.{AlikePromise, AgreePromise, SuppAgreesPromise};
 ghost use Rattle.header_checks.specs.Whole.{NameRoom};
 ghost use Rattle.header_values.specs.Values.{spans, Known, namesIn};
 use codes::limits;
@@ -46,7 +46,7 @@ fn alike_in(
     requires { ⌜ length (now index2) ≡ length (now index) ⌝ }
     requires { ⌜ NameRoom (now f) (spans (now starts) (now ends)) key (now names) (now lens) ⌝ }
     requires { ⌜ NameRoom (now f) (spans (now starts) (now ends)) key2 (now names2) (now lens2) ⌝ }
-    ensures { λ r. ⌜ r ≡ sameNames (now (f .entry)) (chosen (now (index .entry)) (namesIn varLimit (now (f .entry)) (spans (now (starts .entry)) (now (ends .entry))) key)) (chosen (now (index2 .entry)) (namesIn varLimit (now (f .entry)) (spans (now (starts .entry)) (now (ends .entry))) key2)) ⌝ }
+    ensures { λ r. ⌜ AlikePromise f starts ends key index key2 index2 r ⌝ }
 {
     let max = limits::VAR_LIMIT;
     let n = header_values::read_names(f, starts, ends, key, max, names, lens);
@@ -79,7 +79,7 @@ fn alike(
     requires { ⌜ n ≡ length (namesIn varLimit (now f) (spans (now starts) (now ends)) key) ⌝ }
     requires { ⌜ m ≡ length (namesIn varLimit (now f) (spans (now starts) (now ends)) key2) ⌝ }
     requires { ⌜ length (now index2) ≡ length (now index) ⌝ }
-    ensures { λ r. ⌜ r ≡ sameNames (now (f .entry)) (chosen (now (index .entry)) (namesIn varLimit (now (f .entry)) (spans (now (starts .entry)) (now (ends .entry))) key)) (chosen (now (index2 .entry)) (namesIn varLimit (now (f .entry)) (spans (now (starts .entry)) (now (ends .entry))) key2)) ⌝ }
+    ensures { λ r. ⌜ AlikePromise f starts ends key index key2 index2 r ⌝ }
 {
     if n <= FEW && m <= FEW {
         let mut names = [0u32; FEW];
@@ -136,7 +136,7 @@ pub fn agree(
     requires { ⌜ n ≡ length (namesIn varLimit (now f) (spans (now starts) (now ends)) key) ⌝ }
     requires { ⌜ m ≡ length (namesIn varLimit (now f) (spans (now starts) (now ends)) key2) ⌝ }
     requires { ⌜ length (now index2) ≡ length (now index) ⌝ }
-    ensures { λ r. ⌜ r ≡ agree (now (f .entry)) (namesIn varLimit (now (f .entry)) (spans (now (starts .entry)) (now (ends .entry))) key) (now (index .entry)) (namesIn varLimit (now (f .entry)) (spans (now (starts .entry)) (now (ends .entry))) key2) (now (index2 .entry)) ⌝ }
+    ensures { λ r. ⌜ AgreePromise f starts ends key index key2 index2 r ⌝ }
 {
     if n == 0 {
         return true;
@@ -161,7 +161,7 @@ pub fn supp_agrees(
     requires { ⌜ n ≡ length (namesIn varLimit (now f) (spans (now starts) (now ends)) key) ⌝ }
     requires { ⌜ m ≡ length (suppvarnamesIn (now f) (spans (now starts) (now ends))) ⌝ }
     requires { ⌜ length (now index) ≤ varLimit ⌝ }
-    ensures { λ r. ⌜ r ≡ agree (now (f .entry)) (namesIn varLimit (now (f .entry)) (spans (now (starts .entry)) (now (ends .entry))) key) (now (index .entry)) (suppvarnamesIn (now (f .entry)) (spans (now (starts .entry)) (now (ends .entry)))) (upFrom (length (now (index .entry))) 0) ⌝ }
+    ensures { λ r. ⌜ SuppAgreesPromise f starts ends key index r ⌝ }
 {
     if n == 0 {
         return true;

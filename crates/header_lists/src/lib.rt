@@ -1,21 +1,14 @@
 // The lists of a header, each read from the place of its key's last value into the lent one. The rest of a lent list is zeros; where the
 // table is of zeros, as on a refusal, all of it.
 ghost use mathlib.Core.Path.{_≡_};
-ghost use mathlib.Core.List.{map};
-ghost use lib.IntN.{pos};
-ghost use lib.ListN.{length, replicate};
-ghost use Rattle.codes.specs.Lent.{laid};
+ghost use lib.ListN.{length};
 ghost use Rattle.codes.specs.Limits.{varLimit};
-ghost use Rattle.read_text.specs.Text.{startOf, lenOf};
 ghost use Rattle.header_lines.specs.Sweep.{Table};
-ghost use Rattle.header_keys.specs.declared.Key.the-variants.{Ids, Permids};
-ghost use Rattle.variable_names.specs.Names.{nameAt, orderedSeats, suppSeats};
-ghost use Rattle.file_roots.specs.Roots.{edgeOf};
-ghost use Rattle.support.specs.Support.{supportOrder};
-ghost use Rattle.header_values.specs.Values.{spans, Known, pad, nvarsIn, u32sIn, namesIn, rootsIn};
-ghost use Rattle.header_checks.specs.Names.{variableNamesIn};
+ghost use Rattle.header_values.specs.Values.{spans, Known, namesIn};
 ghost use Rattle.header_checks.specs.Whole.{NameRoom};
 ghost use Rattle.header_lists.specs.Settled.{Settled};
+ghost use Rattle.header_lists.specs.Promises.{FillOrderPromise, OrderedInPromise, SuppInPromise};
+ghost use Rattle.header_lists.specs.Promises.{GatherPromise, FillNamesPromise, FillRootsPromise};
 use codes::limits::ROOT_LIMIT;
 use codes::limits::VAR_LIMIT;
 use edges::Edge;
@@ -25,7 +18,7 @@ use header_keys::Key;
 // The support order.
 pub fn fill_order(f: &[u8], starts: &[u32], ends: &[u32], dst: &mut [u32])
     requires { ⌜ Table (now f) (now starts) (now ends) × Settled (now f) (spans (now starts) (now ends)) ⌝ }
-    ensures { λ _. ⌜ now (dst .exit) ≡ pad (length (now (dst .entry))) (supportOrder (nvarsIn (now (f .entry)) (spans (now (starts .entry)) (now (ends .entry)))) (u32sIn (now (f .entry)) (spans (now (starts .entry)) (now (ends .entry))) Ids) (u32sIn (now (f .entry)) (spans (now (starts .entry)) (now (ends .entry))) Permids)) ⌝ }
+    ensures { λ _. ⌜ FillOrderPromise f starts ends dst ⌝ }
 {
     let nvars = header_values::u32_in(f, starts, ends, Key::Nvars);
     let mut ids = [0u32; VAR_LIMIT];
@@ -39,7 +32,7 @@ pub fn fill_order(f: &[u8], starts: &[u32], ends: &[u32], dst: &mut [u32])
 // Where each variable's name stands in `.orderedvarnames`, counted from 1, over the front of a list.
 fn ordered_in(f: &[u8], starts: &[u32], ends: &[u32], dst: &mut [u32])
     requires { ⌜ Table (now f) (now starts) (now ends) × Settled (now f) (spans (now starts) (now ends)) ⌝ }
-    ensures { λ _. ⌜ now (dst .exit) ≡ laid (orderedSeats (nvarsIn (now (f .entry)) (spans (now (starts .entry)) (now (ends .entry)))) (u32sIn (now (f .entry)) (spans (now (starts .entry)) (now (ends .entry))) Ids) (u32sIn (now (f .entry)) (spans (now (starts .entry)) (now (ends .entry))) Permids)) (now (dst .entry)) ⌝ }
+    ensures { λ _. ⌜ OrderedInPromise f starts ends dst ⌝ }
 {
     let nvars = header_values::u32_in(f, starts, ends, Key::Nvars);
     let mut ids = [0u32; VAR_LIMIT];
@@ -52,7 +45,7 @@ fn ordered_in(f: &[u8], starts: &[u32], ends: &[u32], dst: &mut [u32])
 // Where each variable's name stands in `.suppvarnames`, counted from 1, over the front of a list.
 fn supp_in(f: &[u8], starts: &[u32], ends: &[u32], dst: &mut [u32])
     requires { ⌜ Table (now f) (now starts) (now ends) × Settled (now f) (spans (now starts) (now ends)) ⌝ }
-    ensures { λ _. ⌜ now (dst .exit) ≡ laid (suppSeats (nvarsIn (now (f .entry)) (spans (now (starts .entry)) (now (ends .entry)))) (u32sIn (now (f .entry)) (spans (now (starts .entry)) (now (ends .entry))) Ids)) (now (dst .entry)) ⌝ }
+    ensures { λ _. ⌜ SuppInPromise f starts ends dst ⌝ }
 {
     let nvars = header_values::u32_in(f, starts, ends, Key::Nvars);
     let mut ids = [0u32; VAR_LIMIT];
@@ -74,8 +67,7 @@ fn gather_in(
 )
     requires { ⌜ Table (now f) (now starts) (now ends) × Known key ⌝ }
     requires { ⌜ NameRoom (now f) (spans (now starts) (now ends)) key (now from) (now sizes) ⌝ }
-    ensures { λ _. ⌜ now (names .exit) ≡ laid (map startOf (map (nameAt (namesIn varLimit (now (f .entry)) (spans (now (starts .entry)) (now (ends .entry))) key)) (now (seats .entry)))) (now (names .entry)) ⌝ }
-    ensures { λ _. ⌜ now (lens .exit) ≡ laid (map lenOf (map (nameAt (namesIn varLimit (now (f .entry)) (spans (now (starts .entry)) (now (ends .entry))) key)) (now (seats .entry)))) (now (lens .entry)) ⌝ }
+    ensures { λ _. ⌜ GatherPromise f starts ends key seats names lens ⌝ }
 {
     let n = header_values::read_names(f, starts, ends, key, VAR_LIMIT, from, sizes);
     variable_names::gather(seats, &from[..n], names);
@@ -95,8 +87,7 @@ fn gather_names(
 )
     requires { ⌜ Table (now f) (now starts) (now ends) × Known key ⌝ }
     requires { ⌜ count ≡ length (namesIn varLimit (now f) (spans (now starts) (now ends)) key) ⌝ }
-    ensures { λ _. ⌜ now (names .exit) ≡ laid (map startOf (map (nameAt (namesIn varLimit (now (f .entry)) (spans (now (starts .entry)) (now (ends .entry))) key)) (now (seats .entry)))) (now (names .entry)) ⌝ }
-    ensures { λ _. ⌜ now (lens .exit) ≡ laid (map lenOf (map (nameAt (namesIn varLimit (now (f .entry)) (spans (now (starts .entry)) (now (ends .entry))) key)) (now (seats .entry)))) (now (lens .entry)) ⌝ }
+    ensures { λ _. ⌜ GatherPromise f starts ends key seats names lens ⌝ }
 {
     if count <= FEW {
         let mut from = [0u32; FEW];
@@ -132,8 +123,7 @@ fn gather_names(
 // The names of the variables: `.varnames` first, else `.orderedvarnames`, else `.suppvarnames`.
 pub fn fill_names(f: &[u8], starts: &[u32], ends: &[u32], names: &mut [u32], lens: &mut [u32])
     requires { ⌜ Table (now f) (now starts) (now ends) × Settled (now f) (spans (now starts) (now ends)) ⌝ }
-    ensures { λ _. ⌜ now (names .exit) ≡ pad (length (now (names .entry))) (map startOf (variableNamesIn (now (f .entry)) (spans (now (starts .entry)) (now (ends .entry))))) ⌝ }
-    ensures { λ _. ⌜ now (lens .exit) ≡ pad (length (now (lens .entry))) (map lenOf (variableNamesIn (now (f .entry)) (spans (now (starts .entry)) (now (ends .entry))))) ⌝ }
+    ensures { λ _. ⌜ FillNamesPromise f starts ends names lens ⌝ }
 {
     if header_values::names_in(f, starts, ends, Key::Varnames, VAR_LIMIT, names, lens) != 0 {
         return;
@@ -175,7 +165,7 @@ pub fn fill_names(f: &[u8], starts: &[u32], ends: &[u32], names: &mut [u32], len
 // The roots as edges.
 pub fn fill_roots(f: &[u8], starts: &[u32], ends: &[u32], dst: &mut [Edge])
     requires { ⌜ Table (now f) (now starts) (now ends) ⌝ }
-    ensures { λ _. ⌜ now (dst .exit) ≡ laid (map edgeOf (rootsIn (now (f .entry)) (spans (now (starts .entry)) (now (ends .entry))))) (replicate (length (now (dst .entry))) (pos 0)) ⌝ }
+    ensures { λ _. ⌜ FillRootsPromise f starts ends dst ⌝ }
 {
     let mut roots = [0i64; ROOT_LIMIT];
     let n = header_values::roots_in(f, starts, ends, &mut roots);

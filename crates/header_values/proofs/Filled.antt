@@ -16,7 +16,7 @@ use Rattle.header_keys.specs.declared.Key.{Key}
 use Rattle.header_keys.specs.declared.Key.the-variants.{Rootids}
 use Rattle.header_values.specs.declared.Span as code
 use Rattle.header_values.specs.Kinds.{ofSpan}
-use Rattle.header_values.specs.Values.{spanIn, valueIn, entriesBy, entriesOf, pad, u32sIn, namesIn, rootsIn}
+use Rattle.header_values.specs.Values.{spanIn, valueIn, entriesBy, entriesOf, pad, u32sIn, namesIn, rootsIn, rootsRead}
 use Rattle.header_values.proofs.Counted.{refused-none, Counts, u32-count, name-count, edge-count, roots-most}
 use Rattle.header_values.proofs.Padded.{take-laid, pad-again}
 use Rattle.header_values.proofs.Spanned.{value-by}
@@ -123,3 +123,9 @@ module _ (f : List ℕ) (t : List Span) (s : code.Span) (at : ofSpan s ≡ spanI
       → (0 ≡ length (rootsIn f t)) × ([] ≡ rootsIn f t)
   unfolding rootsIn
   roots-none r = (ap length (given-none roots r), given-none roots r)
+
+  -- and in both cases those that were read lie over the front of the list
+  pub roots-read : (old : List ℤ) {dst : List ℤ} → dst ≡ laid (edgeList rootLimit (part f (s .start) (s .end)) .entries) old
+      → dst ≡ laid (rootsRead f t) old
+  unfolding rootsRead
+  roots-read old d = d ∙ ap (λ l. laid (l .entries) old) roots

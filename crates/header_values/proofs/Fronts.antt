@@ -5,8 +5,10 @@ use Prim.Native.Nat.{ℕ, _≤_}
 use native.Mathlib.Omega.{arith}
 use lib.ListN.{length, take, replicate, length-replicate}
 use Rattle.codes.specs.Limits.{varLimit}
+use Rattle.codes.specs.Lent.{Part, old, new}
 use Rattle.header_lines.specs.Sweep.{Span}
 use Rattle.header_keys.specs.declared.Key.{Key}
+use Rattle.header_values.specs.Promises.{U32sPromise, table}
 use Rattle.header_values.specs.Values.{pad, u32sIn}
 use Rattle.header_values.proofs.Counted.{u32s-most}
 use Rattle.header_values.proofs.Padded.{take-laid, length-pad}
@@ -24,6 +26,11 @@ module _ (m : ℕ) (es : List ℕ) (h : length es ≤ m) {n : ℕ} {dst : List �
   -- and so has their length
   pub front-long : n ≡ length (take n dst)
   front-long = e ∙ ap length (sym front-is)
+
+-- what reading a list of numbers promises, as two facts
+pub numbers-read : {f starts ends : Part (List ℕ)} {k : Key} {dst : Part (List ℕ)} {n : ℕ} → U32sPromise f starts ends k dst n
+    → (n ≡ length (u32sIn (old f) (table starts ends) k)) × (new dst ≡ pad (length (old dst)) (u32sIn (old f) (table starts ends) k))
+numbers-read r = (r .answer, r .list)
 
 -- the numbers of a header's list, n of them, are in a lent list
 abbrev pub HasNumbers : List ℕ → List Span → Key → ℕ → List ℕ → Type 0

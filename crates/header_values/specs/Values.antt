@@ -91,6 +91,10 @@ namesIn max f t k = entriesOf (nameList max (spanIn t k .start) (valueIn f t k))
 unfoldable pub rootsIn : List ℕ → List Span → List ℤ
 rootsIn f t = entriesOf (edgeList rootLimit (valueIn f t Rootids))
 
+-- the roots that were read, also where a later entry is refused
+unfoldable pub rootsRead : List ℕ → List Span → List ℤ
+rootsRead f t = edgeList rootLimit (valueIn f t Rootids) .entries
+
 -- a lent list of n entries: the entries used, and zeros
 abbrev pub pad : ℕ → List ℕ → List ℕ
 pad n es = laid es (replicate n 0)

@@ -1,14 +1,13 @@
 // What the last value of each key says. Each was judged by the sweep, so that the other arm of a reader's answer is met only where the
 // key is missing: a number is then 0, a list empty.
 ghost use mathlib.Core.Path.{_≡_};
-ghost use mathlib.Core.List.{map};
 ghost use Prim.Native.Nat.{_^_, _≤_};
-ghost use lib.ListN.{length, take, replicate};
+ghost use lib.ListN.{length, replicate};
 ghost use Rattle.codes.specs.Limits.{rootLimit};
-ghost use Rattle.read_text.specs.Text.{startOf, lenOf};
 ghost use Rattle.header_lines.specs.Sweep.{Table};
 ghost use Rattle.header_values.specs.Kinds.{ofPlace, ofSpan, ofVarInfo, SpanWithin};
-ghost use Rattle.header_values.specs.Values.{spans, spanIn, Known, pad, numberIn, asciiIn, varinfoIn, ddIn, u32sIn, namesIn, rootsIn};
+ghost use Rattle.header_values.specs.Promises.{U32sPromise, NamesPromise, RootsInPromise};
+ghost use Rattle.header_values.specs.Values.{spans, spanIn, Known, numberIn, asciiIn, varinfoIn, ddIn, namesIn};
 use codes::VarInfo;
 use codes::limits;
 use header_keys::Key;
@@ -118,8 +117,7 @@ pub fn dd_in(f: &[u8], starts: &[u32], ends: &[u32]) -> Place
 pub fn read_u32s(f: &[u8], starts: &[u32], ends: &[u32], key: Key, dst: &mut [u32]) -> usize
     requires { ⌜ Table (now f) (now starts) (now ends) × Known key ⌝ }
     requires { ⌜ now dst ≡ replicate (length (now dst)) 0 ⌝ }
-    ensures { λ r. ⌜ r ≡ length (u32sIn (now (f .entry)) (spans (now (starts .entry)) (now (ends .entry))) key) ⌝ }
-    ensures { λ _. ⌜ now (dst .exit) ≡ pad (length (now (dst .entry))) (u32sIn (now (f .entry)) (spans (now (starts .entry)) (now (ends .entry))) key) ⌝ }
+    ensures { λ r. ⌜ U32sPromise f starts ends key dst r ⌝ }
 {
     let span = span_in(f, starts, ends, key);
     let start = span.start;
@@ -135,8 +133,7 @@ pub fn read_u32s(f: &[u8], starts: &[u32], ends: &[u32], key: Key, dst: &mut [u3
 // Reads a list of numbers into a list that may hold anything, and answers how many there are. The rest of the lent list is zeros.
 pub fn u32s_in(f: &[u8], starts: &[u32], ends: &[u32], key: Key, dst: &mut [u32]) -> usize
     requires { ⌜ Table (now f) (now starts) (now ends) × Known key ⌝ }
-    ensures { λ r. ⌜ r ≡ length (u32sIn (now (f .entry)) (spans (now (starts .entry)) (now (ends .entry))) key) ⌝ }
-    ensures { λ _. ⌜ now (dst .exit) ≡ pad (length (now (dst .entry))) (u32sIn (now (f .entry)) (spans (now (starts .entry)) (now (ends .entry))) key) ⌝ }
+    ensures { λ r. ⌜ U32sPromise f starts ends key dst r ⌝ }
 {
     zeros::clear_numbers(dst);
     read_u32s(f, starts, ends, key, dst)
@@ -156,9 +153,7 @@ pub fn read_names(
     requires { ⌜ Table (now f) (now starts) (now ends) × Known key ⌝ }
     requires { ⌜ now names ≡ replicate (length (now names)) 0 ⌝ }
     requires { ⌜ now lens ≡ replicate (length (now lens)) 0 ⌝ }
-    ensures { λ r. ⌜ r ≡ length (namesIn max (now (f .entry)) (spans (now (starts .entry)) (now (ends .entry))) key) ⌝ }
-    ensures { λ _. ⌜ now (names .exit) ≡ pad (length (now (names .entry))) (map startOf (namesIn max (now (f .entry)) (spans (now (starts .entry)) (now (ends .entry))) key)) ⌝ }
-    ensures { λ _. ⌜ now (lens .exit) ≡ pad (length (now (lens .entry))) (map lenOf (namesIn max (now (f .entry)) (spans (now (starts .entry)) (now (ends .entry))) key)) ⌝ }
+    ensures { λ r. ⌜ NamesPromise f starts ends key max names lens r ⌝ }
 {
     let span = span_in(f, starts, ends, key);
     let start = span.start;
@@ -189,9 +184,7 @@ pub fn names_in(
     lens: &mut [u32],
 ) -> usize
     requires { ⌜ Table (now f) (now starts) (now ends) × Known key ⌝ }
-    ensures { λ r. ⌜ r ≡ length (namesIn max (now (f .entry)) (spans (now (starts .entry)) (now (ends .entry))) key) ⌝ }
-    ensures { λ _. ⌜ now (names .exit) ≡ pad (length (now (names .entry))) (map startOf (namesIn max (now (f .entry)) (spans (now (starts .entry)) (now (ends .entry))) key)) ⌝ }
-    ensures { λ _. ⌜ now (lens .exit) ≡ pad (length (now (lens .entry))) (map lenOf (namesIn max (now (f .entry)) (spans (now (starts .entry)) (now (ends .entry))) key)) ⌝ }
+    ensures { λ r. ⌜ NamesPromise f starts ends key max names lens r ⌝ }
 {
     zeros::clear_numbers(names);
     zeros::clear_numbers(lens);
@@ -201,8 +194,7 @@ pub fn names_in(
 // Reads the roots over the front of a list, and answers how many there are.
 pub fn roots_in(f: &[u8], starts: &[u32], ends: &[u32], dst: &mut [i64]) -> usize
     requires { ⌜ Table (now f) (now starts) (now ends) × (rootLimit ≤ length (now dst)) ⌝ }
-    ensures { λ r. ⌜ r ≡ length (rootsIn (now (f .entry)) (spans (now (starts .entry)) (now (ends .entry)))) ⌝ }
-    ensures { λ r. ⌜ take r (now (dst .exit)) ≡ rootsIn (now (f .entry)) (spans (now (starts .entry)) (now (ends .entry))) ⌝ }
+    ensures { λ r. ⌜ RootsInPromise f starts ends dst r ⌝ }
 {
     let span = span_in(f, starts, ends, Key::Rootids);
     let start = span.start;

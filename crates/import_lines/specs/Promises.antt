@@ -7,7 +7,8 @@ use lib.IntN.{ℤ, pos}
 use denote.Ref.{RefT, now}
 use Rattle.store.specs.Store.{Store}
 use Rattle.store.specs.Rules.{Rules, limits}
-use Rattle.store.specs.Lent.{Part, old, new, storeNow, oldStore, newStore}
+use Rattle.codes.specs.Lent.{Part, old, new}
+use Rattle.store.specs.Lent.{storeNow, oldStore, newStore}
 use Rattle.nodes.specs.Known.{Known}
 use Rattle.import_steps.specs.declared.Imported.{Imported}
 use Rattle.import_steps.specs.declared.Setup.{Setup}

@@ -1,13 +1,14 @@
--- What reading the nodes of a load promises.
+-- What the last stages of a load promise.
 use Prim.Native.Nat.{ℕ}
 use mathlib.Core.Path.{_≡_}
 use mathlib.Core.List.{List}
 use lib.ListN.{length, replicate}
 use lib.IntN.{ℤ, pos}
-use Rattle.store.specs.Lent.{Part, old, new, oldStore, newStore}
+use Rattle.codes.specs.Lent.{Part, old, new}
+use Rattle.store.specs.Lent.{oldStore, newStore}
 use Rattle.header.specs.declared.Loaded.{Loaded}
 use Rattle.header.specs.Kinds.{ofLoaded}
-use Rattle.stages.specs.Stages.{Noded, nodesAfter}
+use Rattle.stages.specs.Stages.{Noded, nodesAfter, isRefusal, clearedIf}
 
 module _ (ready : Loaded) (f : Part (List ℕ)) (levels : ℕ) (list : Part (List ℕ)) (count : Part ℕ) (level : Part (List ℕ)) (then els : Part (List ℤ))
     (next heads : Part (List ℕ)) (roots edges : Part (List ℤ)) (seats : Part (List ℕ)) where
@@ -22,3 +23,18 @@ module _ (ready : Loaded) (f : Part (List ℕ)) (levels : ℕ) (list : Part (Lis
     pub roots-left : new roots ≡ noded .roots
     pub edges-left : new edges ≡ replicate (length (old edges)) (pos 0)
     pub seats-left : new seats ≡ replicate (length (old seats)) 0
+
+module _ (answer : Loaded) where
+  -- 'On any refusal outputs are all zeros'; else a list is as it was
+  abbrev Ended : Part (List ℕ) → Type 0
+  Ended l = new l ≡ clearedIf (isRefusal (ofLoaded answer)) (old l)
+
+  pub record FinishPromise (ids order permids auxids names lens rootnames rootlens : Part (List ℕ)) : Type 0 where
+    pub ids-left : Ended ids
+    pub order-left : Ended order
+    pub permids-left : Ended permids
+    pub auxids-left : Ended auxids
+    pub names-left : Ended names
+    pub lens-left : Ended lens
+    pub rootnames-left : Ended rootnames
+    pub rootlens-left : Ended rootlens

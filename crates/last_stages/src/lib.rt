@@ -9,7 +9,7 @@ ghost use Rattle.header_values.specs.Kinds.{ofVarInfo};
 ghost use Rattle.header.specs.Kinds.{ofHeader, ofLoaded};
 ghost use Rattle.import_steps.specs.Kinds.{ofImported};
 ghost use Rattle.stages.specs.Stages.{Readable, withNodes, isRefusal, clearedIf};
-ghost use Rattle.last_stages.specs.Promises.{LoadNodesPromise};
+ghost use Rattle.last_stages.specs.Promises.{LoadNodesPromise, FinishPromise};
 use codes::VarInfo;
 use edges::Edge;
 use edges::Index;
@@ -126,14 +126,7 @@ pub fn finish(
     rootnames: &mut [u32],
     rootlens: &mut [u32],
 )
-    ensures { λ _. ⌜ now (ids .exit) ≡ clearedIf (isRefusal (ofLoaded answer)) (now (ids .entry)) ⌝ }
-    ensures { λ _. ⌜ now (order .exit) ≡ clearedIf (isRefusal (ofLoaded answer)) (now (order .entry)) ⌝ }
-    ensures { λ _. ⌜ now (permids .exit) ≡ clearedIf (isRefusal (ofLoaded answer)) (now (permids .entry)) ⌝ }
-    ensures { λ _. ⌜ now (auxids .exit) ≡ clearedIf (isRefusal (ofLoaded answer)) (now (auxids .entry)) ⌝ }
-    ensures { λ _. ⌜ now (names .exit) ≡ clearedIf (isRefusal (ofLoaded answer)) (now (names .entry)) ⌝ }
-    ensures { λ _. ⌜ now (lens .exit) ≡ clearedIf (isRefusal (ofLoaded answer)) (now (lens .entry)) ⌝ }
-    ensures { λ _. ⌜ now (rootnames .exit) ≡ clearedIf (isRefusal (ofLoaded answer)) (now (rootnames .entry)) ⌝ }
-    ensures { λ _. ⌜ now (rootlens .exit) ≡ clearedIf (isRefusal (ofLoaded answer)) (now (rootlens .entry)) ⌝ }
+    ensures { λ _. ⌜ FinishPromise answer ids order permids auxids names lens rootnames rootlens ⌝ }
 {
     let refused = is_refusal(answer);
     clear_if(refused, ids);

@@ -2,6 +2,7 @@
 ghost use mathlib.Core.List.{[]};
 ghost use Prim.Native.Nat.{_≤_, _<_};
 ghost use lib.ListN.{length};
+ghost use Rattle.store.specs.Lent.{oldStore};
 ghost use Rattle.store.specs.Store.{store, slots};
 ghost use Rattle.store.specs.Rules.{limits, Sizes, Fits};
 ghost use Rattle.store.specs.Keeps.{Decides};
@@ -23,7 +24,7 @@ pub fn sizes_kept(
     next: &[Index],
     heads: &[Index],
 ) -> bool
-    ensures { λ r. ⌜ Decides r (Sizes limits (store levels count (now (level .entry)) (now (then .entry)) (now (els .entry)) (now (next .entry)) (now (heads .entry)))) ⌝ }
+    ensures { λ r. ⌜ Decides r (Sizes limits (oldStore levels count level then els next heads)) ⌝ }
 {
     if then.len() != level.len() {
         return false;

@@ -6,7 +6,8 @@ use lib.IntN.{ℤ}
 use denote.Ref.{RefT, now}
 use Rattle.store.specs.Store.{Store}
 use Rattle.store.specs.Rules.{Rules, limits}
-use Rattle.store.specs.Lent.{Part, old, new, storeNow, oldStore, newStore}
+use Rattle.codes.specs.Lent.{Part, old, new}
+use Rattle.store.specs.Lent.{storeNow, oldStore, newStore}
 use Rattle.store.specs.Make as nodes
 use Rattle.nodes.specs.declared.Making.{Making}
 use Rattle.nodes.specs.Kinds.{ofMaking}

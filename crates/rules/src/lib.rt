@@ -3,6 +3,7 @@ ghost use mathlib.Core.Path.{_≡_};
 ghost use mathlib.Core.List.{[]};
 ghost use Prim.Native.Nat.{ℕ, _≤_, _<_};
 ghost use lib.ListN.{length, getD};
+ghost use Rattle.store.specs.Lent.{oldStore};
 ghost use Rattle.store.specs.Store.{store, slots};
 ghost use Rattle.store.specs.Rules.{limits, Chains, Zero, Zeros};
 ghost use Rattle.store.specs.Keeps.{Decides, keeps};
@@ -41,7 +42,7 @@ pub fn chains_hold(
     requires { ⌜ (1 ≤ count) × (count < 32768) ⌝ }
     requires { ⌜ (count ≤ length (now level)) × ((count ≤ length (now then)) × ((count ≤ length (now els)) × (count ≤ length (now next)))) ⌝ }
     requires { ⌜ length (now heads) ≡ 256 ⌝ }
-    ensures { λ r. ⌜ Decides r (Chains (store 0 count (now (level .entry)) (now (then .entry)) (now (els .entry)) (now (next .entry)) (now (heads .entry)))) ⌝ }
+    ensures { λ r. ⌜ Decides r (Chains (oldStore 0 count level then els next heads)) ⌝ }
 {
     let mut newest: [Index; BUCKETS] = [0; BUCKETS];
     let mut n: Index = 2;
@@ -129,7 +130,7 @@ pub fn keeps_rules(
     next: &[Index],
     heads: &[Index],
 ) -> bool
-    ensures { λ r. ⌜ r ≡ keeps limits (store levels count (now (level .entry)) (now (then .entry)) (now (els .entry)) (now (next .entry)) (now (heads .entry))) ⌝ }
+    ensures { λ r. ⌜ r ≡ keeps limits (oldStore levels count level then els next heads) ⌝ }
 {
     if !node_rules::sizes_kept(levels, count, level, then, els, next, heads) {
         return false;

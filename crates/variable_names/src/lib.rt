@@ -7,7 +7,8 @@ ghost use Rattle.codes.specs.Limits.{varLimit};
 ghost use Rattle.codes.specs.Lent.{laid};
 ghost use Rattle.read_text.specs.Text.{place};
 ghost use Rattle.seats.specs.Seats.{Below};
-ghost use Rattle.variable_names.specs.Names.{places, sameBytes, sameName, sameNames, chosen, orderedSeats, suppSeats, freeFrom, entryAt};
+ghost use Rattle.variable_names.specs.Names.{sameBytes, sameName, orderedSeats, suppSeats, freeFrom, entryAt};
+ghost use Rattle.variable_names.specs.Promises.{SameNamesPromise};
 use codes::limits;
 use seats::entry;
 
@@ -58,7 +59,7 @@ pub fn same_names(
     requires { ⌜ length (now index2) ≡ length (now index) ⌝ }
     requires { ⌜ length (now lens) ≡ length (now starts) ⌝ }
     requires { ⌜ length (now lens2) ≡ length (now starts2) ⌝ }
-    ensures { λ r. ⌜ r ≡ sameNames (now (f .entry)) (chosen (now (index .entry)) (places (now (starts .entry)) (now (lens .entry)))) (chosen (now (index2 .entry)) (places (now (starts2 .entry)) (now (lens2 .entry)))) ⌝ }
+    ensures { λ r. ⌜ SameNamesPromise f index starts lens index2 starts2 lens2 r ⌝ }
 {
     let mut i = 0;
     while i < index.len() {

@@ -107,7 +107,7 @@ load-nodes-requires c κs =
     ready-readable (start-nodes c .args .f .now) (start-nodes c .args .list .now) (given (start-nodes c)) (kept (start-nodes c))
     (measured-nodes c .length-fault .result) (found-nodes c)
     (ofLoaded (headed-nodes c .load .result)) (ofLoaded (roomed-nodes c .check-scratch .result)) (ofLoaded (readied-nodes c .check-list .result))
-    (headed-nodes c .load .ensures .0) (roomed-nodes c .check-scratch .ensures) (readied-nodes c .check-list .ensures)
+    (headed-nodes c .load .ensures .answer) (roomed-nodes c .check-scratch .ensures) (readied-nodes c .check-list .ensures)
 
 finish-requires : tie.Need-finish-requires
 finish-requires c κs = tt
@@ -166,8 +166,8 @@ answered c =
     answer-left (start c .args .f .now) (start c .args .list .now) (given (start c)) (kept (start c))
     (measured c .length-fault .result) (found c)
     (ofLoaded (headed c .load .result)) (ofLoaded (roomed c .check-scratch .result)) (ofLoaded (readied c .check-list .result))
-    (headed c .load .ensures .0) (roomed c .check-scratch .ensures) (readied c .check-list .ensures)
-    (headed c .load .last .1 .1 .1 .1 .1 .1 .1 .1 .0) (headed c .load .ensures .1 .1 .1 .1 .1 .1 .1 .1 .0) (ofLoaded (noded c .load-nodes .result)) (noded c .load-nodes .ensures .answer)
+    (headed c .load .ensures .answer) (roomed c .check-scratch .ensures) (readied c .check-list .ensures)
+    (headed c .load .last .1 .1 .1 .1 .1 .1 .1 .1 .0) (headed c .load .ensures .roots-left) (ofLoaded (noded c .load-nodes .result)) (noded c .load-nodes .ensures .answer)
 
 -- the store after it
 stored : (c : tie.After-slice-known32) → (store (start c .args .levels) (noded c .load-nodes .last .1 .1 .1 .1 .0) (noded c .load-nodes .last .1 .1 .1 .1 .1 .0) (noded c .load-nodes .last .1 .1 .1 .1 .1 .1 .0) (noded c .load-nodes .last .1 .1 .1 .1 .1 .1 .1 .0) (noded c .load-nodes .last .1 .1 .1 .1 .1 .1 .1 .1 .0) (noded c .load-nodes .last .1 .1 .1 .1 .1 .1 .1 .1 .1 .0)) ≡ loadOf (loadInto (start c .args .f .now) (start c .args .list .now) (given (start c))) (kept (start c)) .after
@@ -175,8 +175,8 @@ stored c =
     store-left (start c .args .f .now) (start c .args .list .now) (given (start c)) (kept (start c))
     (measured c .length-fault .result) (found c)
     (ofLoaded (headed c .load .result)) (ofLoaded (roomed c .check-scratch .result)) (ofLoaded (readied c .check-list .result))
-    (headed c .load .ensures .0) (roomed c .check-scratch .ensures) (readied c .check-list .ensures)
-    (headed c .load .last .1 .1 .1 .1 .1 .1 .1 .1 .0) (headed c .load .ensures .1 .1 .1 .1 .1 .1 .1 .1 .0) (store (start c .args .levels) (noded c .load-nodes .last .1 .1 .1 .1 .0) (noded c .load-nodes .last .1 .1 .1 .1 .1 .0) (noded c .load-nodes .last .1 .1 .1 .1 .1 .1 .0) (noded c .load-nodes .last .1 .1 .1 .1 .1 .1 .1 .0) (noded c .load-nodes .last .1 .1 .1 .1 .1 .1 .1 .1 .0) (noded c .load-nodes .last .1 .1 .1 .1 .1 .1 .1 .1 .1 .0)) (noded c .load-nodes .ensures .store)
+    (headed c .load .ensures .answer) (roomed c .check-scratch .ensures) (readied c .check-list .ensures)
+    (headed c .load .last .1 .1 .1 .1 .1 .1 .1 .1 .0) (headed c .load .ensures .roots-left) (store (start c .args .levels) (noded c .load-nodes .last .1 .1 .1 .1 .0) (noded c .load-nodes .last .1 .1 .1 .1 .1 .0) (noded c .load-nodes .last .1 .1 .1 .1 .1 .1 .0) (noded c .load-nodes .last .1 .1 .1 .1 .1 .1 .1 .0) (noded c .load-nodes .last .1 .1 .1 .1 .1 .1 .1 .1 .0) (noded c .load-nodes .last .1 .1 .1 .1 .1 .1 .1 .1 .1 .0)) (noded c .load-nodes .ensures .store)
 
 -- the roots
 rooted : (c : tie.After-slice-known32) → (noded c .load-nodes .last .1 .1 .1 .1 .1 .1 .1 .1 .1 .1 .0) ≡ loadOf (loadInto (start c .args .f .now) (start c .args .list .now) (given (start c))) (kept (start c)) .roots
@@ -184,8 +184,8 @@ rooted c =
     roots-left (start c .args .f .now) (start c .args .list .now) (given (start c)) (kept (start c))
     (measured c .length-fault .result) (found c)
     (ofLoaded (headed c .load .result)) (ofLoaded (roomed c .check-scratch .result)) (ofLoaded (readied c .check-list .result))
-    (headed c .load .ensures .0) (roomed c .check-scratch .ensures) (readied c .check-list .ensures)
-    (headed c .load .last .1 .1 .1 .1 .1 .1 .1 .1 .0) (headed c .load .ensures .1 .1 .1 .1 .1 .1 .1 .1 .0) (noded c .load-nodes .last .1 .1 .1 .1 .1 .1 .1 .1 .1 .1 .0) (noded c .load-nodes .ensures .roots-left)
+    (headed c .load .ensures .answer) (roomed c .check-scratch .ensures) (readied c .check-list .ensures)
+    (headed c .load .last .1 .1 .1 .1 .1 .1 .1 .1 .0) (headed c .load .ensures .roots-left) (noded c .load-nodes .last .1 .1 .1 .1 .1 .1 .1 .1 .1 .1 .0) (noded c .load-nodes .ensures .roots-left)
 
 returns : tie.Need-returns
 returns c = record {
@@ -195,29 +195,29 @@ returns c = record {
       parts-alike
       (list-left (start c .args .f .now) (start c .args .list .now) (given (start c)) (kept (start c))
       (measured c .length-fault .result) (found c) (ofLoaded (noded c .load-nodes .result)) (answered c)
-      (length (start c .args .ids .now)) (λ x. x .ids) refl (headed c .load .last .1 .1 .0) (headed c .load .ensures .1 .1 .0) (finished c .finish .last .1 .0) (finished c .finish .ensures .0))
+      (length (start c .args .ids .now)) (λ x. x .ids) refl (headed c .load .last .1 .1 .0) (headed c .load .ensures .ids-left) (finished c .finish .last .1 .0) (finished c .finish .ensures .ids-left))
       (list-left (start c .args .f .now) (start c .args .list .now) (given (start c)) (kept (start c))
       (measured c .length-fault .result) (found c) (ofLoaded (noded c .load-nodes .result)) (answered c)
-      (length (start c .args .order .now)) (λ x. x .order) refl (headed c .load .last .1 .1 .1 .0) (headed c .load .ensures .1 .1 .1 .0) (finished c .finish .last .1 .1 .0) (finished c .finish .ensures .1 .0))
+      (length (start c .args .order .now)) (λ x. x .order) refl (headed c .load .last .1 .1 .1 .0) (headed c .load .ensures .order-left) (finished c .finish .last .1 .1 .0) (finished c .finish .ensures .order-left))
       (list-left (start c .args .f .now) (start c .args .list .now) (given (start c)) (kept (start c))
       (measured c .length-fault .result) (found c) (ofLoaded (noded c .load-nodes .result)) (answered c)
-      (length (start c .args .permids .now)) (λ x. x .permids) refl (headed c .load .last .1 .1 .1 .1 .0) (headed c .load .ensures .1 .1 .1 .1 .0) (finished c .finish .last .1 .1 .1 .0) (finished c .finish .ensures .1 .1 .0))
+      (length (start c .args .permids .now)) (λ x. x .permids) refl (headed c .load .last .1 .1 .1 .1 .0) (headed c .load .ensures .permids-left) (finished c .finish .last .1 .1 .1 .0) (finished c .finish .ensures .permids-left))
       (list-left (start c .args .f .now) (start c .args .list .now) (given (start c)) (kept (start c))
       (measured c .length-fault .result) (found c) (ofLoaded (noded c .load-nodes .result)) (answered c)
-      (length (start c .args .auxids .now)) (λ x. x .auxids) refl (headed c .load .last .1 .1 .1 .1 .1 .0) (headed c .load .ensures .1 .1 .1 .1 .1 .0) (finished c .finish .last .1 .1 .1 .1 .0) (finished c .finish .ensures .1 .1 .1 .0))
+      (length (start c .args .auxids .now)) (λ x. x .auxids) refl (headed c .load .last .1 .1 .1 .1 .1 .0) (headed c .load .ensures .auxids-left) (finished c .finish .last .1 .1 .1 .1 .0) (finished c .finish .ensures .auxids-left))
       (list-left (start c .args .f .now) (start c .args .list .now) (given (start c)) (kept (start c))
       (measured c .length-fault .result) (found c) (ofLoaded (noded c .load-nodes .result)) (answered c)
-      (length (start c .args .names .now)) (λ x. map startOf (x .names)) refl (headed c .load .last .1 .1 .1 .1 .1 .1 .0) (headed c .load .ensures .1 .1 .1 .1 .1 .1 .0) (finished c .finish .last .1 .1 .1 .1 .1 .0) (finished c .finish .ensures .1 .1 .1 .1 .0))
+      (length (start c .args .names .now)) (λ x. map startOf (x .names)) refl (headed c .load .last .1 .1 .1 .1 .1 .1 .0) (headed c .load .ensures .names-left) (finished c .finish .last .1 .1 .1 .1 .1 .0) (finished c .finish .ensures .names-left))
       (list-left (start c .args .f .now) (start c .args .list .now) (given (start c)) (kept (start c))
       (measured c .length-fault .result) (found c) (ofLoaded (noded c .load-nodes .result)) (answered c)
-      (length (start c .args .lens .now)) (λ x. map lenOf (x .names)) refl (headed c .load .last .1 .1 .1 .1 .1 .1 .1 .0) (headed c .load .ensures .1 .1 .1 .1 .1 .1 .1 .0) (finished c .finish .last .1 .1 .1 .1 .1 .1 .0) (finished c .finish .ensures .1 .1 .1 .1 .1 .0))
+      (length (start c .args .lens .now)) (λ x. map lenOf (x .names)) refl (headed c .load .last .1 .1 .1 .1 .1 .1 .1 .0) (headed c .load .ensures .lens-left) (finished c .finish .last .1 .1 .1 .1 .1 .1 .0) (finished c .finish .ensures .lens-left))
       (rooted c)
       (list-left (start c .args .f .now) (start c .args .list .now) (given (start c)) (kept (start c))
       (measured c .length-fault .result) (found c) (ofLoaded (noded c .load-nodes .result)) (answered c)
-      (length (start c .args .rootnames .now)) (λ x. map startOf (x .rootnames)) refl (headed c .load .last .1 .1 .1 .1 .1 .1 .1 .1 .1 .0) (headed c .load .ensures .1 .1 .1 .1 .1 .1 .1 .1 .1 .0) (finished c .finish .last .1 .1 .1 .1 .1 .1 .1 .0) (finished c .finish .ensures .1 .1 .1 .1 .1 .1 .0))
+      (length (start c .args .rootnames .now)) (λ x. map startOf (x .rootnames)) refl (headed c .load .last .1 .1 .1 .1 .1 .1 .1 .1 .1 .0) (headed c .load .ensures .rootnames-left) (finished c .finish .last .1 .1 .1 .1 .1 .1 .1 .0) (finished c .finish .ensures .rootnames-left))
       (list-left (start c .args .f .now) (start c .args .list .now) (given (start c)) (kept (start c))
       (measured c .length-fault .result) (found c) (ofLoaded (noded c .load-nodes .result)) (answered c)
-      (length (start c .args .rootlens .now)) (λ x. map lenOf (x .rootnames)) refl (headed c .load .last .1 .1 .1 .1 .1 .1 .1 .1 .1 .1 .0) (headed c .load .ensures .1 .1 .1 .1 .1 .1 .1 .1 .1 .1) (finished c .finish .last .1 .1 .1 .1 .1 .1 .1 .1 .0) (finished c .finish .ensures .1 .1 .1 .1 .1 .1 .1))
+      (length (start c .args .rootlens .now)) (λ x. map lenOf (x .rootnames)) refl (headed c .load .last .1 .1 .1 .1 .1 .1 .1 .1 .1 .1 .0) (headed c .load .ensures .rootlens-left) (finished c .finish .last .1 .1 .1 .1 .1 .1 .1 .1 .0) (finished c .finish .ensures .rootlens-left))
       (noded c .load-nodes .ensures .edges-left)
       (noded c .load-nodes .ensures .seats-left);
 }

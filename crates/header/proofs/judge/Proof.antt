@@ -1,12 +1,12 @@
 -- `judge` meets its contract.
 use mathlib.Core.Path.{_∙_}
 use borrow.Author.Needs.{needs}
-use Rattle.header.proofs.Answers.{refused-before, refused-line, refused-whole, stands}
+use Rattle.header.proofs.Answers.{judges, refused-before, refused-line, refused-whole, stands}
 use Rattle.header.proofs.judge.Statement.{statement}
 use Rattle.header.proofs.judge.Tie as tie
 
 returns : tie.Need-returns
-returns c = refused-before _ _ (c .before .before .before .before .pre .1 .0) (c .before .before .before .before .pre .1 .1) (c .if1 .taken)
+returns c = judges (refused-before _ _ (c .before .before .before .before .pre .1 .0) (c .before .before .before .before .pre .1 .1) (c .if1 .taken))
 
 sweep-requires : tie.Need-sweep-requires
 sweep-requires c κs = (c .before .before .before .before .before .before .pre .0 (c .before .before .if1 .left), c .before .before .before .before .before .before .pre .1)
@@ -40,14 +40,15 @@ same-length-2 c = c .before .before .clear-numbers4 .kept .0 ∙ c .before .befo
 
 returns-2 : tie.Need-returns-2
 returns-2 c =
-    refused-whole _ _
+    judges
+    (refused-whole _ _
     (c .before .before .before .before .before .before .before .before .before .before .before .before .before .before .before .before .before .before .before .before .before .before .if1 .left)
     (c .before .before .before .before .before .before .before .before .before .before .before .before .before .before .before .before .before .before .before .sweep .ensures)
     (c .before .before .before .before .before .before .before .before .before .before .before .before .before .next .given .1)
     (c .before .before .before .before .before .before .before .before .before .whole-fault .ensures)
     (c .before .before .before .before .before .before .before .before .if2 .taken)
     (c .before .before .before .before .before .before .clear-numbers3 .ensures)
-    (c .before .before .clear-numbers4 .ensures)
+    (c .before .before .clear-numbers4 .ensures))
 
 header-in-requires : tie.Need-header-in-requires
 header-in-requires c κs = c .before .before .before .before .before .before .before .before .before .before .before .before .before .sweep .ensures .1 .1 .1 .1
@@ -60,12 +61,13 @@ same-length-4 c = c .before .before .clear-numbers2 .kept .0 ∙ c .before .befo
 
 returns-3 : tie.Need-returns-3
 returns-3 c =
-    refused-line _ _
+    judges
+    (refused-line _ _
     (c .before .before .before .before .before .before .before .before .before .before .before .before .before .before .before .before .before .before .if1 .left)
     (c .before .before .before .before .before .before .before .before .before .before .before .before .before .before .before .sweep .ensures)
     (c .before .before .before .before .before .before .before .before .before .n .given .1)
     (c .before .before .before .before .before .before .clear-numbers .ensures)
-    (c .before .before .clear-numbers2 .ensures)
+    (c .before .before .clear-numbers2 .ensures))
 
 same-length-5 : tie.Need-same-length-5
 same-length-5 c = c .before .before .before .before .before .before .before .before .before .before .before .before .before .before .sweep .kept .1 .0
@@ -75,13 +77,14 @@ same-length-6 c = c .before .before .before .before .before .before .before .bef
 
 returns-4 : tie.Need-returns-4
 returns-4 c =
-    stands _ _
+    judges
+    (stands _ _
     (c .before .before .before .before .before .before .before .before .before .before .before .before .before .before .before .before .before .if1 .left)
     (c .before .before .before .before .before .before .before .before .before .before .before .before .before .before .sweep .ensures)
     (c .before .before .before .before .before .before .before .before .next .given .1)
     (c .before .before .before .before .whole-fault .ensures)
     (c .before .before .before .if2 .left)
-    (c .header-in .ensures)
+    (c .header-in .ensures))
 
 pub judge-spec : {M : Type 1} → statement M
 judge-spec =

@@ -2,6 +2,7 @@
 use native.Mathlib.Omega.{arith}
 use borrow.Author.Needs.{needs}
 use Rattle.header_keys.specs.declared.Key.the-variants.{Ids, Permids}
+use Rattle.header_values.proofs.Fronts.{numbers-read}
 use Rattle.header_checks.proofs.Supporting.{ids-wrong, permids-wrong, counted, read-fits, read-is, read-long}
 use Rattle.header_checks.proofs.Checked.{support-refused}
 use Rattle.header_checks.proofs.lists_fault.Statement.{statement}
@@ -21,7 +22,7 @@ same-length c = c .before .before .before .read-u32s .kept .1 .1 .1 .1 .0
 
 returns : tie.Need-returns
 returns c =
-    support-refused _ _ (c .before .before .before .before .before .before .before .before .before .before .before .pre .1 .0) (ids-wrong _ _ (c .before .before .before .before .before .u32-in .ensures) (c .before .before .before .read-u32s .ensures .0) (c .if1 .taken)) (λ z. omega arith)
+    support-refused _ _ (c .before .before .before .before .before .before .before .before .before .before .before .pre .1 .0) (ids-wrong _ _ (c .before .before .before .before .before .u32-in .ensures) (c .before .before .before .read-u32s .ensures .answer) (c .if1 .taken)) (λ z. omega arith)
 
 read-u32s-requires-2 : tie.Need-read-u32s-requires-2
 read-u32s-requires-2 c κs = ((c .before .before .before .before .before .before .before .before .before .before .before .before .pre .0, omega arith), c .before .before .before .before .before .before .before .before .before .before .before .before .pre .1 .1 .1 .zeros)
@@ -34,31 +35,31 @@ same-length-3 c = c .before .before .before .read-u32s2 .kept .1 .1 .1 .1 .0
 
 returns-2 : tie.Need-returns-2
 returns-2 c =
-    let wrong = permids-wrong _ _ (c .before .before .before .before .before .before .before .before .before .before .u32-in .ensures) (c .before .before .before .before .before .before .before .before .read-u32s .ensures .0) (c .before .before .before .before .before .if1 .left) (c .before .before .before .read-u32s2 .ensures .0) (c .if2 .taken) in
+    let wrong = permids-wrong _ _ (c .before .before .before .before .before .before .before .before .before .before .u32-in .ensures) (c .before .before .before .before .before .before .before .before .read-u32s .ensures .answer) (c .before .before .before .before .before .if1 .left) (c .before .before .before .read-u32s2 .ensures .answer) (c .if2 .taken) in
     support-refused _ _ (c .before .before .before .before .before .before .before .before .before .before .before .before .before .before .before .before .pre .1 .0) wrong (λ z. omega arith)
 
 slice-reshare-prefix-listed-fault : tie.Need-slice-reshare-prefix-listed-fault
 slice-reshare-prefix-listed-fault c =
-    read-fits _ _ Ids (c .before .before .before .before .before .before .before .before .before .before .before .before .before .before .before .before .pre .1 .1 .0) (c .before .before .before .before .before .before .before .before .before .before .u32-in .ensures) (c .before .before .before .before .before .before .before .before .read-u32s .ensures) (c .before .before .before .before .before .if1 .left)
+    read-fits _ _ Ids (c .before .before .before .before .before .before .before .before .before .before .before .before .before .before .before .before .pre .1 .1 .0) (c .before .before .before .before .before .before .before .before .before .before .u32-in .ensures) (numbers-read (c .before .before .before .before .before .before .before .before .read-u32s .ensures)) (c .before .before .before .before .before .if1 .left)
 
 slice-aggregate-listed-fault : tie.Need-slice-aggregate-listed-fault
 slice-aggregate-listed-fault c =
-    read-long _ _ Ids (c .before .before .before .before .before .before .before .before .before .before .before .before .before .before .before .before .before .pre .1 .1 .0) (c .before .before .before .before .before .before .before .before .before .before .before .u32-in .ensures) (c .before .before .before .before .before .before .before .before .before .read-u32s .ensures) (c .before .before .before .before .before .before .if1 .left)
+    read-long _ _ Ids (c .before .before .before .before .before .before .before .before .before .before .before .before .before .before .before .before .before .pre .1 .1 .0) (c .before .before .before .before .before .before .before .before .before .before .before .u32-in .ensures) (numbers-read (c .before .before .before .before .before .before .before .before .before .read-u32s .ensures)) (c .before .before .before .before .before .before .if1 .left)
 
 slice-reshare-prefix-listed-fault-2 : tie.Need-slice-reshare-prefix-listed-fault-2
 slice-reshare-prefix-listed-fault-2 c =
-    read-fits _ _ Permids (c .before .before .before .before .before .before .before .before .before .before .before .before .before .before .before .before .before .pre .1 .1 .1) (c .before .before .before .before .before .before .before .before .before .before .before .u32-in .ensures) (c .before .before .before .before .read-u32s2 .ensures) (c .before .if2 .left)
+    read-fits _ _ Permids (c .before .before .before .before .before .before .before .before .before .before .before .before .before .before .before .before .before .pre .1 .1 .1) (c .before .before .before .before .before .before .before .before .before .before .before .u32-in .ensures) (numbers-read (c .before .before .before .before .read-u32s2 .ensures)) (c .before .if2 .left)
 
 slice-aggregate-listed-fault-2 : tie.Need-slice-aggregate-listed-fault-2
 slice-aggregate-listed-fault-2 c =
-    read-long _ _ Permids (c .before .before .before .before .before .before .before .before .before .before .before .before .before .before .before .before .before .before .pre .1 .1 .1) (c .before .before .before .before .before .before .before .before .before .before .before .before .u32-in .ensures) (c .before .before .before .before .before .read-u32s2 .ensures) (c .before .before .if2 .left)
+    read-long _ _ Permids (c .before .before .before .before .before .before .before .before .before .before .before .before .before .before .before .before .before .before .pre .1 .1 .1) (c .before .before .before .before .before .before .before .before .before .before .before .before .u32-in .ensures) (numbers-read (c .before .before .before .before .before .read-u32s2 .ensures)) (c .before .before .if2 .left)
 
 listed-fault-requires : tie.Need-listed-fault-requires
 listed-fault-requires c κs =
     let p = c .before .before .before .before .before .before .before .before .before .before .before .before .before .before .before .before .before .before .pre in
     let w = c .before .before .before .before .before .before .before .before .before .before .before .before .u32-in .ensures in
-    let i = c .before .before .before .before .before .before .before .before .before .before .read-u32s .ensures in
-    let m = c .before .before .before .before .before .read-u32s2 .ensures in (
+    let i = numbers-read (c .before .before .before .before .before .before .before .before .before .before .read-u32s .ensures) in
+    let m = numbers-read (c .before .before .before .before .before .read-u32s2 .ensures) in (
       p .0,
       (
         p .1 .0,

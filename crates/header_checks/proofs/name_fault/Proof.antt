@@ -10,7 +10,7 @@ agree-requires c κs =
     ((p .0, omega arith, omega arith), (p .1 .1 .varnames-count, (p .1 .1 .ordered-count, permids-ids (p .1 .0))))
 
 returns : tie.Need-returns
-returns c = first-unlike (c .before .before .before .before .before .before .before .pre .1 .0) (c .before .agree .ensures) (c .if1 .taken)
+returns c = first-unlike (c .before .before .before .before .before .before .before .pre .1 .0) (c .before .agree .ensures .answer) (c .if1 .taken)
 
 supp-agrees-requires : tie.Need-supp-agrees-requires
 supp-agrees-requires c κs =
@@ -19,7 +19,7 @@ supp-agrees-requires c κs =
 
 returns-2 : tie.Need-returns-2
 returns-2 c =
-    second-unlike (c .before .before .before .before .before .before .before .before .before .pre .1 .0) (c .before .before .before .agree .ensures) (c .before .before .if1 .left) (c .before .supp-agrees .ensures) (c .if2 .taken)
+    second-unlike (c .before .before .before .before .before .before .before .before .before .pre .1 .0) (c .before .before .before .agree .ensures .answer) (c .before .before .if1 .left) (c .before .supp-agrees .ensures .answer) (c .if2 .taken)
 
 supp-agrees-requires-2 : tie.Need-supp-agrees-requires-2
 supp-agrees-requires-2 c κs =
@@ -28,14 +28,14 @@ supp-agrees-requires-2 c κs =
 
 returns-3 : tie.Need-returns-3
 returns-3 c =
-    third-unlike (c .before .before .before .before .before .before .before .before .before .before .before .pre .1 .0) (c .before .before .before .before .before .agree .ensures) (c .before .before .before .before .if1 .left) (c .before .before .before .supp-agrees .ensures) (c .before .before .if2 .left)
-    (c .before .supp-agrees2 .ensures)
+    third-unlike (c .before .before .before .before .before .before .before .before .before .before .before .pre .1 .0) (c .before .before .before .before .before .agree .ensures .answer) (c .before .before .before .before .if1 .left) (c .before .before .before .supp-agrees .ensures .answer) (c .before .before .if2 .left)
+    (c .before .supp-agrees2 .ensures .answer)
     (c .if3 .taken)
 
 returns-4 : tie.Need-returns-4
 returns-4 c =
-    names-pass (c .before .before .before .before .before .before .before .before .before .before .before .pre .1 .0) (c .before .before .before .before .before .agree .ensures) (c .before .before .before .before .if1 .left) (c .before .before .before .supp-agrees .ensures) (c .before .before .if2 .left)
-    (c .before .supp-agrees2 .ensures)
+    names-pass (c .before .before .before .before .before .before .before .before .before .before .before .pre .1 .0) (c .before .before .before .before .before .agree .ensures .answer) (c .before .before .before .before .if1 .left) (c .before .before .before .supp-agrees .ensures .answer) (c .before .before .if2 .left)
+    (c .before .supp-agrees2 .ensures .answer)
     (c .if3 .left)
 
 pub name-fault-spec : {M : Type 1} → statement M

@@ -14,18 +14,18 @@ roots-in-requires : tie.Need-roots-in-requires
 roots-in-requires c κs = search needs
 
 returns : tie.Need-returns
-returns c = roots-wrong _ _ (c .before .before .before .before .u64-in .ensures) (c .before .before .roots-in .ensures .0) (c .if1 .taken)
+returns c = roots-wrong _ _ (c .before .before .before .before .u64-in .ensures) (c .before .before .roots-in .ensures .answer) (c .if1 .taken)
 
 u64-in-requires-2 : tie.Need-u64-in-requires-2
 u64-in-requires-2 c κs = search needs
 
 array-share-prefix-roots : tie.Need-array-share-prefix-roots
 array-share-prefix-roots c =
-    roots-reach _ (c .before .before .before .roots-in .ensures .0) (c .before .before .before .roots-in .ensures .1)
+    roots-reach _ (c .before .before .before .roots-in .ensures .answer) (c .before .before .before .roots-in .ensures .front)
 
 slice-aggregate-roots-fault : tie.Need-slice-aggregate-roots-fault
 slice-aggregate-roots-fault c =
-    roots-count _ (c .before .before .before .before .roots-in .ensures .0) (c .before .before .before .before .roots-in .ensures .1)
+    roots-count _ (c .before .before .before .before .roots-in .ensures .answer) (c .before .before .before .before .roots-in .ensures .front)
 
 roots-fault-requires : tie.Need-roots-fault-requires
 roots-fault-requires c κs = search needs
@@ -33,9 +33,9 @@ roots-fault-requires c κs = search needs
 returns-2 : tie.Need-returns-2
 returns-2 c =
     let r = c .before .before .before .before .before .before in
-    root-unfit _ _ (r .before .before .u64-in .ensures) (r .roots-in .ensures .0) (c .before .before .before .before .if1 .left)
+    root-unfit _ _ (r .before .before .u64-in .ensures) (r .roots-in .ensures .answer) (c .before .before .before .before .if1 .left)
     (c .before .before .before .u64-in2 .ensures)
-    (r .roots-in .ensures .1) (c .before .roots-fault .ensures) (c .if2 .taken)
+    (r .roots-in .ensures .front) (c .before .roots-fault .ensures) (c .if2 .taken)
 
 count-names-requires : tie.Need-count-names-requires
 count-names-requires c κs = search needs
@@ -46,9 +46,9 @@ given-fault-requires c κs = search needs
 returns-3 : tie.Need-returns-3
 returns-3 c =
     let r = c .before .before .before .before .before .before .before .before in
-    roots-pass _ _ (r .before .before .u64-in .ensures) (r .roots-in .ensures .0)
+    roots-pass _ _ (r .before .before .u64-in .ensures) (r .roots-in .ensures .answer)
     (c .before .before .before .before .before .before .if1 .left) (c .before .before .before .before .before .u64-in2 .ensures)
-    (r .roots-in .ensures .1) (c .before .before .before .roots-fault .ensures) (c .before .before .if2 .left)
+    (r .roots-in .ensures .front) (c .before .before .before .roots-fault .ensures) (c .before .before .if2 .left)
     (c .before .count-names .ensures) (c .given-fault .ensures)
 
 pub root-fault-spec : {M : Type 1} → statement M

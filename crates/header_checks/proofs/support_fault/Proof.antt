@@ -27,7 +27,7 @@ given-fault-requires c κs = search needs
 returns : tie.Need-returns
 returns c =
     let n = c .before .before .before .before .before in
-    auxids-wrong _ _ (n .before .before .before .before .before .before .before .pre .1 .1) (n .u32-in2 .ensures) (c .before .before .before .read-u32s .ensures .0) (c .before .given-fault .ensures) (c .if1 .taken)
+    auxids-wrong _ _ (n .before .before .before .before .before .before .before .pre .1 .1) (n .u32-in2 .ensures) (c .before .before .before .read-u32s .ensures .answer) (c .before .given-fault .ensures) (c .if1 .taken)
 
 -- Where the counts are right: the function's entry, and that they are.
 abbrev start : tie.Else1 → tie.Start
@@ -36,7 +36,7 @@ start c = c .before .before .before .before .before .before .before .before .bef
 counts : (c : tie.Else1) → CountsPass (start c .args .f .now) (spans (start c .args .starts .now) (start c .args .ends .now))
 counts c =
     let n = c .before .before .before .before .before in
-    counts-pass _ _ (start c .pre .1 .1) (n .u32-in2 .ensures) (c .before .before .before .read-u32s .ensures .0) (c .before .given-fault .ensures) (c .if1 .left)
+    counts-pass _ _ (start c .pre .1 .1) (n .u32-in2 .ensures) (c .before .before .before .read-u32s .ensures .answer) (c .before .given-fault .ensures) (c .if1 .left)
 
 ids-fit-requires : tie.Need-ids-fit-requires
 ids-fit-requires c κs = search needs

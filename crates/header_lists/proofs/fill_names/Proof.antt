@@ -22,7 +22,7 @@ same-length-2 c = search needs
 returns : tie.Need-returns
 returns c =
     let v = c .before .before .before .before .before .names-in .ensures in
-    (filled-varnames _ _ startOf (length (c .before .before .before .before .before .before .before .before .before .before .before .before .before .args .names .now)) (v .0) (v .1 .0) (c .if1 .taken), filled-varnames _ _ lenOf (length (c .before .before .before .before .before .before .before .before .before .before .before .before .before .args .lens .now)) (v .0) (v .1 .1) (c .if1 .taken))
+    record { names-left = filled-varnames _ _ startOf (length (c .before .before .before .before .before .before .before .before .before .before .before .before .before .args .names .now)) (v .answer) (v .names-left) (c .if1 .taken); lens-left = filled-varnames _ _ lenOf (length (c .before .before .before .before .before .before .before .before .before .before .before .before .before .args .lens .now)) (v .answer) (v .lens-left) (c .if1 .taken) }
 
 u32-in-requires : tie.Need-u32-in-requires
 u32-in-requires c κs = (c .before .before .before .before .before .before .before .before .before .before .before .before .before .pre .0, omega arith)
@@ -43,7 +43,7 @@ array-share-prefix-seats : tie.Need-array-share-prefix-seats
 array-share-prefix-seats c = search needs
 
 slice-aggregate-gather-names : tie.Need-slice-aggregate-gather-names
-slice-aggregate-gather-names c = ordered-long _ _ (c .before .before .before .before .before .before .before .before .before .before .before .before .before .before .before .before .before .before .before .before .pre .1) (c .before .before .before .before .before .before .u32-in .ensures) (c .before .before .ordered-in .ensures)
+slice-aggregate-gather-names c = ordered-long _ _ (c .before .before .before .before .before .before .before .before .before .before .before .before .before .before .before .before .before .before .before .before .pre .1) (c .before .before .before .before .before .before .u32-in .ensures) (c .before .before .ordered-in .ensures .list)
 
 gather-names-requires : tie.Need-gather-names-requires
 gather-names-requires c κs = ((c .before .before .before .before .before .before .before .before .before .before .before .before .before .before .before .before .before .before .before .before .before .before .pre .0, omega arith), c .before .before .before .before .before .before .before .count-names .ensures)
@@ -61,11 +61,9 @@ returns-2 c =
     let v = c .before .before .before .before .before .before .before .before .before .before .before .before .before .before .before .before .before .before .before .names-in .ensures in
     let z = c .before .before .before .before .before .before .before .before .before .before .before .before .before .before .if1 .left in
     let o = c .before .before .before .before .before .before .before .before .before .before .before .before .count-names .ensures in
-    let q = ordered-front f t (c .before .before .before .before .before .before .before .before .before .before .before .before .before .before .before .before .before .before .before .before .before .before .before .before .before .before .before .pre .1) (c .before .before .before .before .before .before .before .before .before .before .before .before .before .u32-in .ensures) (c .before .before .before .before .before .before .before .before .before .ordered-in .ensures) in
-    let g = c .before .before .before .before .gather-names .ensures in (
-      filled-ordered f t startOf (length (c .before .before .before .before .before .before .before .before .before .before .before .before .before .before .before .before .before .before .before .before .before .before .before .before .before .before .before .args .names .now)) (v .0) (v .1 .0) z o (c .before .before .before .before .before .before .before .before .before .before .before .if2 .taken) q (g .0),
-      filled-ordered f t lenOf (length (c .before .before .before .before .before .before .before .before .before .before .before .before .before .before .before .before .before .before .before .before .before .before .before .before .before .before .before .args .lens .now)) (v .0) (v .1 .1) z o (c .before .before .before .before .before .before .before .before .before .before .before .if2 .taken) q (g .1),
-    )
+    let q = ordered-front f t (c .before .before .before .before .before .before .before .before .before .before .before .before .before .before .before .before .before .before .before .before .before .before .before .before .before .before .before .pre .1) (c .before .before .before .before .before .before .before .before .before .before .before .before .before .u32-in .ensures) (c .before .before .before .before .before .before .before .before .before .ordered-in .ensures .list) in
+    let g = c .before .before .before .before .gather-names .ensures in
+    record { names-left = filled-ordered f t startOf (length (c .before .before .before .before .before .before .before .before .before .before .before .before .before .before .before .before .before .before .before .before .before .before .before .before .before .before .before .args .names .now)) (v .answer) (v .names-left) z o (c .before .before .before .before .before .before .before .before .before .before .before .if2 .taken) q (g .names-left); lens-left = filled-ordered f t lenOf (length (c .before .before .before .before .before .before .before .before .before .before .before .before .before .before .before .before .before .before .before .before .before .before .before .before .before .before .before .args .lens .now)) (v .answer) (v .lens-left) z o (c .before .before .before .before .before .before .before .before .before .before .before .if2 .taken) q (g .lens-left) }
 
 count-names-requires-2 : tie.Need-count-names-requires-2
 count-names-requires-2 c κs = (c .before .before .before .before .before .before .before .before .before .before .before .before .before .before .before .before .pre .0, omega arith)
@@ -80,7 +78,7 @@ array-share-prefix-seats-2 : tie.Need-array-share-prefix-seats-2
 array-share-prefix-seats-2 c = search needs
 
 slice-aggregate-gather-names-2 : tie.Need-slice-aggregate-gather-names-2
-slice-aggregate-gather-names-2 c = supp-long _ _ (c .before .before .before .before .before .before .before .before .before .before .before .before .before .before .before .before .before .before .before .before .before .before .pre .1) (c .before .before .before .before .before .before .before .before .u32-in .ensures) (c .before .before .supp-in .ensures)
+slice-aggregate-gather-names-2 c = supp-long _ _ (c .before .before .before .before .before .before .before .before .before .before .before .before .before .before .before .before .before .before .before .before .before .before .pre .1) (c .before .before .before .before .before .before .before .before .u32-in .ensures) (c .before .before .supp-in .ensures .list)
 
 gather-names-requires-2 : tie.Need-gather-names-requires-2
 gather-names-requires-2 c κs = ((c .before .before .before .before .before .before .before .before .before .before .before .before .before .before .before .before .before .before .before .before .before .before .before .before .pre .0, omega arith), c .before .before .before .before .before .before .before .count-names2 .ensures)
@@ -100,11 +98,9 @@ returns-3 c =
     let o = c .before .before .before .before .before .before .before .before .before .before .before .before .before .before .count-names .ensures in
     let y = c .before .before .before .before .before .before .before .before .before .before .before .before .before .if2 .left in
     let s = c .before .before .before .before .before .before .before .before .before .before .before .before .count-names2 .ensures in
-    let q = supp-front f t (c .before .before .before .before .before .before .before .before .before .before .before .before .before .before .before .before .before .before .before .before .before .before .before .before .before .before .before .before .before .pre .1) (c .before .before .before .before .before .before .before .before .before .before .before .before .before .before .before .u32-in .ensures) (c .before .before .before .before .before .before .before .before .before .supp-in .ensures) in
-    let g = c .before .before .before .before .gather-names2 .ensures in (
-      filled-supp f t startOf (length (c .before .before .before .before .before .before .before .before .before .before .before .before .before .before .before .before .before .before .before .before .before .before .before .before .before .before .before .before .before .args .names .now)) (v .0) (v .1 .0) z o y s (c .before .before .before .before .before .before .before .before .before .before .before .if3 .taken) q (g .0),
-      filled-supp f t lenOf (length (c .before .before .before .before .before .before .before .before .before .before .before .before .before .before .before .before .before .before .before .before .before .before .before .before .before .before .before .before .before .args .lens .now)) (v .0) (v .1 .1) z o y s (c .before .before .before .before .before .before .before .before .before .before .before .if3 .taken) q (g .1),
-    )
+    let q = supp-front f t (c .before .before .before .before .before .before .before .before .before .before .before .before .before .before .before .before .before .before .before .before .before .before .before .before .before .before .before .before .before .pre .1) (c .before .before .before .before .before .before .before .before .before .before .before .before .before .before .before .u32-in .ensures) (c .before .before .before .before .before .before .before .before .before .supp-in .ensures .list) in
+    let g = c .before .before .before .before .gather-names2 .ensures in
+    record { names-left = filled-supp f t startOf (length (c .before .before .before .before .before .before .before .before .before .before .before .before .before .before .before .before .before .before .before .before .before .before .before .before .before .before .before .before .before .args .names .now)) (v .answer) (v .names-left) z o y s (c .before .before .before .before .before .before .before .before .before .before .before .if3 .taken) q (g .names-left); lens-left = filled-supp f t lenOf (length (c .before .before .before .before .before .before .before .before .before .before .before .before .before .before .before .before .before .before .before .before .before .before .before .before .before .before .before .before .before .args .lens .now)) (v .answer) (v .lens-left) z o y s (c .before .before .before .before .before .before .before .before .before .before .before .if3 .taken) q (g .lens-left) }
 
 same-length-7 : tie.Need-same-length-7
 same-length-7 c = search needs
@@ -119,7 +115,7 @@ returns-4 c =
     let o = c .before .before .before .count-names .ensures in
     let y = c .before .before .if2 .left in
     let s = c .before .count-names2 .ensures in
-    (filled-none _ _ startOf (length (c .before .before .before .before .before .before .before .before .before .before .before .before .before .before .before .before .before .before .args .names .now)) (v .0) (v .1 .0) z o y s (c .if3 .left), filled-none _ _ lenOf (length (c .before .before .before .before .before .before .before .before .before .before .before .before .before .before .before .before .before .before .args .lens .now)) (v .0) (v .1 .1) z o y s (c .if3 .left))
+    record { names-left = filled-none _ _ startOf (length (c .before .before .before .before .before .before .before .before .before .before .before .before .before .before .before .before .before .before .args .names .now)) (v .answer) (v .names-left) z o y s (c .if3 .left); lens-left = filled-none _ _ lenOf (length (c .before .before .before .before .before .before .before .before .before .before .before .before .before .before .before .before .before .before .args .lens .now)) (v .answer) (v .lens-left) z o y s (c .if3 .left) }
 
 pub fill-names-spec : {M : Type 1} → statement M
 fill-names-spec =

@@ -15,10 +15,10 @@ clear-edges-requires : tie.Need-clear-edges-requires
 clear-edges-requires c κs = search needs
 
 array-share-prefix-roots : tie.Need-array-share-prefix-roots
-array-share-prefix-roots c = roots-fit _ _ (c .before .before .before .before .roots-in .last .1 .1 .1 .0) (c .before .before .before .before .roots-in .ensures .0) (c .before .before .before .before .roots-in .kept .1 .1 .1 .0)
+array-share-prefix-roots c = roots-fit _ _ (c .before .before .before .before .roots-in .last .1 .1 .1 .0) (c .before .before .before .before .roots-in .ensures .answer) (c .before .before .before .before .roots-in .kept .1 .1 .1 .0)
 
 slice-aggregate-edges-of : tie.Need-slice-aggregate-edges-of
-slice-aggregate-edges-of c = roots-long _ _ _ (c .before .before .before .before .before .roots-in .ensures .0) (c .before .before .before .before .before .roots-in .ensures .1)
+slice-aggregate-edges-of c = roots-long _ _ _ (c .before .before .before .before .before .roots-in .ensures .answer) (c .before .before .before .before .before .roots-in .ensures .front)
 
 edges-of-requires : tie.Need-edges-of-requires
 edges-of-requires c κs = search needs
@@ -27,7 +27,8 @@ same-length : tie.Need-same-length
 same-length c = search needs
 
 returns : tie.Need-returns
-returns c = roots-laid _ _ _ (c .before .before .before .before .before .before .before .before .roots-in .ensures .0) (c .before .before .before .before .before .before .before .before .roots-in .ensures .1) (length (c .before .before .before .before .before .before .before .before .before .before .before .before .before .args .dst .now)) (c .before .before .before .before .before .clear-edges .ensures) (c .before .edges-of .ensures)
+returns c =
+    record { list = roots-laid _ _ _ (c .before .before .before .before .before .before .before .before .roots-in .ensures .answer) (c .before .before .before .before .before .before .before .before .roots-in .ensures .front) (length (c .before .before .before .before .before .before .before .before .before .before .before .before .before .args .dst .now)) (c .before .before .before .before .before .clear-edges .ensures) (c .before .edges-of .ensures) }
 
 pub fill-roots-spec : {M : Type 1} → statement M
 fill-roots-spec =

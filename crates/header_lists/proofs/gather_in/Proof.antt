@@ -1,6 +1,6 @@
 -- `gather_in` meets its contract: the starts and the lengths of the names are the fronts of the lists that they were read into.
 use borrow.Author.Needs.{needs}
-use Rattle.header_checks.proofs.Agreeing.{starts-fit, lens-fit, starts-long, lens-long}
+use Rattle.header_checks.proofs.Agreeing.{names-read, starts-fit, lens-fit, starts-long, lens-long}
 use Rattle.header_lists.proofs.Filling.{starts-laid, lens-laid}
 use Rattle.header_lists.proofs.gather_in.Statement.{statement}
 use Rattle.header_lists.proofs.gather_in.Tie as tie
@@ -11,19 +11,19 @@ read-names-requires c κs =
     (p .0, (p .1 .starts-room .zeros, p .1 .lens-room .zeros))
 
 slice-reshare-prefix-gather : tie.Need-slice-reshare-prefix-gather
-slice-reshare-prefix-gather c = starts-fit _ _ _ (c .before .before .before .before .before .before .before .before .before .before .before .before .before .before .before .pre .1) (c .before .before .before .before .read-names .ensures)
+slice-reshare-prefix-gather c = starts-fit _ _ _ (c .before .before .before .before .before .before .before .before .before .before .before .before .before .before .before .pre .1) (names-read (c .before .before .before .before .read-names .ensures))
 
 slice-aggregate-gather : tie.Need-slice-aggregate-gather
-slice-aggregate-gather c = starts-long _ _ _ (c .before .before .before .before .before .before .before .before .before .before .before .before .before .before .before .before .pre .1) (c .before .before .before .before .before .read-names .ensures)
+slice-aggregate-gather c = starts-long _ _ _ (c .before .before .before .before .before .before .before .before .before .before .before .before .before .before .before .before .pre .1) (names-read (c .before .before .before .before .before .read-names .ensures))
 
 gather-requires : tie.Need-gather-requires
 gather-requires c κs = search needs
 
 slice-reshare-prefix-gather-2 : tie.Need-slice-reshare-prefix-gather-2
-slice-reshare-prefix-gather-2 c = lens-fit _ _ _ (c .before .before .before .before .before .before .before .before .before .before .before .before .before .before .before .before .before .before .before .before .pre .1) (c .before .before .before .before .before .before .before .before .before .read-names .ensures)
+slice-reshare-prefix-gather-2 c = lens-fit _ _ _ (c .before .before .before .before .before .before .before .before .before .before .before .before .before .before .before .before .before .before .before .before .pre .1) (names-read (c .before .before .before .before .before .before .before .before .before .read-names .ensures))
 
 slice-aggregate-gather-2 : tie.Need-slice-aggregate-gather-2
-slice-aggregate-gather-2 c = lens-long _ _ _ (c .before .before .before .before .before .before .before .before .before .before .before .before .before .before .before .before .before .before .before .before .before .pre .1) (c .before .before .before .before .before .before .before .before .before .before .read-names .ensures)
+slice-aggregate-gather-2 c = lens-long _ _ _ (c .before .before .before .before .before .before .before .before .before .before .before .before .before .before .before .before .before .before .before .before .before .pre .1) (names-read (c .before .before .before .before .before .before .before .before .before .before .read-names .ensures))
 
 gather-requires-2 : tie.Need-gather-requires-2
 gather-requires-2 c κs = search needs
@@ -43,10 +43,8 @@ same-length-4 c = c .before .before .before .before .before .before .before .bef
 returns : tie.Need-returns
 returns c =
     let s = c .before .before .before .before .before .before .before .before .before .before .before .before .before .before .before .before .before .before .before .before .before .before .before .before .before in
-    let n = c .before .before .before .before .before .before .before .before .before .before .before .before .before .before .read-names .ensures in (
-      starts-laid _ _ _ (s .pre .1) n (s .args .seats .now) _ (c .before .before .before .before .before .before .before .gather .ensures),
-      lens-laid _ _ _ (s .pre .1) n (s .args .seats .now) _ (c .before .before .gather2 .ensures),
-    )
+    let n = names-read (c .before .before .before .before .before .before .before .before .before .before .before .before .before .before .read-names .ensures) in
+    record { names-left = starts-laid _ _ _ (s .pre .1) n (s .args .seats .now) _ (c .before .before .before .before .before .before .before .gather .ensures); lens-left = lens-laid _ _ _ (s .pre .1) n (s .args .seats .now) _ (c .before .before .gather2 .ensures) }
 
 pub gather-in-spec : {M : Type 1} → statement M
 gather-in-spec =

@@ -22,7 +22,9 @@ same-length-2 : tie.Need-same-length-2
 same-length-2 c = c .before .before .before .before .before .before .gather-in .kept .1 .1 .1 .1 .1 .1 .0
 
 returns : tie.Need-returns
-returns c = c .before .before .before .before .before .before .gather-in .ensures
+returns c =
+    let g = c .before .before .before .before .before .before .gather-in .ensures in
+    record { names-left = g .names-left; lens-left = g .lens-left }
 
 slice-aggregate-gather-in-3 : tie.Need-slice-aggregate-gather-in-3
 slice-aggregate-gather-in-3 c = refl
@@ -42,7 +44,9 @@ same-length-4 : tie.Need-same-length-4
 same-length-4 c = c .before .before .before .before .before .before .gather-in2 .kept .1 .1 .1 .1 .1 .1 .0
 
 returns-2 : tie.Need-returns-2
-returns-2 c = c .before .before .before .before .before .before .gather-in2 .ensures
+returns-2 c =
+    let g = c .before .before .before .before .before .before .gather-in2 .ensures in
+    record { names-left = g .names-left; lens-left = g .lens-left }
 
 pub gather-names-spec : {M : Type 1} → statement M
 gather-names-spec =

@@ -3,7 +3,7 @@ use native.Mathlib.Omega.{arith}
 use borrow.Author.Needs.{needs}
 use Rattle.header_keys.specs.declared.Key.the-variants.{Ids, Permids}
 use Rattle.variable_names.proofs.Free.{zeros-whole}
-use Rattle.header_values.proofs.Fronts.{numbers-fit, numbers-long, numbers-short}
+use Rattle.header_values.proofs.Fronts.{numbers-read, numbers-fit, numbers-long, numbers-short}
 use Rattle.header_lists.proofs.Filling.{permids-below, ordered-laid}
 use Rattle.header_lists.proofs.ordered_in.Statement.{statement}
 use Rattle.header_lists.proofs.ordered_in.Tie as tie
@@ -24,21 +24,21 @@ read-u32s-requires-2 : tie.Need-read-u32s-requires-2
 read-u32s-requires-2 c κs = ((c .before .before .before .before .before .before .before .before .before .pre .0, omega arith), zeros-whole 4096)
 
 array-share-prefix-ids : tie.Need-array-share-prefix-ids
-array-share-prefix-ids c = numbers-fit _ _ Ids (c .before .before .before .before .read-u32s .ensures)
+array-share-prefix-ids c = numbers-fit _ _ Ids (numbers-read (c .before .before .before .before .read-u32s .ensures))
 
 slice-aggregate-ordered-seats : tie.Need-slice-aggregate-ordered-seats
-slice-aggregate-ordered-seats c = numbers-long _ _ Ids (c .before .before .before .before .before .read-u32s .ensures)
+slice-aggregate-ordered-seats c = numbers-long _ _ Ids (numbers-read (c .before .before .before .before .before .read-u32s .ensures))
 
 array-share-prefix-permids : tie.Need-array-share-prefix-permids
-array-share-prefix-permids c = numbers-fit _ _ Permids (c .before .before .read-u32s2 .ensures)
+array-share-prefix-permids c = numbers-fit _ _ Permids (numbers-read (c .before .before .read-u32s2 .ensures))
 
 slice-aggregate-ordered-seats-2 : tie.Need-slice-aggregate-ordered-seats-2
-slice-aggregate-ordered-seats-2 c = numbers-long _ _ Permids (c .before .before .before .read-u32s2 .ensures)
+slice-aggregate-ordered-seats-2 c = numbers-long _ _ Permids (numbers-read (c .before .before .before .read-u32s2 .ensures))
 
 ordered-seats-requires : tie.Need-ordered-seats-requires
 ordered-seats-requires c κs =
-    let i = c .before .before .before .before .before .before .before .read-u32s .ensures in
-    let p = c .before .before .before .before .read-u32s2 .ensures in
+    let i = numbers-read (c .before .before .before .before .before .before .before .read-u32s .ensures) in
+    let p = numbers-read (c .before .before .before .before .read-u32s2 .ensures) in
     let s = c .before .before .before .before .before .before .before .before .before .before .before .before .before .before .pre .1 in
     ((rw (c .before .before .before .before .before .before .before .before .before .u32-in .ensures) (s .few), numbers-short _ _ Ids i, numbers-short _ _ Permids p), permids-below _ _ s p)
 
@@ -47,9 +47,9 @@ same-length c = search needs
 
 returns : tie.Need-returns
 returns c =
-    let i = c .before .before .before .before .before .before .before .before .before .before .read-u32s .ensures in
-    let p = c .before .before .before .before .before .before .before .read-u32s2 .ensures in
-    ordered-laid _ _ (c .before .before .before .before .before .before .before .before .before .before .before .before .u32-in .ensures) i p _ (c .before .before .ordered-seats .ensures)
+    let i = numbers-read (c .before .before .before .before .before .before .before .before .before .before .read-u32s .ensures) in
+    let p = numbers-read (c .before .before .before .before .before .before .before .read-u32s2 .ensures) in
+    record { list = ordered-laid _ _ (c .before .before .before .before .before .before .before .before .before .before .before .before .u32-in .ensures) i p _ (c .before .before .ordered-seats .ensures) }
 
 pub ordered-in-spec : {M : Type 1} → statement M
 ordered-in-spec =

@@ -3,7 +3,7 @@ use native.Mathlib.Omega.{arith}
 use borrow.Author.Needs.{needs}
 use Rattle.header_keys.specs.declared.Key.the-variants.{Ids}
 use Rattle.variable_names.proofs.Free.{zeros-whole}
-use Rattle.header_values.proofs.Fronts.{numbers-fit, numbers-long, numbers-short}
+use Rattle.header_values.proofs.Fronts.{numbers-read, numbers-fit, numbers-long, numbers-short}
 use Rattle.header_lists.proofs.Filling.{supp-laid}
 use Rattle.header_lists.proofs.supp_in.Statement.{statement}
 use Rattle.header_lists.proofs.supp_in.Tie as tie
@@ -18,19 +18,20 @@ read-u32s-requires : tie.Need-read-u32s-requires
 read-u32s-requires c κs = ((c .before .before .before .before .before .before .pre .0, omega arith), zeros-whole 4096)
 
 array-share-prefix-ids : tie.Need-array-share-prefix-ids
-array-share-prefix-ids c = numbers-fit _ _ Ids (c .before .read-u32s .ensures)
+array-share-prefix-ids c = numbers-fit _ _ Ids (numbers-read (c .before .read-u32s .ensures))
 
 slice-aggregate-supp-seats : tie.Need-slice-aggregate-supp-seats
-slice-aggregate-supp-seats c = numbers-long _ _ Ids (c .before .before .read-u32s .ensures)
+slice-aggregate-supp-seats c = numbers-long _ _ Ids (numbers-read (c .before .before .read-u32s .ensures))
 
 supp-seats-requires : tie.Need-supp-seats-requires
-supp-seats-requires c κs = (rw (c .before .before .before .before .before .u32-in .ensures) (c .before .before .before .before .before .before .before .before .before .before .pre .1 .few), numbers-short _ _ Ids (c .before .before .before .read-u32s .ensures))
+supp-seats-requires c κs = (rw (c .before .before .before .before .before .u32-in .ensures) (c .before .before .before .before .before .before .before .before .before .before .pre .1 .few), numbers-short _ _ Ids (numbers-read (c .before .before .before .read-u32s .ensures)))
 
 same-length : tie.Need-same-length
 same-length c = search needs
 
 returns : tie.Need-returns
-returns c = supp-laid _ _ (c .before .before .before .before .before .before .before .before .u32-in .ensures) (c .before .before .before .before .before .before .read-u32s .ensures) _ (c .before .before .supp-seats .ensures)
+returns c =
+    record { list = supp-laid _ _ (c .before .before .before .before .before .before .before .before .u32-in .ensures) (numbers-read (c .before .before .before .before .before .before .read-u32s .ensures)) _ (c .before .before .supp-seats .ensures) }
 
 pub supp-in-spec : {M : Type 1} → statement M
 supp-in-spec =

@@ -32,13 +32,12 @@ returns c =
     let lens = read .before .before .before .before .before in
     let names = lens .before .before .before .before in
     let s = names .before .before .before .before .before .before .before in
-    let r = read .read-names .ensures in (
-      r .0,
-      (
-        cleared-pad (length (s .args .names .now)) (names .clear-numbers .ensures) _ (r .1 .0),
-        cleared-pad (length (s .args .lens .now)) (lens .clear-numbers2 .ensures) _ (r .1 .1),
-      ),
-    )
+    let r = read .read-names .ensures in
+    record {
+      answer = r .answer;
+      names-left = cleared-pad (length (s .args .names .now)) (names .clear-numbers .ensures) _ (r .names-left);
+      lens-left = cleared-pad (length (s .args .lens .now)) (lens .clear-numbers2 .ensures) _ (r .lens-left);
+    }
 
 pub names-in-spec : {M : Type 1} → statement M
 names-in-spec =

@@ -51,9 +51,10 @@ returns c =
     let span = read .before .before .before .before in
     let s = span .before .before .before .before .before .before in
     let p = read .parse-str-list .ensures in
-    names-none (s .args .f .now) (spans (s .args .starts .now) (s .args .ends .now)) (s .args .key) (span .span-in .result) (span .span-in .ensures .0)
+    let l = names-none (s .args .f .now) (spans (s .args .starts .now) (s .args .ends .now)) (s .args .key) (span .span-in .result) (span .span-in .ensures .0)
     (s .args .max) (length (s .args .names .now)) (length (s .args .lens .now)) (s .pre .1 .0) (s .pre .1 .1)
-    (p .1 .0) (p .1 .1) (rw (told .enum-told .given .1) at (p .0)) (names-again .clear-numbers .ensures) (lens-again .clear-numbers2 .ensures)
+    (p .1 .0) (p .1 .1) (rw (told .enum-told .given .1) at (p .0)) (names-again .clear-numbers .ensures) (lens-again .clear-numbers2 .ensures) in
+    record { answer = l .0; names-left = l .1 .0; lens-left = l .1 .1 }
 
 same-length-3 : tie.Need-same-length-3
 same-length-3 c = search needs
@@ -68,9 +69,10 @@ returns-2 c =
     let span = read .before .before .before .before in
     let s = span .before .before .before .before .before .before in
     let p = read .parse-str-list .ensures in
-    names-given (s .args .f .now) (spans (s .args .starts .now) (s .args .ends .now)) (s .args .key) (span .span-in .result) (span .span-in .ensures .0)
+    let l = names-given (s .args .f .now) (spans (s .args .starts .now) (s .args .ends .now)) (s .args .key) (span .span-in .result) (span .span-in .ensures .0)
     (s .args .max) (length (s .args .names .now)) (length (s .args .lens .now)) (s .pre .1 .0) (s .pre .1 .1)
-    (p .1 .0) (p .1 .1) (rw (known .n .given .1) at (p .0))
+    (p .1 .0) (p .1 .1) (rw (known .n .given .1) at (p .0)) in
+    record { answer = l .0; names-left = l .1 .0; lens-left = l .1 .1 }
 
 pub read-names-spec : {M : Type 1} → statement M
 read-names-spec =

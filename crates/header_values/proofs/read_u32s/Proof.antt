@@ -41,8 +41,9 @@ returns c =
     let span = read .before .before .before in
     let s = span .before .before .before .before .before in
     let p = read .parse-u32-list .ensures in
-    u32s-none (s .args .f .now) (spans (s .args .starts .now) (s .args .ends .now)) (s .args .key) (span .span-in .result) (span .span-in .ensures .0)
-    (length (s .args .dst .now)) (s .pre .1) (p .1) (rw (told .enum-told .given .1) at (p .0)) (again .clear-numbers .ensures)
+    let l = u32s-none (s .args .f .now) (spans (s .args .starts .now) (s .args .ends .now)) (s .args .key) (span .span-in .result) (span .span-in .ensures .0)
+    (length (s .args .dst .now)) (s .pre .1) (p .1) (rw (told .enum-told .given .1) at (p .0)) (again .clear-numbers .ensures) in
+    record { answer = l .0; list = l .1 }
 
 same-length-2 : tie.Need-same-length-2
 same-length-2 c = search needs
@@ -54,8 +55,9 @@ returns-2 c =
     let span = read .before .before .before in
     let s = span .before .before .before .before .before in
     let p = read .parse-u32-list .ensures in
-    u32s-given (s .args .f .now) (spans (s .args .starts .now) (s .args .ends .now)) (s .args .key) (span .span-in .result) (span .span-in .ensures .0)
-    (length (s .args .dst .now)) (s .pre .1) (p .1) (rw (known .n .given .1) at (p .0))
+    let l = u32s-given (s .args .f .now) (spans (s .args .starts .now) (s .args .ends .now)) (s .args .key) (span .span-in .result) (span .span-in .ensures .0)
+    (length (s .args .dst .now)) (s .pre .1) (p .1) (rw (known .n .given .1) at (p .0)) in
+    record { answer = l .0; list = l .1 }
 
 pub read-u32s-spec : {M : Type 1} → statement M
 read-u32s-spec =

@@ -1,6 +1,6 @@
--- `roots_in` meets its contract: the roots lie over the front of the list.
+-- `roots_in` meets its contract: the roots lie over the front of the list, and the rest of it is as it was.
 use borrow.Author.Needs.{needs}
-use Rattle.header_values.proofs.Filled.{roots-given, roots-none}
+use Rattle.header_values.proofs.Filled.{roots-given, roots-none, roots-read}
 use Rattle.header_values.specs.Values.{spans}
 use Rattle.header_values.proofs.roots_in.Statement.{statement}
 use Rattle.header_values.proofs.roots_in.Tie as tie
@@ -34,8 +34,13 @@ returns c =
     let read = c .before .before .before in
     let span = read .before .before .before in
     let s = span .before .before .before .before in
-    roots-none (s .args .f .now) (spans (s .args .starts .now) (s .args .ends .now)) (span .span-in .result) (span .span-in .ensures .0)
-    (rw (c .enum-told .given .1) at (read .parse-edge-list .ensures .0))
+    let p = read .parse-edge-list .ensures in
+    let f = s .args .f .now in
+    let t = spans (s .args .starts .now) (s .args .ends .now) in
+    let found = span .span-in .result in
+    let at = span .span-in .ensures .0 in
+    let l = roots-none f t found at (rw (c .enum-told .given .1) at (p .0)) in
+    record { answer = l .0; front = l .1; list = roots-read f t found at (s .args .dst .now) (p .1) }
 
 same-length-2 : tie.Need-same-length-2
 same-length-2 c = search needs
@@ -47,8 +52,12 @@ returns-2 c =
     let span = read .before .before .before in
     let s = span .before .before .before .before in
     let p = read .parse-edge-list .ensures in
-    roots-given (s .args .f .now) (spans (s .args .starts .now) (s .args .ends .now)) (span .span-in .result) (span .span-in .ensures .0)
-    (s .args .dst .now) (s .pre .1) (p .1) (rw (known .n .given .1) at (p .0))
+    let f = s .args .f .now in
+    let t = spans (s .args .starts .now) (s .args .ends .now) in
+    let found = span .span-in .result in
+    let at = span .span-in .ensures .0 in
+    let l = roots-given f t found at (s .args .dst .now) (s .pre .1) (p .1) (rw (known .n .given .1) at (p .0)) in
+    record { answer = l .0; front = l .1; list = roots-read f t found at (s .args .dst .now) (p .1) }
 
 pub roots-in-spec : {M : Type 1} → statement M
 roots-in-spec =

@@ -23,7 +23,7 @@ returns c =
     let clear = read .before .before .before .before in
     let s = clear .before .before .before .before .before .before in
     let r = read .read-u32s .ensures in
-    (r .0, cleared-pad (length (s .args .dst .now)) (clear .clear-numbers .ensures) _ (r .1))
+    record { answer = r .answer; list = cleared-pad (length (s .args .dst .now)) (clear .clear-numbers .ensures) _ (r .list) }
 
 pub u32s-in-spec : {M : Type 1} → statement M
 u32s-in-spec = tie.close (tie.spec clear-numbers-requires read-u32s-requires same-length returns)

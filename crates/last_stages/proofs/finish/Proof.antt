@@ -60,28 +60,17 @@ told c = c .before .before .before .before .before .before .before .before .befo
 
 returns : tie.Need-returns
 returns c =
-    let e = told c .is-refusal .ensures in (
-      as-told _ e (c .before .before .before .before .before .before .before .before .before .before .before .before .before .before .before .before .before .before .before .before .before .before .before .before .before .before .before .before .before .before .clear-if .ensures),
-      (
-        as-told _ e (c .before .before .before .before .before .before .before .before .before .before .before .before .before .before .before .before .before .before .before .before .before .before .before .before .before .before .clear-if2 .ensures),
-        (
-          as-told _ e (c .before .before .before .before .before .before .before .before .before .before .before .before .before .before .before .before .before .before .before .before .before .before .clear-if3 .ensures),
-          (
-            as-told _ e (c .before .before .before .before .before .before .before .before .before .before .before .before .before .before .before .before .before .before .clear-if4 .ensures),
-            (
-              as-told _ e (c .before .before .before .before .before .before .before .before .before .before .before .before .before .before .clear-if5 .ensures),
-              (
-                as-told _ e (c .before .before .before .before .before .before .before .before .before .before .clear-if6 .ensures),
-                (
-                  as-told _ e (c .before .before .before .before .before .before .clear-if7 .ensures),
-                  as-told _ e (c .before .before .clear-if8 .ensures),
-                ),
-              ),
-            ),
-          ),
-        ),
-      ),
-    )
+    let e = told c .is-refusal .ensures in
+    record {
+      ids-left = as-told _ e (c .before .before .before .before .before .before .before .before .before .before .before .before .before .before .before .before .before .before .before .before .before .before .before .before .before .before .before .before .before .before .clear-if .ensures);
+      order-left = as-told _ e (c .before .before .before .before .before .before .before .before .before .before .before .before .before .before .before .before .before .before .before .before .before .before .before .before .before .before .clear-if2 .ensures);
+      permids-left = as-told _ e (c .before .before .before .before .before .before .before .before .before .before .before .before .before .before .before .before .before .before .before .before .before .before .clear-if3 .ensures);
+      auxids-left = as-told _ e (c .before .before .before .before .before .before .before .before .before .before .before .before .before .before .before .before .before .before .clear-if4 .ensures);
+      names-left = as-told _ e (c .before .before .before .before .before .before .before .before .before .before .before .before .before .before .clear-if5 .ensures);
+      lens-left = as-told _ e (c .before .before .before .before .before .before .before .before .before .before .clear-if6 .ensures);
+      rootnames-left = as-told _ e (c .before .before .before .before .before .before .clear-if7 .ensures);
+      rootlens-left = as-told _ e (c .before .before .clear-if8 .ensures);
+    }
 
 pub finish-spec : {M : Type 1} → statement M
 finish-spec =

@@ -65,25 +65,24 @@ cast-permids c = search needs
 
 array-share-prefix-permids : tie.Need-array-share-prefix-permids
 array-share-prefix-permids c =
-    permids-fit _ _ (measured (loaded (c .before .before)) .length-fault .ensures) _ (loaded (c .before .before) .load .ensures .0) _ ((c .before .before) .read .given .1) _ refl _ (loaded
-    (c .before .before) .load .ensures .1 .1 .1 .1 .0)
+    permids-fit _ _ (measured (loaded (c .before .before)) .length-fault .ensures) _ (loaded (c .before .before) .load .ensures .answer) _ ((c .before .before) .read .given .1) _ refl _ (loaded
+    (c .before .before) .load .ensures .permids-left)
 
 slice-aggregate-level-list : tie.Need-slice-aggregate-level-list
 slice-aggregate-level-list c =
-    permids-long _ _ (measured (loaded (c .before .before .before)) .length-fault .ensures) _ (loaded (c .before .before .before) .load .ensures .0) _
-    ((c .before .before .before) .read .given .1) _ refl _ (loaded (c .before .before .before) .load .ensures .1 .1 .1 .1 .0)
+    permids-long _ _ (measured (loaded (c .before .before .before)) .length-fault .ensures) _ (loaded (c .before .before .before) .load .ensures .answer) _
+    ((c .before .before .before) .read .given .1) _ refl _ (loaded (c .before .before .before) .load .ensures .permids-left)
 
 level-list-requires : tie.Need-level-list-requires
 level-list-requires c κs =
-    list-may _ _ (measured (loaded (c .before .before .before .before)) .length-fault .ensures) _ (loaded (c .before .before .before .before) .load .ensures .0) _
-    ((c .before .before .before .before) .read .given .1) _ refl _ (loaded (c .before .before .before .before) .load .ensures .1 .1 .1 .1
-    .0)
+    list-may _ _ (measured (loaded (c .before .before .before .before)) .length-fault .ensures) _ (loaded (c .before .before .before .before) .load .ensures .answer) _
+    ((c .before .before .before .before) .read .given .1) _ refl _ (loaded (c .before .before .before .before) .load .ensures .permids-left)
 
 cast-t44 : tie.Need-cast-t44
 cast-t44 c =
     record {
-      fits = count-fits _ _ (measured (loaded (known c)) .length-fault .ensures) _ (loaded (known c) .load .ensures .0) _ ((known c) .read .given .1) _ refl _ (loaded
-          (known c) .load .ensures .1 .1 .1 .1 .0);
+      fits = count-fits _ _ (measured (loaded (known c)) .length-fault .ensures) _ (loaded (known c) .load .ensures .answer) _ ((known c) .read .given .1) _ refl _ (loaded
+          (known c) .load .ensures .permids-left);
     }
 
 enum-known-read-2 : tie.Need-enum-known-read-2
@@ -94,12 +93,12 @@ same-length c = search needs
 
 returns : tie.Need-returns
 returns c =
-    plans _ _ (measured (loaded (known c)) .length-fault .ensures) _ (loaded (known c) .load .ensures .0) _ ((known c) .read .given .1) _ refl _ (loaded
-    (known c) .load .ensures .1 .1 .1 .1 .0)
+    plans _ _ (measured (loaded (known c)) .length-fault .ensures) _ (loaded (known c) .load .ensures .answer) _ ((known c) .read .given .1) _ refl _ (loaded
+    (known c) .load .ensures .permids-left)
     _ _ _ (listed c .level-list .ensures .0) (listed c .level-list .ensures .1)
 
 returns-2 : tie.Need-returns-2
-returns-2 c = plans-none _ _ (measured (loaded-2 (c .before)) .length-fault .ensures) _ (loaded-2 (c .before) .load .ensures .0) _ _ (c .before .read2 .given .1) _
+returns-2 c = plans-none _ _ (measured (loaded-2 (c .before)) .length-fault .ensures) _ (loaded-2 (c .before) .load .ensures .answer) _ _ (c .before .read2 .given .1) _
 
 pub plan-levels-spec : {M : Type 1} → statement M
 plan-levels-spec =

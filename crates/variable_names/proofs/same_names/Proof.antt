@@ -54,6 +54,7 @@ same-name-requires c κs = search needs
 
 returns : tie.Need-returns Inv-loop μ-loop
 returns c =
+    let unlike =
     names-unlike
     (c .before .before .before .before .before .before .before .before .before .loop .inv)
     (c .before .before .before .before .before .before .before .before .loop-test .taken)
@@ -62,7 +63,8 @@ returns c =
     (c .before .before .before .before .entry2 .ensures)
     (c .before .before .before .entry3 .ensures)
     (c .before .before .entry4 .ensures)
-    (not-true (c .before .same-name .result) (c .if1 .taken))
+    (not-true (c .before .same-name .result) (c .if1 .taken)) in
+    record { answer = unlike }
 
 add-i : tie.Need-add-i Inv-loop μ-loop
 add-i c = search needs
@@ -83,7 +85,7 @@ loop-again c =
     (not-false (c .before .same-name .result) (c .if1 .left))
 
 returns-2 : tie.Need-returns-2 Inv-loop μ-loop
-returns-2 c = names-end (c .before .loop .inv) (c .loop-test .left)
+returns-2 c = record { answer = names-end (c .before .loop .inv) (c .loop-test .left) }
 
 pub same-names-spec : {M : Type 1} → statement M
 same-names-spec =

@@ -25,7 +25,7 @@ alike-in-requires c κs =
     (p .0, (p .1 .1 .1, (one, two)))
 
 returns : tie.Need-returns
-returns c = c .before .before .before .before .alike-in .ensures
+returns c = record { answer = c .before .before .before .before .alike-in .ensures .answer }
 
 slice-aggregate-alike-in-5 : tie.Need-slice-aggregate-alike-in-5
 slice-aggregate-alike-in-5 c = refl
@@ -47,7 +47,7 @@ alike-in-requires-2 c κs =
     (p .0, (p .1 .1 .1, (one, two)))
 
 returns-2 : tie.Need-returns-2
-returns-2 c = c .before .before .before .before .alike-in2 .ensures
+returns-2 c = record { answer = c .before .before .before .before .alike-in2 .ensures .answer }
 
 pub alike-spec : {M : Type 1} → statement M
 alike-spec =

@@ -7,12 +7,12 @@ use Rattle.header_checks.proofs.names.supp_agrees.Statement.{statement}
 use Rattle.header_checks.proofs.names.supp_agrees.Tie as tie
 
 returns : tie.Need-returns
-returns c = first-missing _ _ _ _ _ (c .before .before .before .before .before .pre .1 .0) (c .if1 .taken)
+returns c = record { answer = first-missing _ _ _ _ _ (c .before .before .before .before .before .pre .1 .0) (c .if1 .taken) }
 
 returns-2 : tie.Need-returns-2
 returns-2 c =
     let p = c .before .before .before .before .before .before .pre in
-    second-missing _ _ _ _ _ (p .1 .0) (c .before .if1 .left) (p .1 .1 .0) (c .if2 .taken)
+    record { answer = second-missing _ _ _ _ _ (p .1 .0) (c .before .if1 .left) (p .1 .1 .0) (c .if2 .taken) }
 
 slice-aggregate-count-up : tie.Need-slice-aggregate-count-up
 slice-aggregate-count-up c = refl
@@ -38,7 +38,7 @@ returns-3 c =
     let s = c .before .before .before .before .before .before .before .before .before .before .before .before in
     let p = s .pre in
     let order = order-is 256 (length (s .args .index .now)) (c .before .before .before .before .before .if3 .taken) (c .before .before .before .count-up .ensures) in
-    both-given _ _ _ _ _ (p .1 .0) (c .before .before .before .before .before .before .before .if1 .left) (p .1 .1 .0) (c .before .before .before .before .before .before .if2 .left) (chosen-alike _ _ refl order refl (c .alike .ensures))
+    record { answer = both-given _ _ _ _ _ (p .1 .0) (c .before .before .before .before .before .before .before .if1 .left) (p .1 .1 .0) (c .before .before .before .before .before .before .if2 .left) (chosen-alike _ _ refl order refl (c .alike .ensures .answer)) }
 
 slice-aggregate-count-up-2 : tie.Need-slice-aggregate-count-up-2
 slice-aggregate-count-up-2 c = refl
@@ -64,7 +64,7 @@ returns-4 c =
     let s = c .before .before .before .before .before .before .before .before .before .before .before .before in
     let p = s .pre in
     let order = order-is 4096 (length (s .args .index .now)) (p .1 .1 .1) (c .before .before .before .count-up2 .ensures) in
-    both-given _ _ _ _ _ (p .1 .0) (c .before .before .before .before .before .before .before .if1 .left) (p .1 .1 .0) (c .before .before .before .before .before .before .if2 .left) (chosen-alike _ _ refl order refl (c .alike2 .ensures))
+    record { answer = both-given _ _ _ _ _ (p .1 .0) (c .before .before .before .before .before .before .before .if1 .left) (p .1 .1 .0) (c .before .before .before .before .before .before .if2 .left) (chosen-alike _ _ refl order refl (c .alike2 .ensures .answer)) }
 
 pub supp-agrees-spec : {M : Type 1} → statement M
 supp-agrees-spec =

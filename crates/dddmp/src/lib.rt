@@ -33,7 +33,8 @@ pub fn load(
     edges: &mut [Edge],
     seats: &mut [u16],
 ) -> Loaded
-    ensures { λ r. ⌜ LoadPromise f list levels count level then els next heads ids order permids auxids names lens roots rootnames rootlens edges seats r ⌝ }
+    ensures { λ r. ⌜ LoadPromise f list levels count level then els next heads
+        ids order permids auxids names lens roots rootnames rootlens edges seats r ⌝ }
 {
     let lists = stages::lists_fault(
         ids.len(),
@@ -131,7 +132,8 @@ pub fn export(
     numbers: &mut [Index],
     out: &mut [u8],
 ) -> Exported
-    ensures { λ r. ⌜ ExportPromise settings levels count level then els next heads roots order bytes starts lens rootstarts rootlens slots numbers out r ⌝ }
+    ensures { λ r. ⌜ ExportPromise settings levels count level then els next heads
+        roots order bytes starts lens rootstarts rootlens slots numbers out r ⌝ }
 {
     settings.export(
         levels,

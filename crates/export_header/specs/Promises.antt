@@ -7,7 +7,7 @@ use lib.ListN.{length}
 use lib.IntN.{ℤ}
 use denote.Ref.{RefT, now}
 use Rattle.codes.specs.declared.DDDMPVersion.{DDDMPVersion}
-use Rattle.store.specs.Lent.{Part, old}
+use Rattle.codes.specs.Lent.{Part, old}
 use Rattle.read_text.specs.Text.{place}
 use Rattle.header_keys.specs.declared.Key.the-variants.{Dd}
 use Rattle.export_names.specs.Names.{nameAt, namesAt, listFits}

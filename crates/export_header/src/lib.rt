@@ -2,7 +2,7 @@
 ghost use mathlib.Core.Path.{_≡_};
 ghost use mathlib.Core.Bool.{true};
 ghost use mathlib.Core.List.{[], _∷_};
-ghost use Rattle.store.specs.Lent.{old};
+ghost use Rattle.codes.specs.Lent.{old};
 ghost use Rattle.read_text.specs.Text.{place};
 ghost use Rattle.header_keys.specs.declared.Key.the-variants.{Ver, Mode};
 ghost use Rattle.export_names.specs.Names.{nameAt, fitPlace};

@@ -5,7 +5,7 @@ ghost use mathlib.Core.List.{[]};
 ghost use lib.IntN.{natAbs};
 ghost use Rattle.codes.specs.Limits.{nodeLimit};
 ghost use Rattle.store.specs.Store.{slots};
-ghost use Rattle.store.specs.Lent.{old};
+ghost use Rattle.codes.specs.Lent.{old};
 ghost use Rattle.writers.specs.Written.{Fits, Written};
 ghost use Rattle.node_writers.specs.Encoded.{nodeBytes};
 ghost use Rattle.export_nodes.specs.Tables.{numberOf, Numbered, linesBy, seatBy, innerBy, nodeBy, Seated, Inner, Lined};

@@ -6,7 +6,7 @@ use mathlib.Core.List.{List}
 use lib.ListN.{length}
 use denote.Ref.{RefT, now}
 use Rattle.codes.specs.declared.DDDMPVersion.{DDDMPVersion}
-use Rattle.store.specs.Lent.{Part, old}
+use Rattle.codes.specs.Lent.{Part, old}
 use Rattle.seats.specs.Seats.{Seats}
 use Rattle.header_keys.specs.declared.Key.the-variants.{Rootnames}
 use Rattle.variable_order.specs.Order.{isOrder}

@@ -2,7 +2,7 @@
 ghost use mathlib.Core.List.{[], _∷_};
 ghost use Prim.Native.Nat.{_+_, _≤_, _<_};
 ghost use lib.ListN.{length, getD};
-ghost use Rattle.store.specs.Lent.{old};
+ghost use Rattle.codes.specs.Lent.{old};
 ghost use Rattle.read_text.specs.Text.{place};
 ghost use Rattle.export_names.specs.Names.{nameAt, namesAt};
 ghost use Rattle.writers.specs.Words.{spaced};

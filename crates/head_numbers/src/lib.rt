@@ -4,7 +4,7 @@ ghost use mathlib.Core.List.{[], _∷_, map};
 ghost use Prim.Native.Nat.{_<_};
 ghost use lib.ListN.{length, getD};
 ghost use lib.IntN.{natAbs};
-ghost use Rattle.store.specs.Lent.{old};
+ghost use Rattle.codes.specs.Lent.{old};
 ghost use Rattle.writers.specs.Decimal.{decimal, edgeText};
 ghost use Rattle.writers.specs.Words.{spaced};
 ghost use Rattle.writers.specs.Written.{Fits, Written};

@@ -4,7 +4,7 @@ use mathlib.Core.List.{List, []}
 use lib.ListN.{length, replicate, take}
 use lib.IntN.{ℤ}
 use Rattle.store.specs.Store.{Store, store}
-use Rattle.store.specs.Lent.{Part, old, new}
+use Rattle.codes.specs.Lent.{Part, old, new}
 use Rattle.reached.specs.Walk.{meet, meetAll, Listed}
 
 module _ (then els : Part (List ℤ)) where

@@ -51,7 +51,8 @@ pub fn put_node(
 )
     requires { ⌜ Sizes limits (storeNow levels (now count) level then els next heads) ⌝ }
     requires { ⌜ now count < length (now level) ⌝ }
-    ensures { λ r. ⌜ newStore levels (new count) level then els next heads ≡ nodes.added (oldStore levels (old count) level then els next heads) l t e ⌝ }
+    ensures { λ r. ⌜ newStore levels (new count) level then els next heads
+        ≡ nodes.added (oldStore levels (old count) level then els next heads) l t e ⌝ }
 {
     let b = edges::bucket(l, t, e);
     let c = *count;

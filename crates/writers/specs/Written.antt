@@ -5,7 +5,7 @@ use mathlib.Core.List.{List}
 use lib.ListN.{length}
 use lib.Seq.{sets}
 use denote.Ref.{RefT, now}
-use denote.Triple.Both.{Both}
+use Rattle.codes.specs.Lent.{Part, old, new}
 
 -- there is room for the bytes w
 abbrev pub Fits : RefT (List ℕ) → ℕ → List ℕ → Type 0
@@ -17,5 +17,5 @@ pub record Wrote (before : List ℕ) (at : ℕ) (w : List ℕ) (end : ℕ) (afte
   pub bytes : after ≡ sets before at w
 
 -- so of a lent part, as the call starts and as it ends
-abbrev pub Written : Both (RefT (List ℕ)) (RefT (List ℕ)) → ℕ → List ℕ → ℕ → Type 0
-Written out at w r = Wrote (now (out .entry)) at w r (now (out .exit))
+abbrev pub Written : Part (List ℕ) → ℕ → List ℕ → ℕ → Type 0
+Written out at w r = Wrote (old out) at w r (new out)

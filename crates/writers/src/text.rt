@@ -3,6 +3,7 @@ ghost use mathlib.Core.Path.{_≡_};
 ghost use Prim.Native.Nat.{_+_, _<_};
 ghost use mathlib.Core.List.{[], _∷_};
 ghost use lib.ListN.{length};
+ghost use Rattle.codes.specs.Lent.{old};
 ghost use Rattle.writers.specs.Decimal.{decimal, edgeText};
 ghost use Rattle.writers.specs.Written.{Fits, Written};
 use edges::Edge;
@@ -19,7 +20,7 @@ pub fn put_byte(out: &mut [u8], at: usize, b: u8) -> usize
 // Writes bytes as they are.
 pub fn put_bytes(out: &mut [u8], at: usize, bytes: &[u8]) -> usize
     requires { ⌜ Fits out at (now bytes) ⌝ }
-    ensures { λ r. ⌜ Written out at (now (bytes .entry)) r ⌝ }
+    ensures { λ r. ⌜ Written out at (old bytes) r ⌝ }
 {
     let mut i: usize = 0;
     while i < bytes.len() {

@@ -15,8 +15,8 @@ use Rattle.c_answers.specs.declared.LoadAnswer.{LoadAnswer}
 use Rattle.c_answers.specs.declared.EvaluateAnswer.{EvaluateAnswer}
 use Rattle.c_answers.specs.declared.ExportAnswer.{ExportAnswer}
 
-abbrev pub ofAnswer : head.Answer → LoadAnswer
-ofAnswer (head.header h) = record {
+abbrev pub ofLoadAnswer : head.HeaderAnswer → LoadAnswer
+ofLoadAnswer (head.header h) = record {
   refusal = 0;
   line = 0;
   ascii = byteOf (h .ascii);
@@ -30,7 +30,7 @@ ofAnswer (head.header h) = record {
   next = h .next;
   lines = h .lines;
 }
-ofAnswer (head.refusal n at) = record {
+ofLoadAnswer (head.refusal n at) = record {
   refusal = n;
   line = at;
   ascii = 0;
@@ -54,7 +54,7 @@ ofLength (value n) = record { refusal = 0; line = 0; len = n }
 ofLength (refused k) = record { refusal = k; line = 0; len = 0 }
 
 -- what an export answers and leaves in its output, as `dddmp` promises it: the answer is that of such an export
-pub record Exporting (x : Export) (σ : Store) (a : ExportAnswer) (out : List ℕ) : Type 0 where
+pub record ExportingForC (x : Export) (σ : Store) (a : ExportAnswer) (out : List ℕ) : Type 0 where
   pub exported : Exported
   pub exports : Exports x σ exported out
   pub answer : a ≡ ofLength (ofExported exported)

@@ -6,7 +6,7 @@ ghost use Rattle.header.specs.Kinds.{ofLoaded};
 ghost use Rattle.exporter.specs.Settings.{ofSettings};
 ghost use Rattle.exporter.specs.Promise.{ofExported};
 ghost use Rattle.evaluation.specs.SettingBytes.{byteOf};
-ghost use Rattle.c_answers.specs.Answers.{ofAnswer, ofEvaluated, ofLength};
+ghost use Rattle.c_answers.specs.Answers.{ofLoadAnswer, ofEvaluated, ofLength};
 ghost use Rattle.c_answers.specs.Settings.{versionOf, settingsOf};
 use codes::DDDMPVersion;
 use codes::VarInfo;
@@ -69,7 +69,7 @@ fn varinfo_of(v: VarInfo) -> u8
 }
 
 pub fn load_answer(loaded: Loaded) -> LoadAnswer
-    ensures { λ r. ⌜ r ≡ ofAnswer (ofLoaded loaded) ⌝ }
+    ensures { λ r. ⌜ r ≡ ofLoadAnswer (ofLoaded loaded) ⌝ }
 {
     match loaded {
         Loaded::Header(h) => {

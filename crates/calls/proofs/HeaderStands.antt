@@ -8,7 +8,7 @@ use native.Mathlib.Omega.{arith}
 use lib.ListN.{length}
 use Rattle.codes.specs.Limits.{varLimit, rootLimit, inputLimit}
 use Rattle.codes.proofs.Bytes.{both}
-use Rattle.header_lines.specs.Sweep.{End, atNodes, refusedAt, linesOf, endOf}
+use Rattle.header_lines.specs.Sweep.{SweepEnd, atNodes, refusedAt, linesOf, endOf}
 use Rattle.header_values.specs.Values.{rootsIn}
 use Rattle.codes.specs.Faults.{firstFault}
 use Rattle.header_checks.specs.Whole.{wholeFault}
@@ -18,9 +18,9 @@ use Rattle.store.specs.Store.{Store}
 use Rattle.store.specs.Rules.{limits}
 use Rattle.store.specs.Keeps.{keeps}
 use Rattle.header.specs.Header as head
-use Rattle.header.specs.Header.{Header, Answer, header, refusal, headerIn, tableOf, settled, judged, readOf, after, atLeast, listsBy}
+use Rattle.header.specs.Header.{Header, HeaderAnswer, header, refusal, headerIn, tableOf, settled, judgedHeader, readOf, after, atLeast, listsBy}
 use Rattle.header.proofs.Lengths.{length-none, none-length}
-use Rattle.calls.specs.Load.{Lengths, Load, variableLists, rootLists, listsFault, lengthFault, beforeHeader, headerOf}
+use Rattle.calls.specs.Load.{Lengths, Load, variableLists, rootLists, lentFault, inputFault, beforeHeader, headerOf}
 
 -- the lines up to `.nodes`, and the header as a whole
 pub record Sound (f : List ℕ) (h : Header) : Type 0 where
@@ -54,7 +54,7 @@ module _ (f : List ℕ) (h : Header) where
   settled-sound next lines e (suc m) w q = no-header q
 
   -- no line has one
-  judged-sound : (e : End) → endOf f (linesOf f) ≡ e → judged f e ≡ header h → Sound f h
+  judged-sound : (e : SweepEnd) → endOf f (linesOf f) ≡ e → judgedHeader f e ≡ header h → Sound f h
   judged-sound (atNodes next lines) e q = settled-sound next lines e (wholeFault f (tableOf f)) refl q
   judged-sound (refusedAt n line) e q = no-header q
 
@@ -69,42 +69,42 @@ module _ (f : List ℕ) (h : Header) where
   unfolding readOf
   sound-after n z s =
       ap (λ k. after k f) z
-      ∙ ap (judged f) (s .ends)
+      ∙ ap (judgedHeader f) (s .ends)
       ∙ ap (settled f (tableOf f) (s .next) (s .lines)) (s .whole)
       ∙ ap header (sym (s .is))
 
 -- the answer of a load is that of its lists
-pub lists-answer : (f : List ℕ) (a : Answer) → listsBy f a .answer ≡ a
+pub lists-answer : (f : List ℕ) (a : HeaderAnswer) → listsBy f a .answer ≡ a
 lists-answer f (header h) = refl
 lists-answer f (refusal n line) = refl
 
 module _ (found : ℕ) (f : List ℕ) where
   -- a header that is the answer is sound, and nothing was found before
-  pub answer-sound : (h : Header) → head.loadOf found f .answer ≡ header h → (found ≡ 0) × Sound f h
-  unfolding head.loadOf
+  pub answer-sound : (h : Header) → head.loadHeader found f .answer ≡ header h → (found ≡ 0) × Sound f h
+  unfolding head.loadHeader
   answer-sound h q = after-sound f h found (sym (lists-answer f (after found f)) ∙ q)
 
   -- and the other way
-  sound-answer : (h : Header) → found ≡ 0 → Sound f h → head.loadOf found f .answer ≡ header h
-  unfolding head.loadOf
+  sound-answer : (h : Header) → found ≡ 0 → Sound f h → head.loadHeader found f .answer ≡ header h
+  unfolding head.loadHeader
   sound-answer h z s = lists-answer f (after found f) ∙ sound-after f h found z s
 
   -- where a header is the answer the roots are those of the file
-  roots-by : (a : Answer) (h : Header) → listsBy f a .answer ≡ header h → listsBy f a .roots ≡ rootsIn f (tableOf f)
+  roots-by : (a : HeaderAnswer) (h : Header) → listsBy f a .answer ≡ header h → listsBy f a .roots ≡ rootsIn f (tableOf f)
   roots-by (header g) h q = refl
   roots-by (refusal n line) h q = no-header q
 
-  pub answer-roots : (h : Header) → head.loadOf found f .answer ≡ header h → head.loadOf found f .roots ≡ rootsIn f (tableOf f)
-  unfolding head.loadOf
+  pub answer-roots : (h : Header) → head.loadHeader found f .answer ≡ header h → head.loadHeader found f .roots ≡ rootsIn f (tableOf f)
+  unfolding head.loadHeader
   answer-roots h q = roots-by (after found f) h q
 
 -- lists that are long enough are refused nothing
-none-lists : (l : Lengths) → atLeast varLimit (variableLists l) ≡ true → atLeast rootLimit (rootLists l) ≡ true → listsFault l ≡ 0
+none-lists : (l : Lengths) → atLeast varLimit (variableLists l) ≡ true → atLeast rootLimit (rootLists l) ≡ true → lentFault l ≡ 0
 unfolding head.listsFault
 none-lists l v r = rw (v, r)
 
 -- and the other way
-lists-none : (l : Lengths) → listsFault l ≡ 0
+lists-none : (l : Lengths) → lentFault l ≡ 0
     → (atLeast varLimit (variableLists l) ≡ true) × (atLeast rootLimit (rootLists l) ≡ true)
 unfolding head.listsFault
 lists-none l q = both (atLeast varLimit (variableLists l)) (atLeast rootLimit (rootLists l)) (unless-none _ 0 q)
@@ -112,9 +112,9 @@ lists-none l q = both (atLeast varLimit (variableLists l)) (atLeast rootLimit (r
 module _ (c : Load) (σ : Store) where
   -- where neither lists nor store are refused, the input's length is left
   pub length-left : atLeast varLimit (variableLists (c .lent)) ≡ true → atLeast rootLimit (rootLists (c .lent)) ≡ true
-      → keeps limits σ ≡ true → beforeHeader c σ ≡ lengthFault (c .file)
+      → keeps limits σ ≡ true → beforeHeader c σ ≡ inputFault (c .file)
   unfolding beforeHeader firstFault
-  length-left v r k = rw (none-lists (c .lent) v r, k) (sym (last-check (lengthFault (c .file))))
+  length-left v r k = rw (none-lists (c .lent) v r, k) (sym (last-check (inputFault (c .file))))
 
   -- A header that is the answer stands.
   pub answer-stands : (h : Header) → headerOf c σ .answer ≡ header h → Stands c σ h

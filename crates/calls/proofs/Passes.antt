@@ -11,7 +11,7 @@ use Rattle.codes.specs.Faults.{firstFault}
 use Rattle.codes.proofs.Faults.{first-none, rest-none}
 use Rattle.codes.proofs.Refusals.{unless-none}
 use Rattle.store.specs.Store.{Store}
-use Rattle.header.specs.Header.{Header, Answer, header, refusal}
+use Rattle.header.specs.Header.{Header, HeaderAnswer, header, refusal}
 use Rattle.level_list.specs.List.{listFits}
 use Rattle.imported.specs.Import as nodes
 use Rattle.calls.specs.Load.{Load, refusedAt, scratchFault, listFault, beforeNodes, headerOf, nodesOf, withNodes, withList, withHeader, loadOf}
@@ -48,7 +48,7 @@ refused-alike c σ {n} {line} {k} {at} q =
 module _ (c : Load) (σ : Store) where
   -- a refusal is that of one of the stages
   module _ (n line : ℕ) where
-    nodes-refused : (h : Header) (r : nodes.Imported) (a : nodes.Answer) → withNodes c σ h r a .answer ≡ refusal n line
+    nodes-refused : (h : Header) (r : nodes.Imported) (a : nodes.NodesAnswer) → withNodes c σ h r a .answer ≡ refusal n line
         → withNodes c σ h r a ≡ refusedAt c σ n line
     nodes-refused h r (nodes.refusal k at) q = refused-alike c σ q
     nodes-refused h r (nodes.nodes at) q = no-header (sym q)
@@ -57,7 +57,7 @@ module _ (c : Load) (σ : Store) where
     list-refused h zero q = nodes-refused h (nodesOf c σ h) (nodesOf c σ h .answer) q
     list-refused h (suc k) q = refused-alike c σ q
 
-    header-refused : (a : Answer) → withHeader c σ a .answer ≡ refusal n line → withHeader c σ a ≡ refusedAt c σ n line
+    header-refused : (a : HeaderAnswer) → withHeader c σ a .answer ≡ refusal n line → withHeader c σ a ≡ refusedAt c σ n line
     header-refused (header h) q = list-refused h (beforeNodes c σ h) q
     header-refused (refusal k at) q = refused-alike c σ q
 
@@ -67,7 +67,7 @@ module _ (c : Load) (σ : Store) where
 
   -- a header is the answer only where all stages pass
   module _ (h : Header) where
-    nodes-pass : (g : Header) (r : nodes.Imported) (a : nodes.Answer) → withNodes c σ g r a .answer ≡ header h
+    nodes-pass : (g : Header) (r : nodes.Imported) (a : nodes.NodesAnswer) → withNodes c σ g r a .answer ≡ header h
         → (g ≡ h) × ((at : ℕ) × (a ≡ nodes.nodes at))
     nodes-pass g r (nodes.refusal k at) q = no-header q
     nodes-pass g r (nodes.nodes at) q = (one-header q, (at, refl))
@@ -79,7 +79,7 @@ module _ (c : Load) (σ : Store) where
         subst (Passes c σ) (w .0) (record { header-read = e; unrefused = b; at = w .1 .0; nodes-read = w .1 .1 })
     list-passes g e (suc k) b q = no-header q
 
-    header-passes : (a : Answer) → headerOf c σ .answer ≡ a → withHeader c σ a .answer ≡ header h → Passes c σ h
+    header-passes : (a : HeaderAnswer) → headerOf c σ .answer ≡ a → withHeader c σ a .answer ≡ header h → Passes c σ h
     header-passes (header g) e q = list-passes g e (beforeNodes c σ g) refl q
     header-passes (refusal k at) e q = no-header q
 

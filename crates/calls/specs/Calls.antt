@@ -35,12 +35,12 @@ exportInto s roots order names slots numbers out = record {
 }
 
 -- 'Export gives 1, 3, 4, 6, 5'; 0 of none
-abbrev pub faultOf : Export → Store → ℕ
-faultOf x σ = exportFault σ (x .roots) (x .order) (x .names) (x .slots) (x .numbers) (x .out)
+abbrev pub exportFaultOf : Export → Store → ℕ
+exportFaultOf x σ = exportFault σ (x .roots) (x .order) (x .names) (x .slots) (x .numbers) (x .out)
 
 -- what an export answers and leaves in its output: by its refusal
 abbrev pub Exports : Export → Store → Exported → List ℕ → Type 0
-Exports x σ r out = promise.Exports (faultOf x σ) (x .settings) σ (x .roots) (x .order) (x .names) (x .out) r out
+Exports x σ r out = promise.ExportsBy (exportFaultOf x σ) (x .settings) σ (x .roots) (x .order) (x .names) (x .out) r out
 
 -- what an evaluation answers: 'Evaluation gives 3, 4'
 abbrev pub evaluateOf : ℤ → List ℕ → Store → Read Bool

@@ -45,7 +45,7 @@ pub record Load : Type 0 where
 
 -- What a load leaves: its answer, the store, the list of roots as it was lent, and the entries of every other list, which zeros follow.
 pub record Loaded : Type 0 where
-  pub answer : head.Answer
+  pub answer : head.HeaderAnswer
   pub after : Store
   pub roots : List ℤ
   pub ids : List ℕ
@@ -71,24 +71,24 @@ refusedAt c σ n line = record {
 
 -- '1 (lists)': '1 a lent part too short: 4,096 entries for each variable list, 1,024 for each root list'. Of each check 0 stands for no
 -- refusal.
-abbrev pub listsFault : Lengths → ℕ
-listsFault l = head.listsFault (variableLists l) (rootLists l)
+abbrev pub lentFault : Lengths → ℕ
+lentFault l = head.listsFault (variableLists l) (rootLists l)
 
 -- '3 the store breaks its rules'
 abbrev pub storeFault : Store → ℕ
 storeFault σ = unless (keeps limits σ) 3
 
 -- '19 for the input's length': 'input 16,777,216 bytes (19, line 0, before all reading)'
-abbrev pub lengthFault : List ℕ → ℕ
-lengthFault f = head.lengthFault (length f)
+abbrev pub inputFault : List ℕ → ℕ
+inputFault f = head.lengthFault (length f)
 
 -- '1 (lists), 3, 19 for the input's length': the first of them
 unfoldable pub beforeHeader : Load → Store → ℕ
-beforeHeader c σ = firstFault (listsFault (c .lent) ∷ storeFault σ ∷ lengthFault (c .file) ∷ [])
+beforeHeader c σ = firstFault (lentFault (c .lent) ∷ storeFault σ ∷ inputFault (c .file) ∷ [])
 
 -- 'header'
-unfoldable pub headerOf : Load → Store → head.Loaded
-headerOf c σ = head.loadOf (beforeHeader c σ) (c .file)
+unfoldable pub headerOf : Load → Store → head.HeaderLoaded
+headerOf c σ = head.loadHeader (beforeHeader c σ) (c .file)
 
 -- '1 (scratch)': '1 a lent part too short: .. `.nnodes` for node scratch', by the lengths of its two lists
 unfoldable pub scratchFault : ℕ → ℕ → ℕ → ℕ
@@ -118,7 +118,7 @@ abbrev pub nodesOf : Load → Store → head.Header → nodes.Imported
 nodesOf c σ h =
     nodes.importOf (setupOf c (σ .levels) h) σ (c .file) (h .next) (laid (headerOf c σ .roots) (replicate (c .lent .roots) (pos 0)))
 
-abbrev pub withNodes : Load → Store → head.Header → nodes.Imported → nodes.Answer → Loaded
+abbrev pub withNodes : Load → Store → head.Header → nodes.Imported → nodes.NodesAnswer → Loaded
 withNodes c σ h r (nodes.refusal k line) = refusedAt c σ k line
 withNodes c σ h r (nodes.nodes at) = record {
   answer = head.header h;
@@ -138,7 +138,7 @@ withList c σ h (suc k) = refusedAt c σ (suc k) 0
 withList c σ h zero = withNodes c σ h (nodesOf c σ h) (nodesOf c σ h .answer)
 
 -- after the header
-abbrev pub withHeader : Load → Store → head.Answer → Loaded
+abbrev pub withHeader : Load → Store → head.HeaderAnswer → Loaded
 withHeader c σ (head.refusal n line) = refusedAt c σ n line
 withHeader c σ (head.header h) = withList c σ h (beforeNodes c σ h)
 

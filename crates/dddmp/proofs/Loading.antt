@@ -9,8 +9,8 @@ use Rattle.header_values.specs.Values.{pad}
 use Rattle.codes.specs.Faults.{firstFault}
 use Rattle.store.specs.Store.{Store}
 use Rattle.header.specs.Header as head
-use Rattle.header.specs.Header.{Answer}
-use Rattle.calls.specs.Load.{listsFault, storeFault, lengthFault, beforeHeader, headerOf, Parts, parts, lengthsOf, loadInto, partsOf, Load, Loaded, loadOf}
+use Rattle.header.specs.Header.{HeaderAnswer}
+use Rattle.calls.specs.Load.{lentFault, storeFault, inputFault, beforeHeader, headerOf, Parts, parts, lengthsOf, loadInto, partsOf, Load, Loaded, loadOf}
 use Rattle.stages.specs.Stages.{storeAfter, scratched, listed, Readable, nodesAfter, isRefusal, clearedIf}
 use Rattle.dddmp.proofs.Readable.{readable}
 use Rattle.dddmp.proofs.Staged.{ready, nodesLeft, left-load, Entries, loadEntries, headEntries, noEntries, cleared-list}
@@ -33,20 +33,20 @@ module _ (file list : List ℕ) (p : Parts) (σ : Store) where
   this = loadInto file list p
 
   -- what is found before the header: the lists, then the store, then the input's length
-  pub before-is : (lists found before : ℕ) → lists ≡ listsFault (lengthsOf p) → found ≡ storeAfter lists σ
+  pub before-is : (lists found before : ℕ) → lists ≡ lentFault (lengthsOf p) → found ≡ storeAfter lists σ
       → before ≡ head.lengthAfter found (length file) → before ≡ beforeHeader this σ
   unfolding beforeHeader storeAfter head.lengthAfter
   before-is lists found before l s e =
-      e ∙ ap (λ n. firstFault (n ∷ lengthFault file ∷ [])) (s ∙ ap (λ n. firstFault (n ∷ storeFault σ ∷ [])) l)
-      ∙ three-first (listsFault (lengthsOf p)) (storeFault σ) (lengthFault file)
+      e ∙ ap (λ n. firstFault (n ∷ inputFault file ∷ [])) (s ∙ ap (λ n. firstFault (n ∷ storeFault σ ∷ [])) l)
+      ∙ three-first (lentFault (lengthsOf p)) (storeFault σ) (inputFault file)
 
   module _ (before : ℕ) (s : before ≡ beforeHeader this σ) where
-    head-after : head.loadOf before file ≡ headerOf this σ
+    head-after : head.loadHeader before file ≡ headerOf this σ
     unfolding headerOf
-    head-after = ap (λ n. head.loadOf n file) s
+    head-after = ap (λ n. head.loadHeader n file) s
 
     -- the answers after the header, after scratch, and after the level list
-    module _ (a m b : Answer) (q : a ≡ head.loadOf before file .answer) (t : m ≡ scratched (length (p .edges)) (length (p .seats)) a)
+    module _ (a m b : HeaderAnswer) (q : a ≡ head.loadHeader before file .answer) (t : m ≡ scratched (length (p .edges)) (length (p .seats)) a)
         (r : b ≡ listed (σ .levels) list m) where
       head-answer : a ≡ headerOf this σ .answer
       head-answer = q ∙ ap (λ x. x .answer) head-after
@@ -60,7 +60,7 @@ module _ (file list : List ℕ) (p : Parts) (σ : Store) where
           subst (λ x. Readable x σ list (length (p .edges)) (length (p .seats))) ready-is (readable this σ (headerOf this σ .answer) refl)
 
       -- the roots' numbers as the header leaves them
-      module _ (n : List ℤ) (w : n ≡ laid (head.loadOf before file .roots) (replicate (length (p .roots)) (pos 0))) where
+      module _ (n : List ℤ) (w : n ≡ laid (head.loadHeader before file .roots) (replicate (length (p .roots)) (pos 0))) where
         numbers-are : n ≡ laid (headerOf this σ .roots) (replicate (length (p .roots)) (pos 0))
         numbers-are = w ∙ ap (λ x. laid (x .roots) (replicate (length (p .roots)) (pos 0))) head-after
 
@@ -71,7 +71,7 @@ module _ (file list : List ℕ) (p : Parts) (σ : Store) where
             ∙ ap (λ x. nodesAfter x σ file list (laid (headerOf this σ .roots) (replicate (length (p .roots)) (pos 0)))) (sym ready-is)
             ∙ sym (left-load this σ)
 
-        pub answer-left : (d : Answer) → d ≡ nodesAfter b σ file list n .answer → d ≡ loadOf this σ .answer
+        pub answer-left : (d : HeaderAnswer) → d ≡ nodesAfter b σ file list n .answer → d ≡ loadOf this σ .answer
         answer-left d e = e ∙ ap (λ x. x .answer) nodes-left
 
         pub store-left : (τ : Store) → τ ≡ nodesAfter b σ file list n .after → τ ≡ loadOf this σ .after
@@ -81,8 +81,8 @@ module _ (file list : List ℕ) (p : Parts) (σ : Store) where
         roots-left l e = e ∙ ap (λ x. x .roots) nodes-left
 
     -- a list as the header left it, cleared on a refusal, is what the load says
-    pub list-left : (d : Answer) → d ≡ loadOf this σ .answer → (n : ℕ) (g : Entries → List ℕ) → g noEntries ≡ []
-        → (l : List ℕ) → l ≡ pad n (g (headEntries (head.loadOf before file))) → (out : List ℕ) → out ≡ clearedIf (isRefusal d) l
+    pub list-left : (d : HeaderAnswer) → d ≡ loadOf this σ .answer → (n : ℕ) (g : Entries → List ℕ) → g noEntries ≡ []
+        → (l : List ℕ) → l ≡ pad n (g (headEntries (head.loadHeader before file))) → (out : List ℕ) → out ≡ clearedIf (isRefusal d) l
         → out ≡ pad n (g (loadEntries (loadOf this σ)))
     list-left d e n g z l v out o =
         o ∙ ap (λ x. clearedIf (isRefusal x) l) e

@@ -13,7 +13,7 @@ use Rattle.read_lines.specs.Line.{lineOf}
 use Rattle.header_keys.specs.Keys.{slotOf}
 use Rattle.header_keys.specs.declared.Key.the-variants.{Nodes}
 use Rattle.header_lines.specs.Sweep.{keyAt, valueAt, said}
-use Rattle.header_lines.specs.Sweep.{Lines, cut, nodes, line, Said, End, atNodes, refusedAt, faultIn, linesFrom, linesOf, endFrom, endOf}
+use Rattle.header_lines.specs.Sweep.{Lines, cut, nodes, line, Said, SweepEnd, atNodes, refusedAt, faultIn, linesFrom, linesOf, endFrom, endOf}
 use Rattle.header_values.specs.Values.{nnodesIn, nvarsIn, nsuppvarsIn}
 use Rattle.codes.specs.Faults.{firstFault}
 use Rattle.header_checks.specs.Whole.{numberFaults, supportFaults, nameCountFaults, nameFaults, rootFaults, wholeFault}
@@ -21,7 +21,7 @@ use Rattle.codes.proofs.Faults.{first-none, rest-none, front-none}
 use Rattle.codes.proofs.Refusals.{within-none}
 use Rattle.header_checks.proofs.Accepted as whole
 use Rattle.store.specs.Store.{Store}
-use Rattle.header.specs.Header.{Header, Answer, header, refusal, tableOf, headerIn}
+use Rattle.header.specs.Header.{Header, HeaderAnswer, header, refusal, tableOf, headerIn}
 use Rattle.level_list.specs.List.{listFits}
 use Rattle.imported.specs.Import.{Bounded}
 use Rattle.level_list.proofs.LevelLists.{list-levels}
@@ -119,7 +119,7 @@ module _ (c : Load) (σ : Store) where
   checked-readable h S (suc k) q = tt
 
   -- What scratch and level list let pass, the nodes can lean on.
-  pub readable : (a : Answer) → headerOf c σ .answer ≡ a → Readable (ready c σ a) σ (c .list) (c .lent .edges) (c .lent .seats)
+  pub readable : (a : HeaderAnswer) → headerOf c σ .answer ≡ a → Readable (ready c σ a) σ (c .list) (c .lent .edges) (c .lent .seats)
   readable (header h) q =
       subst (λ a. Readable a σ (c .list) (c .lent .edges) (c .lent .seats)) (sym (ready-header c σ h))
       (checked-readable h (answer-stands c σ h q) _ refl)

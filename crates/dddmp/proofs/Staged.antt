@@ -14,7 +14,7 @@ use Rattle.codes.specs.Faults.{firstFault}
 use Rattle.codes.proofs.Faults.{last-check}
 use Rattle.store.specs.Store.{Store}
 use Rattle.header.specs.Header as head
-use Rattle.header.specs.Header.{Header, Answer, header, refusal}
+use Rattle.header.specs.Header.{Header, HeaderAnswer, header, refusal}
 use Rattle.imported.specs.Build.{Built}
 use Rattle.imported.specs.Import as nodes
 use Rattle.calls.specs.Load.{Load, Loaded, refusedAt, scratchFault, listFault, beforeNodes, headerOf, setupFor, nodesOf, withNodes, withList, withHeader, loadOf}
@@ -46,7 +46,7 @@ module _ (c : Load) (σ : Store) where
   numbers-long = length-laid (headerOf c σ .roots) (replicate (c .lent .roots) (pos 0)) ∙ length-replicate (c .lent .roots) (pos 0)
 
   -- the answer after scratch and level list
-  abbrev pub ready : Answer → Answer
+  abbrev pub ready : HeaderAnswer → HeaderAnswer
   ready a = listed (σ .levels) (c .list) (scratched (c .lent .edges) (c .lent .seats) a)
 
   -- of a header
@@ -64,7 +64,7 @@ module _ (c : Load) (σ : Store) where
   left-refused n line = ap (λ r. record { answer = refusal n line; after = σ; roots = r }) numbers-zero
 
   -- nodes that are read or refused
-  left-imported : (h : Header) (b : Built) (a : nodes.Answer)
+  left-imported : (h : Header) (b : Built) (a : nodes.NodesAnswer)
       → nodesLeft (withNodes c σ h (nodes.importedBy numbersRead σ b a) a) ≡ noded h (nodes.importedBy numbersRead σ b a)
   left-imported h b (nodes.nodes at) = refl
   left-imported h b (nodes.refusal k line) =
@@ -84,7 +84,7 @@ module _ (c : Load) (σ : Store) where
   left-checked h (suc k) = left-refused (suc k) 0
 
   -- after the header
-  left-header : (a : Answer) → nodesLeft (withHeader c σ a) ≡ nodesAfter (ready a) σ (c .file) (c .list) numbersRead
+  left-header : (a : HeaderAnswer) → nodesLeft (withHeader c σ a) ≡ nodesAfter (ready a) σ (c .file) (c .list) numbersRead
   left-header (header h) =
       left-checked h (beforeNodes c σ h) ∙ ap (λ a. nodesAfter a σ (c .file) (c .list) numbersRead) (sym (ready-header h))
   left-header (refusal n line) = left-refused n line
@@ -113,7 +113,7 @@ loadEntries r = record {
   rootnames = r .rootnames;
 }
 
-abbrev pub headEntries : head.Loaded → Entries
+abbrev pub headEntries : head.HeaderLoaded → Entries
 headEntries r = record {
   ids = r .ids;
   order = r .order;
@@ -135,7 +135,7 @@ module _ (c : Load) (σ : Store) where
   abbrev Cleared : Loaded → Type 0
   Cleared r = loadEntries r ≡ unlessRefusal (isRefusal (r .answer)) (headEntries (headerOf c σ))
 
-  cleared-nodes : (h : Header) (r : nodes.Imported) (a : nodes.Answer) → Cleared (withNodes c σ h r a)
+  cleared-nodes : (h : Header) (r : nodes.Imported) (a : nodes.NodesAnswer) → Cleared (withNodes c σ h r a)
   cleared-nodes h r (nodes.nodes at) = refl
   cleared-nodes h r (nodes.refusal k line) = refl
 
@@ -143,7 +143,7 @@ module _ (c : Load) (σ : Store) where
   cleared-checked h zero = cleared-nodes h (nodesOf c σ h) (nodesOf c σ h .answer)
   cleared-checked h (suc k) = refl
 
-  cleared-header : (a : Answer) → Cleared (withHeader c σ a)
+  cleared-header : (a : HeaderAnswer) → Cleared (withHeader c σ a)
   cleared-header (header h) = cleared-checked h (beforeNodes c σ h)
   cleared-header (refusal n line) = refl
 

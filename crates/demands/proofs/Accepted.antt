@@ -27,7 +27,7 @@ module _ (c : Load) (σ : Store) where
 
   -- the nodes are read exactly where they are accepted
   nodes-accept : (h : Header) → Rules limits σ → LevelsOf σ (c .list)
-      → ((at : ℕ) × (nodesOf c σ h .answer ≡ nodes at)) ↔ accept.Accepts (setupOf c (σ .levels) h) σ (c .file) (h .next)
+      → ((at : ℕ) × (nodesOf c σ h .answer ≡ nodes at)) ↔ accept.NodesAccepted (setupOf c (σ .levels) h) σ (c .file) (h .next)
   nodes-accept h R W = import-accepted.accepted (setupOf c (σ .levels) h) σ (c .file) (h .next) _ R W
 
   -- the header that an accepted file says

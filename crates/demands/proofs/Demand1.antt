@@ -12,8 +12,8 @@ use Rattle.exporter.specs.Promise as promise
 use Rattle.exporter.specs.declared.Exported.{Exported}
 use Rattle.calls.specs.Load.{Load, refusedAt, partsOf, loadOf}
 use Rattle.demands.specs.Lists.{Call, leaves}
-use Rattle.calls.specs.Calls.{Export, Exports, faultOf}
-use Rattle.demands.specs.Outcome.{accepted, refusal, ofAnswer, ofRead, numbers, edges, Zeros, AllZeros, Outcome, outputsOf, Leaves}
+use Rattle.calls.specs.Calls.{Export, Exports, exportFaultOf}
+use Rattle.demands.specs.Outcome.{accepted, refusal, verdictOf, verdictRead, numbers, edges, Zeros, AllZeros, Outcome, outputsOf, Leaves}
 use Rattle.demands.specs.Outcome.{loads, evaluates, exports}
 use Rattle.calls.proofs.Passes.{load-refused}
 
@@ -40,21 +40,21 @@ module _ (c : Load) (σ : Store) where
       and-zeros (l .ids) (and-zeros (l .order) (and-zeros (l .permids) (and-zeros (l .auxids)
       (and-zeros (l .names) (and-zeros (l .lens) (no-edges (l .roots), and-zeros (l .rootnames) (and-zeros (l .rootlens) tt)))))))
 
-  load-nothing : (n line : ℕ) → ofAnswer (loadOf c σ .answer) ≡ refusal n line
+  load-nothing : (n line : ℕ) → verdictOf (loadOf c σ .answer) ≡ refusal n line
       → (loadOf c σ .after ≡ σ) × AllZeros (outputsOf (partsOf (c .lent) (loadOf c σ)))
   load-nothing n line q = go (loadOf c σ .answer) refl q
     where
-      go : (a : head.Answer) → loadOf c σ .answer ≡ a → ofAnswer a ≡ refusal n line
+      go : (a : head.HeaderAnswer) → loadOf c σ .answer ≡ a → verdictOf a ≡ refusal n line
           → (loadOf c σ .after ≡ σ) × AllZeros (outputsOf (partsOf (c .lent) (loadOf c σ)))
       go (head.header h) e q = not-refused q
       go (head.refusal k at) e q = rw (load-refused c σ k at e) (refl, refused-zeros k at)
 
 -- the output of a refused export holds zeros
 export-nothing : (x : Export) (σ : Store) (r : Exported) (out : List ℕ) (n line : ℕ) → Exports x σ r out
-    → ofRead (promise.ofExported r) ≡ refusal n line → Zeros (numbers out)
-export-nothing x σ r out n line w q = go (faultOf x σ) w
+    → verdictRead (promise.ofExported r) ≡ refusal n line → Zeros (numbers out)
+export-nothing x σ r out n line w q = go (exportFaultOf x σ) w
   where
-    go : (k : ℕ) → promise.Exports k (x .settings) σ (x .roots) (x .order) (x .names) (x .out) r out → Zeros (numbers out)
+    go : (k : ℕ) → promise.ExportsBy k (x .settings) σ (x .roots) (x .order) (x .names) (x .out) r out → Zeros (numbers out)
     go zero w = not-refused (rw (w .answer) at q)
     go (suc k) w = rw (w .bytes) (zeros (x .out))
 

@@ -15,7 +15,7 @@ use Rattle.store.specs.Keeps.{rules-keeps}
 use Rattle.store.specs.Settings.{chosen}
 use Rattle.evaluation.specs.Evaluation.{evaluation}
 use Rattle.store.specs.Empty.{empty}
-use Rattle.demands.specs.Lists.{Call, run}
+use Rattle.demands.specs.Lists.{Call, runCalls}
 use Rattle.calls.specs.Calls.{evaluateOf}
 use Rattle.demands.specs.Roots.{Meaning, Means, Root}
 use Rattle.evaluation.specs.SettingBytes.{bytesOf}
@@ -41,7 +41,7 @@ module _ (levels slots : ℕ) (cs : List Call) (a : Root levels slots cs) (s : L
       (q ∙ sym (levels-after levels slots cs k))
 
   -- So does evaluating it after the whole list.
-  pub evaluates-as-given : evaluateOf (a .edge) (bytesOf s) (run (empty levels slots) cs) ≡ value (a .meaning (chosen s))
+  pub evaluates-as-given : evaluateOf (a .edge) (bytesOf s) (runCalls (empty levels slots) cs) ≡ value (a .meaning (chosen s))
   evaluates-as-given =
-      ap (λ l. evaluateOf (a .edge) (bytesOf s) (run (empty levels slots) l)) (sym (take-all (suc (length cs)) cs (omega arith)))
+      ap (λ l. evaluateOf (a .edge) (bytesOf s) (runCalls (empty levels slots) l)) (sym (take-all (suc (length cs)) cs (omega arith)))
       ∙ evaluates-later (length cs) (omega (arith, at-below (a .at)))

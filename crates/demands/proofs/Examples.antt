@@ -24,7 +24,7 @@ use Rattle.header_lines.specs.Sweep.{linesFrom, linesOf, endFrom, endOf, allOf,
 use Rattle.seats.specs.Seats.{seatOf}
 use Rattle.seats.specs.Ordered.{ascending, distinct}
 use Rattle.support.specs.Support.{lastBelow, idsFit, allBelow, permidsFit, orderFrom, supportOrder}
-use Rattle.variable_names.specs.Names.{places, sameBytes, sameName, sameNames, chosen, freeFrom, orderedFrom, orderedSeats, suppFrom, suppSeats, variableNames}
+use Rattle.variable_names.specs.Names.{places, sameBytes, sameName, sameNames, chosenPlaces, freeFrom, orderedFrom, orderedSeats, suppFrom, suppSeats, variableNames}
 use Rattle.file_roots.specs.Roots.{rootsFault}
 use Rattle.header_values.specs.Values.{spans, numberIn, asciiIn, varinfoIn, ddIn, u32sIn, namesIn, rootsIn}
 use Rattle.header_checks.specs.Names.{upFrom, agree, variableNamesIn}
@@ -47,16 +47,16 @@ use Rattle.import_ascii.specs.Text.{wordFrom, numbered, afterExtra, variableWor
 use Rattle.imported.specs.Build.{edgeFor, addLine, buildOn, build}
 use Rattle.imported.specs.Import.{lineBy, linesIn, linesAnswer, blankAll, endsWell, importOf}
 use Rattle.level_list.specs.List.{listFits}
-use Rattle.calls.specs.Load.{Load, refusedAt, listsFault, lengthFault, beforeHeader, scratchFault, listFault, beforeNodes, headerOf, setupOf, nodesOf, withHeader, loadOf}
+use Rattle.calls.specs.Load.{Load, refusedAt, lentFault, inputFault, beforeHeader, scratchFault, listFault, beforeNodes, headerOf, setupOf, nodesOf, withHeader, loadOf}
 use Rattle.demands.specs.Roots.{fileSays}
-use Rattle.demands.specs.Examples.{bare, bareHeader, example, exampleHeader}
+use Rattle.demands.specs.Examples.{bareLoad, bareHeader, exampleLoad, exampleHeader}
 use Rattle.calls.proofs.HeaderStands.{answer-roots}
 use Rattle.calls.proofs.Passes.{Passes, load-refused, passes-load}
 use Rattle.demands.proofs.RootsAnswer.{roots-answer}
 
 -- the header of a load, by whether the store keeps the rules
-abbrev pub headerBy : Load → Bool → head.Loaded
-headerBy c kept = head.loadOf (firstFault (listsFault (c .lent) ∷ unless kept 3 ∷ lengthFault (c .file) ∷ [])) (c .file)
+abbrev pub headerBy : Load → Bool → head.HeaderLoaded
+headerBy c kept = head.loadHeader (firstFault (lentFault (c .lent) ∷ unless kept 3 ∷ inputFault (c .file) ∷ [])) (c .file)
 
 pub header-by : (c : Load) (σ : Store) {b : Bool} → keeps limits σ ≡ b → headerOf c σ ≡ headerBy c b
 unfolding headerOf beforeHeader
@@ -70,38 +70,38 @@ pub kept : (levels slots : ℕ) → levels ≤ varLimit → 1 ≤ slots → keep
 kept levels slots h k = rules-keeps limits (empty levels slots) (empty-keeps levels slots .1 (k, h))
 
 -- without a slot a file is refused with 3
-pub bare-breaks : loadOf bare (empty 0 0) ≡ refusedAt bare (empty 0 0) 3 0
-unfolding loadOf head.loadOf head.listsFault firstFault atLeast
+pub bare-breaks : loadOf bareLoad (empty 0 0) ≡ refusedAt bareLoad (empty 0 0) 3 0
+unfolding loadOf head.loadHeader head.listsFault firstFault atLeast
 bare-breaks =
-    load-refused bare (empty 0 0) 3 0 (ap (λ r. withHeader bare (empty 0 0) (r .answer) .answer) (header-by bare (empty 0 0) (breaks 0)))
+    load-refused bareLoad (empty 0 0) 3 0 (ap (λ r. withHeader bareLoad (empty 0 0) (r .answer) .answer) (header-by bareLoad (empty 0 0) (breaks 0)))
 
 -- with one it is accepted
-bare-header : headerBy bare true .answer ≡ head.header bareHeader
-unfolding run isBlank isLineEnd isOf seek trim feedAt lineOf keyEnd fieldOf single judge u32List wordsFrom words edgeEnd edgeList isUtf8 nameList textAt alike lookup keyOf linesFrom linesOf endFrom endOf allOf lastFrom lastOf lasts ascending lastBelow idsFit allBelow distinct permidsFit rootsFault numberIn asciiIn varinfoIn ddIn u32sIn namesIn rootsIn agree firstFault numberFaults supportFaults nameCountFaults nameFaults rootFaults wholeFault tableOf readOf head.lengthFault atLeast head.listsFault head.loadOf
+bare-header : headerBy bareLoad true .answer ≡ head.header bareHeader
+unfolding run isBlank isLineEnd isOf seek trim feedAt lineOf keyEnd fieldOf single judge u32List wordsFrom words edgeEnd edgeList isUtf8 nameList textAt alike lookup keyOf linesFrom linesOf endFrom endOf allOf lastFrom lastOf lasts ascending lastBelow idsFit allBelow distinct permidsFit rootsFault numberIn asciiIn varinfoIn ddIn u32sIn namesIn rootsIn agree firstFault numberFaults supportFaults nameCountFaults nameFaults rootFaults wholeFault tableOf readOf head.lengthFault atLeast head.listsFault head.loadHeader
 bare-header = refl
 
-bare-passes : Passes bare (empty 0 1) bareHeader
+bare-passes : Passes bareLoad (empty 0 1) bareHeader
 unfolding isBlank isLineEnd isWhitespace alike ascending lastBelow idsFit decodeFrom buildOn build linesIn linesAnswer blankAll endsWell importOf listFits beforeNodes scratchFault listFault firstFault
 bare-passes = record {
-  header-read = ap (λ r. r .answer) (header-by bare (empty 0 1) (kept 0 1 (omega arith) (omega arith))) ∙ bare-header;
+  header-read = ap (λ r. r .answer) (header-by bareLoad (empty 0 1) (kept 0 1 (omega arith) (omega arith))) ∙ bare-header;
   unrefused = refl;
   at = 7;
   nodes-read = refl;
 }
 
-pub bare-loads : loadOf bare (empty 0 1) .answer ≡ head.header bareHeader
-bare-loads = ap (λ r. r .answer) (passes-load bare (empty 0 1) bareHeader bare-passes)
+pub bare-loads : loadOf bareLoad (empty 0 1) .answer ≡ head.header bareHeader
+bare-loads = ap (λ r. r .answer) (passes-load bareLoad (empty 0 1) bareHeader bare-passes)
 
 -- the header of document 01's example
-example-header : headerBy example true ≡ exampleLoaded
-unfolding run isBlank isDigit isLineEnd isOf seek trim feedAt lineOf keyEnd valueStart valueEnd fieldOf digit number single judge u32List wordsFrom words entryStep edgeAt edgeEnd edgeList utf8Next isUtf8 nameList textAt alike lookup keyOf versionFault modeFault varinfoFault textFault singleFault u32ListFault rootListFault nameListFault faultOf linesFrom linesOf endFrom endOf allOf lastFrom lastOf lasts seatOf ascending lastBelow idsFit allBelow distinct permidsFit orderFrom supportOrder places sameBytes sameName sameNames chosen freeFrom orderedFrom orderedSeats suppFrom suppSeats variableNames rootsFault spans numberIn asciiIn varinfoIn ddIn u32sIn namesIn rootsIn upFrom agree variableNamesIn firstFault numberFaults supportFaults nameCountFaults nameFaults rootFaults wholeFault tableOf readOf head.lengthFault atLeast head.listsFault head.loadOf
+example-header : headerBy exampleLoad true ≡ exampleLoaded
+unfolding run isBlank isDigit isLineEnd isOf seek trim feedAt lineOf keyEnd valueStart valueEnd fieldOf digit number single judge u32List wordsFrom words entryStep edgeAt edgeEnd edgeList utf8Next isUtf8 nameList textAt alike lookup keyOf versionFault modeFault varinfoFault textFault singleFault u32ListFault rootListFault nameListFault faultOf linesFrom linesOf endFrom endOf allOf lastFrom lastOf lasts seatOf ascending lastBelow idsFit allBelow distinct permidsFit orderFrom supportOrder places sameBytes sameName sameNames chosenPlaces freeFrom orderedFrom orderedSeats suppFrom suppSeats variableNames rootsFault spans numberIn asciiIn varinfoIn ddIn u32sIn namesIn rootsIn upFrom agree variableNamesIn firstFault numberFaults supportFaults nameCountFaults nameFaults rootFaults wholeFault tableOf readOf head.lengthFault atLeast head.listsFault head.loadHeader
 example-header = refl
 
-example-read : (σ : Store) → keeps limits σ ≡ true → headerOf example σ ≡ exampleLoaded
-example-read σ q = header-by example σ q ∙ example-header
+example-read : (σ : Store) → keeps limits σ ≡ true → headerOf exampleLoad σ ≡ exampleLoaded
+example-read σ q = header-by exampleLoad σ q ∙ example-header
 
 -- it is accepted where there is a slot for each of its nodes
-example-passes : Passes example (empty 2 3) exampleHeader
+example-passes : Passes exampleLoad (empty 2 3) exampleHeader
 unfolding run isBlank isDigit isLineEnd isWhitespace isOf seek trim feedAt lineOf digit number single first wordsFrom words entryStep edgeAt edgeEnd edgeList children alike ascending lastBelow idsFit deeper childFault decodeFrom wordFrom numbered afterExtra variableWord textLine textLineAt minus eqZ empty findUpTo find added insert make edgeFor addLine buildOn build lineBy linesIn linesAnswer blankAll endsWell importOf listFits beforeNodes scratchFault listFault firstFault
 example-passes = record {
   header-read = ap (λ r. r .answer) (example-read (empty 2 3) (kept 2 3 (omega arith) (omega arith)));
@@ -110,29 +110,29 @@ example-passes = record {
   nodes-read = refl;
 }
 
-pub example-loads : loadOf example (empty 2 3) .answer ≡ head.header exampleHeader
-example-loads = ap (λ r. r .answer) (passes-load example (empty 2 3) exampleHeader example-passes)
+pub example-loads : loadOf exampleLoad (empty 2 3) .answer ≡ head.header exampleHeader
+example-loads = ap (λ r. r .answer) (passes-load exampleLoad (empty 2 3) exampleHeader example-passes)
 
 -- its roots, in an empty store, are 3 and -3
-pub example-roots : loadOf example (empty 2 3) .roots ≡ pos 3 ∷ negsuc 2 ∷ replicate 1022 (pos 0)
+pub example-roots : loadOf exampleLoad (empty 2 3) .roots ≡ pos 3 ∷ negsuc 2 ∷ replicate 1022 (pos 0)
 unfolding run isBlank isDigit isLineEnd isWhitespace isOf seek trim feedAt lineOf digit number single first wordsFrom words entryStep edgeAt edgeEnd edgeList children alike ascending lastBelow idsFit deeper childFault decodeFrom wordFrom numbered afterExtra variableWord textLine textLineAt minus eqZ empty findUpTo find added insert make edgeFor addLine buildOn build lineBy linesIn linesAnswer blankAll endsWell importOf listFits beforeNodes scratchFault listFault firstFault laid
 example-roots =
-    ap (λ r. r .roots) (passes-load example (empty 2 3) exampleHeader example-passes)
-    ∙ ap (λ r. importOf (setupOf example 2 exampleHeader) (empty 2 3) (example .file) 192 (laid (r .roots) (replicate 1024 (pos 0))) .roots)
+    ap (λ r. r .roots) (passes-load exampleLoad (empty 2 3) exampleHeader example-passes)
+    ∙ ap (λ r. importOf (setupOf exampleLoad 2 exampleHeader) (empty 2 3) (exampleLoad .file) 192 (laid (r .roots) (replicate 1024 (pos 0))) .roots)
     (example-read (empty 2 3) (kept 2 3 (omega arith) (omega arith)))
 
 -- its lines, and the numbers of its roots
-example-lines : linesIn (setupOf example 2 exampleHeader) (example .file) 192 .lines
+example-lines : linesIn (setupOf exampleLoad 2 exampleHeader) (exampleLoad .file) 192 .lines
     ≡ terminal ∷ inner 1 (pos 1) (negsuc 0) ∷ inner 0 (pos 2) (negsuc 0) ∷ []
 unfolding run isBlank isDigit isLineEnd isOf seek trim feedAt lineOf digit number single first wordsFrom words entryStep edgeAt edgeEnd edgeList children deeper childFault decodeFrom wordFrom numbered afterExtra variableWord textLine textLineAt minus eqZ lineBy linesIn alike
 example-lines = refl
 
-example-ids : rootsIn (example .file) (tableOf (example .file)) ≡ pos 3 ∷ negsuc 2 ∷ []
+example-ids : rootsIn (exampleLoad .file) (tableOf (exampleLoad .file)) ≡ pos 3 ∷ negsuc 2 ∷ []
 example-ids =
-    sym (answer-roots _ (example .file) exampleHeader (ap (λ r. r .answer) example-header)) ∙ ap (λ r. r .roots) example-header
+    sym (answer-roots _ (exampleLoad .file) exampleHeader (ap (λ r. r .answer) example-header)) ∙ ap (λ r. r .roots) example-header
 
 -- its first root says yes just where both levels are yes
-pub example-says : (a b : Bool) → fileSays example 2 exampleHeader 0 (settings.chosen (a ∷ b ∷ [])) ≡ (a && b)
+pub example-says : (a b : Bool) → fileSays exampleLoad 2 exampleHeader 0 (settings.chosen (a ∷ b ∷ [])) ≡ (a && b)
 unfolding says saysBy turn
 example-says a b = rw (example-lines, example-ids) (go a b)
   where
@@ -143,24 +143,24 @@ example-says a b = rw (example-lines, example-ids) (go a b)
     go false false = refl
 
 -- with a slot less it is refused with 40
-pub example-crowded : loadOf example (empty 2 2) ≡ refusedAt example (empty 2 2) 40 0
+pub example-crowded : loadOf exampleLoad (empty 2 2) ≡ refusedAt exampleLoad (empty 2 2) 40 0
 unfolding run isBlank isDigit isLineEnd isWhitespace isOf seek trim feedAt lineOf digit number single first wordsFrom words entryStep edgeAt edgeEnd edgeList children alike ascending lastBelow idsFit deeper childFault decodeFrom wordFrom numbered afterExtra variableWord textLine textLineAt minus eqZ empty findUpTo find added insert make edgeFor addLine buildOn build lineBy linesIn linesAnswer blankAll endsWell importOf listFits beforeNodes scratchFault listFault firstFault loadOf
 example-crowded =
-    load-refused example (empty 2 2) 40 0
-    (ap (λ a. withHeader example (empty 2 2) a .answer)
+    load-refused exampleLoad (empty 2 2) 40 0
+    (ap (λ a. withHeader exampleLoad (empty 2 2) a .answer)
     (ap (λ r. r .answer) (example-read (empty 2 2) (kept 2 2 (omega arith) (omega arith)))))
 
 -- the store that the example leaves
 abbrev filled : Store
-filled = nodesOf example (empty 2 3) exampleHeader .after
+filled = nodesOf exampleLoad (empty 2 3) exampleHeader .after
 
-after-filled : loadOf example (empty 2 3) .after ≡ filled
-after-filled = ap (λ r. r .after) (passes-load example (empty 2 3) exampleHeader example-passes)
+after-filled : loadOf exampleLoad (empty 2 3) .after ≡ filled
+after-filled = ap (λ r. r .after) (passes-load exampleLoad (empty 2 3) exampleHeader example-passes)
 
 filled-kept : keeps limits filled ≡ true
-filled-kept = rules-keeps limits filled (subst (Rules limits) after-filled (roots-answer example (empty 2 3) exampleHeader example-loads .rules))
+filled-kept = rules-keeps limits filled (subst (Rules limits) after-filled (roots-answer exampleLoad (empty 2 3) exampleHeader example-loads .rules))
 
-again-passes : Passes example filled exampleHeader
+again-passes : Passes exampleLoad filled exampleHeader
 unfolding run isBlank isDigit isLineEnd isWhitespace isOf seek trim feedAt lineOf digit number single first wordsFrom words entryStep edgeAt edgeEnd edgeList children alike ascending lastBelow idsFit deeper childFault decodeFrom wordFrom numbered afterExtra variableWord textLine textLineAt minus eqZ empty findUpTo find added insert make edgeFor addLine buildOn build lineBy linesIn linesAnswer blankAll endsWell importOf listFits beforeNodes scratchFault listFault firstFault
 again-passes = record {
   header-read = ap (λ r. r .answer) (example-read filled filled-kept);
@@ -170,6 +170,6 @@ again-passes = record {
 }
 
 -- full as it is, it takes the example again
-pub again-loads : loadOf example (loadOf example (empty 2 3) .after) .answer ≡ head.header exampleHeader
+pub again-loads : loadOf exampleLoad (loadOf exampleLoad (empty 2 3) .after) .answer ≡ head.header exampleHeader
 again-loads =
-    ap (λ τ. loadOf example τ .answer) after-filled ∙ ap (λ r. r .answer) (passes-load example filled exampleHeader again-passes)
+    ap (λ τ. loadOf exampleLoad τ .answer) after-filled ∙ ap (λ r. r .answer) (passes-load exampleLoad filled exampleHeader again-passes)

@@ -8,9 +8,9 @@ use Rattle.store.specs.Store.{Store}
 use Rattle.store.specs.Rules.{limits, Rules}
 use Rattle.store.specs.Growth.{Grows}
 use Rattle.store.proofs.Growth.{grows-refl, grows-trans}
-use Rattle.header.specs.Header.{Answer, header, refusal}
+use Rattle.header.specs.Header.{HeaderAnswer, header, refusal}
 use Rattle.calls.specs.Load.{Load, loadOf}
-use Rattle.demands.specs.Lists.{Call, load, evaluate, export, leaves, run, before}
+use Rattle.demands.specs.Lists.{Call, load, evaluate, export, leaves, runCalls, before}
 use Rattle.demands.specs.Roots.{At, here, later}
 use Rattle.calls.proofs.Passes.{load-refused}
 use Rattle.demands.proofs.RootsAnswer.{roots-answer}
@@ -19,7 +19,7 @@ use Rattle.demands.proofs.RootsAnswer.{roots-answer}
 load-grows : (c : Load) (σ : Store) → Grows σ (loadOf c σ .after)
 load-grows c σ = go (loadOf c σ .answer) refl
   where
-    go : (a : Answer) → loadOf c σ .answer ≡ a → Grows σ (loadOf c σ .after)
+    go : (a : HeaderAnswer) → loadOf c σ .answer ≡ a → Grows σ (loadOf c σ .after)
     go (header h) q = roots-answer c σ h q .grows
     go (refusal n line) q = rw (load-refused c σ n line q) (grows-refl σ)
 
@@ -30,14 +30,14 @@ call-grows (evaluate e s) σ = grows-refl σ
 call-grows (export x) σ = grows-refl σ
 
 -- and a list of calls
-pub run-grows : (σ : Store) (cs : List Call) → Grows σ (run σ cs)
-unfolding run
+pub run-grows : (σ : Store) (cs : List Call) → Grows σ (runCalls σ cs)
+unfolding runCalls
 run-grows σ [] = grows-refl σ
 run-grows σ (c ∷ cs) = grows-trans (call-grows c σ) (run-grows (leaves c σ) cs)
 
 -- the store before a place grows into that before a later one
 pub before-grows : (σ : Store) (cs : List Call) (j k : ℕ) → j ≤ k → Grows (before σ cs j) (before σ cs k)
-unfolding run
+unfolding runCalls
 before-grows σ cs zero k h = run-grows σ (take k cs)
 before-grows σ cs (suc j) zero h = absurd (omega arith)
 before-grows σ [] (suc j) (suc k) h = grows-refl σ
@@ -45,7 +45,7 @@ before-grows σ (c ∷ cs) (suc j) (suc k) h = before-grows (leaves c σ) cs j k
 
 -- what a call leaves is the store before the next place
 pub next-before : (σ : Store) {cs : List Call} {k : ℕ} {c : Call} → At cs k c → leaves c (before σ cs k) ≡ before σ cs (suc k)
-unfolding run
+unfolding runCalls
 next-before σ here = refl
 next-before σ (later {d = d} p) = next-before (leaves d σ) p
 
@@ -58,7 +58,7 @@ after-grows σ {cs} {j} p k h = rw (next-before σ p) (before-grows σ cs (suc j
 load-rules : (c : Load) (σ : Store) → Rules limits σ → Rules limits (loadOf c σ .after)
 load-rules c σ R = go (loadOf c σ .answer) refl
   where
-    go : (a : Answer) → loadOf c σ .answer ≡ a → Rules limits (loadOf c σ .after)
+    go : (a : HeaderAnswer) → loadOf c σ .answer ≡ a → Rules limits (loadOf c σ .after)
     go (header h) q = roots-answer c σ h q .rules
     go (refusal n line) q = rw (load-refused c σ n line q) R
 
@@ -69,14 +69,14 @@ call-rules (evaluate e s) σ R = R
 call-rules (export x) σ R = R
 
 -- and a list of calls
-run-rules : (σ : Store) (cs : List Call) → Rules limits σ → Rules limits (run σ cs)
-unfolding run
+run-rules : (σ : Store) (cs : List Call) → Rules limits σ → Rules limits (runCalls σ cs)
+unfolding runCalls
 run-rules σ [] R = R
 run-rules σ (c ∷ cs) R = run-rules (leaves c σ) cs (call-rules c σ R)
 
 -- where the store keeps the rules before a place, it does before every later one
 before-rules : (σ : Store) (cs : List Call) (j k : ℕ) → j ≤ k → Rules limits (before σ cs j) → Rules limits (before σ cs k)
-unfolding run
+unfolding runCalls
 before-rules σ cs zero k h R = run-rules σ (take k cs) R
 before-rules σ cs (suc j) zero h R = absurd (omega arith)
 before-rules σ [] (suc j) (suc k) h R = R

@@ -21,7 +21,7 @@ use Rattle.imported.specs.Import.{nodes}
 use Rattle.heading.specs.Tables.{Lent}
 use Rattle.exported.specs.Settings.{Settings}
 use Rattle.exported.specs.Export.{exportFault, headingOf}
-use Rattle.exporter.specs.Promise.{ofExported, Writes, Exports}
+use Rattle.exporter.specs.Promise.{ofExported, Writes, ExportsBy}
 use Rattle.exporter.specs.declared.Exported.{Exported}
 use Rattle.exported.proofs.Accepted.{accepted}
 use Rattle.reading_header.specs.HeaderBack.{headerFor, loadedFrom}
@@ -49,8 +49,8 @@ module _ {s : Settings} {σ : Store} {roots : List ℤ} {order : List ℕ} {p : 
 
   -- neither lists nor store are refused: what is read is the file's header by itself
   header-lists : headerOf c σ ≡ loadedFrom f
-  unfolding headerOf head.loadOf answerOf
-  header-lists = ap (λ n. head.loadOf n f) (length-left c σ (long .variables) (long .roots) (rules-keeps limits σ R))
+  unfolding headerOf head.loadHeader answerOf
+  header-lists = ap (λ n. head.loadHeader n f) (length-left c σ (long .variables) (long .roots) (rules-keeps limits σ R))
 
   header-read : headerOf c σ .answer ≡ header h
   header-read = ap (λ r. r .answer) header-lists ∙ lists-answer f (answerOf f) ∙ b .header-back .answer
@@ -107,9 +107,9 @@ module _ {s : Settings} {σ : Store} {roots : List ℤ} {order : List ℕ} {p : 
       }
 
   -- Demand 2, for the call load: where the answer of an export is a length, so many bytes of its output load back.
-  pub exports-loads : Exports (exportFault σ roots order p slots numbers lent) s σ roots order p lent r out → OutputLoads s σ roots order p n out
+  pub exports-loads : ExportsBy (exportFault σ roots order p slots numbers lent) s σ roots order p lent r out → OutputLoads s σ roots order p n out
   exports-loads w = go (exportFault σ roots order p slots numbers lent) refl w
     where
-      go : (k : ℕ) → exportFault σ roots order p slots numbers lent ≡ k → Exports k s σ roots order p lent r out → OutputLoads s σ roots order p n out
+      go : (k : ℕ) → exportFault σ roots order p slots numbers lent ≡ k → ExportsBy k s σ roots order p lent r out → OutputLoads s σ roots order p n out
       go zero e w = writes-loads e w
       go (suc k) e w = let a = w .answer in absurd (let z : _≡_ {A = ℕ} 0 1 = cc in omega arith)

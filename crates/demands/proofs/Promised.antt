@@ -28,10 +28,10 @@ use Rattle.c_answers.specs.declared.EvaluateAnswer.{EvaluateAnswer}
 use Rattle.c_answers.specs.declared.ExportAnswer.{ExportAnswer}
 use Rattle.c_answers.specs.Settings.{settingsOf}
 use Rattle.c_answers.specs.Answers as C
-use Rattle.c_answers.specs.Answers.{Exporting}
+use Rattle.c_answers.specs.Answers.{ExportingForC}
 use Rattle.demands.specs.Lists.{Call, load, evaluate, export}
 use Rattle.demands.specs.Outcome as outcomes
-use Rattle.demands.specs.Outcome.{Tells, Verdict, Outcome, outcome, ofAnswer, ofRead, outputsOf, scratchOf, Leaves, loads, evaluates, exports}
+use Rattle.demands.specs.Outcome.{Tells, Verdict, Outcome, outcome, verdictOf, verdictRead, outputsOf, scratchOf, Leaves, loads, evaluates, exports}
 
 -- `dddmp::load`
 module _ (f list : Part (List ℕ)) (levels : ℕ) (count : Part ℕ) (level : Part (List ℕ)) (then els : Part (List ℤ))
@@ -51,17 +51,17 @@ module _ (f list : Part (List ℕ)) (levels : ℕ) (count : Part ℕ) (level : P
   left v q = outcome v after (outputsOf q) (scratchOf q)
 
   pub load-leaves : {r : Loaded} → LoadPromise f list levels count level then els next heads ids order permids auxids names lens roots rootnames rootlens edges seats r
-      → Leaves this before (left (ofAnswer (ofLoaded r)) (newParts f list levels count level then els next heads ids order permids auxids names lens roots rootnames rootlens edges seats))
+      → Leaves this before (left (verdictOf (ofLoaded r)) (newParts f list levels count level then els next heads ids order permids auxids names lens roots rootnames rootlens edges seats))
   load-leaves {r} p =
-      subst (λ q. Leaves this before (left (ofAnswer (ofLoaded r)) q)) (sym (p .lists)) (rw (p .answer, p .store) (loads _ _))
+      subst (λ q. Leaves this before (left (verdictOf (ofLoaded r)) q)) (sym (p .lists)) (rw (p .answer, p .store) (loads _ _))
 
   -- `zt_load`: number and line are those of the verdict
-  zt-tells : (a : head.Answer) → Tells (C.ofAnswer a .refusal) (C.ofAnswer a .line) (ofAnswer a)
+  zt-tells : (a : head.HeaderAnswer) → Tells (C.ofLoadAnswer a .refusal) (C.ofLoadAnswer a .line) (verdictOf a)
   zt-tells (head.header h) = (refl, refl)
   zt-tells (head.refusal n line) = (refl, refl)
 
   abbrev verdict : Verdict
-  verdict = ofAnswer (loaded f list levels count level then els next heads ids order permids auxids names lens roots rootnames rootlens edges seats .answer)
+  verdict = verdictOf (loaded f list levels count level then els next heads ids order permids auxids names lens roots rootnames rootlens edges seats .answer)
 
   pub zt-load-leaves : {r : LoadAnswer} → ZtLoadPromise f list levels count level then els next heads ids order permids auxids names lens roots rootnames rootlens edges seats r
       → Leaves this before (left verdict (newParts f list levels count level then els next heads ids order permids auxids names lens roots rootnames rootlens edges seats)) × Tells (r .refusal) (r .line) verdict
@@ -77,11 +77,11 @@ module _ (levels count : ℕ) (level : Part (List ℕ)) (then els : Part (List �
       → Leaves
       (evaluate root (old setting))
       (oldStore levels count level then els next heads)
-      (outcome (ofRead (ofEvaluation r)) (oldStore levels count level then els next heads) [] [])
+      (outcome (verdictRead (ofEvaluation r)) (oldStore levels count level then els next heads) [] [])
   evaluate-leaves p = rw (p .answer) (evaluates _ _ _)
 
   -- `zt_evaluate`
-  zt-evaluated : (a : Read Bool) → Tells (C.ofEvaluated a .refusal) (C.ofEvaluated a .line) (ofRead a)
+  zt-evaluated : (a : Read Bool) → Tells (C.ofEvaluated a .refusal) (C.ofEvaluated a .line) (verdictRead a)
   zt-evaluated (value b) = (refl, refl)
   zt-evaluated (refused n) = (refl, refl)
 
@@ -90,9 +90,9 @@ module _ (levels count : ℕ) (level : Part (List ℕ)) (then els : Part (List �
       (evaluate root (old setting))
       (oldStore levels count level then els next heads)
       (outcome
-      (ofRead (evaluateOf root (old setting) (oldStore levels count level then els next heads)))
+      (verdictRead (evaluateOf root (old setting) (oldStore levels count level then els next heads)))
       (oldStore levels count level then els next heads) [] [])
-      × Tells (r .refusal) (r .line) (ofRead (evaluateOf root (old setting) (oldStore levels count level then els next heads)))
+      × Tells (r .refusal) (r .line) (verdictRead (evaluateOf root (old setting) (oldStore levels count level then els next heads)))
   zt-evaluate-leaves p = (evaluates _ _ _, rw (p .answer) (zt-evaluated (evaluateOf root (old setting) (oldStore levels count level then els next heads))))
 
 -- `dddmp::export`
@@ -103,7 +103,7 @@ module _ (settings : ExportSettings) (levels count : ℕ) (level : Part (List �
       (export (exporting (ofSettings settings) levels count level then els next heads roots order bytes starts lens rootstarts rootlens slots numbers out))
       (oldStore levels count level then els next heads)
       (outcome
-      (ofRead (ofExported r))
+      (verdictRead (ofExported r))
       (oldStore levels count level then els next heads)
       (outcomes.numbers (new out) ∷ [])
       (outcomes.numbers (new slots) ∷ outcomes.numbers (new numbers) ∷ []))
@@ -112,7 +112,7 @@ module _ (settings : ExportSettings) (levels count : ℕ) (level : Part (List �
 -- `zt_export`
 module _ (version text ddstart ddlen : ℕ) (levels count : ℕ) (level : Part (List ℕ)) (then els : Part (List ℤ)) (next heads : Part (List ℕ)) (roots : Part (List ℤ))
     (order bytes starts lens rootstarts rootlens slots numbers out : Part (List ℕ)) where
-  zt-exported : (a : Read ℕ) → Tells (C.ofLength a .refusal) (C.ofLength a .line) (ofRead a)
+  zt-exported : (a : Read ℕ) → Tells (C.ofLength a .refusal) (C.ofLength a .line) (verdictRead a)
   zt-exported (value n) = (refl, refl)
   zt-exported (refused k) = (refl, refl)
 
@@ -121,11 +121,11 @@ module _ (version text ddstart ddlen : ℕ) (levels count : ℕ) (level : Part (
       (export (exporting (settingsOf version text ddstart ddlen) levels count level then els next heads roots order bytes starts lens rootstarts rootlens slots numbers out))
       (oldStore levels count level then els next heads)
       (outcome
-      (ofRead (ofExported (p .file .exported)))
+      (verdictRead (ofExported (p .file .exported)))
       (oldStore levels count level then els next heads)
       (outcomes.numbers (new out) ∷ [])
       (outcomes.numbers (new slots) ∷ outcomes.numbers (new numbers) ∷ []))
-      × Tells (r .refusal) (r .line) (ofRead (ofExported (p .file .exported)))
+      × Tells (r .refusal) (r .line) (verdictRead (ofExported (p .file .exported)))
   zt-export-leaves p = (
     rw (p .slots-left, p .numbers-left) (exports _ _ (p .file .exported) (new out) (p .file .exports)),
     rw (p .file .answer) (zt-exported (ofExported (p .file .exported))),

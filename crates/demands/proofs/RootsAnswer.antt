@@ -17,7 +17,7 @@ use Rattle.header_values.proofs.Counted.{roots-most}
 use Rattle.header_checks.proofs.Accepted as whole
 use Rattle.store.specs.Store.{Store}
 use Rattle.header.specs.Header.{Header, header, tableOf, atLeast}
-use Rattle.imported.specs.Acceptance.{Leaves}
+use Rattle.imported.specs.Acceptance.{NodesLeft}
 use Rattle.level_list.proofs.LevelLists.{list-levels}
 use Rattle.imported.proofs.Acceptance.{roots-say}
 use Rattle.calls.specs.Load.{Load, headerOf, setupOf, nodesOf, loadOf}
@@ -57,7 +57,7 @@ module _ (c : Load) (σ : Store) where
         ∙ laid-entry ids (c .lent .roots) i (omega arith) k
 
     -- what the nodes leave
-    nodes-leave : Leaves (setupOf c (σ .levels) (saidBy c σ A)) σ (c .file) (A .next) lent-ids (nodesOf c σ (saidBy c σ A))
+    nodes-leave : NodesLeft (setupOf c (σ .levels) (saidBy c σ A)) σ (c .file) (A .next) lent-ids (nodesOf c σ (saidBy c σ A))
     nodes-leave =
         let p = accepts-passes c σ A in
         roots-say _ σ (c .file) (A .next) _ (A .rules) (list-levels _ _ (c .list) (A .list-fits)) (p .at) (p .nodes-read)

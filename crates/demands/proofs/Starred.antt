@@ -43,19 +43,19 @@ use Rattle.level_list.specs.List.{listFits}
 use Rattle.reached.specs.Walk.{meetBy, meet, meetAll}
 use Rattle.numbering.specs.Numbering.{atDepth, deepestFirst, numbering}
 use Rattle.numbering.specs.Support.{supportFrom}
-use Rattle.export_nodes.specs.Lines.{renumbered, lineFor, linesFor}
+use Rattle.export_nodes.specs.Lines.{renumbered, lineOfNode, linesFor}
 use Rattle.node_writers.specs.Encoded.{childCode, variableCode, innerBytes, binBytes, encodeFrom, nodeBytes}
 use Rattle.calls.specs.Load.{scratchFault, listFault, beforeNodes, headerOf, nodesOf, withHeader, loadOf}
-use Rattle.demands.specs.Examples.{example, exampleHeader}
-use Rattle.demands.specs.Starred.{exampleLeft, exampleRoots, ThoseNodes, threeVariables, twoVariables, threeHeader, All, starred}
+use Rattle.demands.specs.Examples.{exampleLoad, exampleHeader}
+use Rattle.demands.specs.Starred.{exampleLeft, exampleRoots, ThoseNodes, threeVariables, twoVariables, threeHeader, AllRows, starred}
 use Rattle.calls.proofs.Passes.{Passes, load-refused, load-passes, passes-load}
 use Rattle.demands.proofs.Examples.{headerBy, header-by, kept, example-loads, example-roots}
 
 -- the store that the example's load leaves is that of its nodes
-left-by-nodes : exampleLeft .after ≡ nodesOf example (empty 2 3) exampleHeader .after
+left-by-nodes : exampleLeft .after ≡ nodesOf exampleLoad (empty 2 3) exampleHeader .after
 left-by-nodes =
-    let p = load-passes example (empty 2 3) exampleHeader example-loads in
-    ap (λ r. r .after) (passes-load example (empty 2 3) exampleHeader p)
+    let p = load-passes exampleLoad (empty 2 3) exampleHeader example-loads in
+    ap (λ r. r .after) (passes-load exampleLoad (empty 2 3) exampleHeader p)
 
 -- and its first two entries of the lent list are the roots 3 and -3
 two-roots : exampleRoots ≡ pos 3 ∷ negsuc 2 ∷ []
@@ -67,7 +67,7 @@ lines = terminal ∷ inner 1 (pos 1) (negsuc 0) ∷ inner 0 (pos 2) (negsuc 0) �
 
 -- so numbered as an export numbers them, they have the lines of the text
 lines-again : linesFor (exampleLeft .after) (numbering (exampleLeft .after) exampleRoots) ≡ lines
-unfolding run isBlank isDigit isLineEnd isWhitespace isOf seek trim feedAt lineOf digit number single first wordsFrom words entryStep edgeAt edgeEnd edgeList children alike ascending lastBelow idsFit deeper childFault decodeFrom wordFrom numbered afterExtra variableWord textLine textLineAt minus eqZ empty findUpTo find added insert make edgeFor addLine buildOn build lineBy linesIn linesAnswer blankAll endsWell importOf seatOf meetBy meet meetAll atDepth deepestFirst numbering supportFrom renumbered lineFor linesFor
+unfolding run isBlank isDigit isLineEnd isWhitespace isOf seek trim feedAt lineOf digit number single first wordsFrom words entryStep edgeAt edgeEnd edgeList children alike ascending lastBelow idsFit deeper childFault decodeFrom wordFrom numbered afterExtra variableWord textLine textLineAt minus eqZ empty findUpTo find added insert make edgeFor addLine buildOn build lineBy linesIn linesAnswer blankAll endsWell importOf seatOf meetBy meet meetAll atDepth deepestFirst numbering supportFrom renumbered lineOfNode linesFor
 lines-again =
     ap (λ rs. linesFor (exampleLeft .after) (numbering (exampleLeft .after) rs)) two-roots
     ∙ ap (λ σ. linesFor σ (numbering σ (pos 3 ∷ negsuc 2 ∷ []))) left-by-nodes
@@ -80,7 +80,7 @@ those-nodes = record { accepted = example-loads; of-text = refl; of-store = line
 -- the headers of the files with the ids 0 and 2
 headers : (headerBy threeVariables true .answer ≡ head.header threeHeader)
     × ((headerBy threeVariables true .ids ≡ 0 ∷ 2 ∷ []) × (headerBy twoVariables true .answer ≡ head.refusal 22 0))
-unfolding run isBlank isDigit isLineEnd isOf seek trim feedAt lineOf keyEnd valueStart valueEnd fieldOf digit number single judge u32List wordsFrom words edgeEnd edgeList isUtf8 nameList textAt alike lookup keyOf singleFault u32ListFault faultOf linesFrom linesOf endFrom endOf allOf lastFrom lastOf lasts seatOf ascending lastBelow idsFit allBelow distinct permidsFit rootsFault spans numberIn asciiIn varinfoIn ddIn u32sIn namesIn rootsIn agree firstFault numberFaults supportFaults nameCountFaults nameFaults rootFaults wholeFault tableOf readOf head.lengthFault atLeast head.listsFault head.loadOf
+unfolding run isBlank isDigit isLineEnd isOf seek trim feedAt lineOf keyEnd valueStart valueEnd fieldOf digit number single judge u32List wordsFrom words edgeEnd edgeList isUtf8 nameList textAt alike lookup keyOf singleFault u32ListFault faultOf linesFrom linesOf endFrom endOf allOf lastFrom lastOf lasts seatOf ascending lastBelow idsFit allBelow distinct permidsFit rootsFault spans numberIn asciiIn varinfoIn ddIn u32sIn namesIn rootsIn agree firstFault numberFaults supportFaults nameCountFaults nameFaults rootFaults wholeFault tableOf readOf head.lengthFault atLeast head.listsFault head.loadHeader
 headers = (refl, (refl, refl))
 
 -- each in an empty store with one slot, which keeps the rules
@@ -114,6 +114,6 @@ two-loads : (loadOf twoVariables (empty 2 1) .answer ≡ head.refusal 22 0) × (
 two-loads = (two-refused, ap (λ r. r .ids) (load-refused twoVariables (empty 2 1) 22 0 two-refused))
 
 -- All starred cases of document 01.
-pub starred-holds : All starred
+pub starred-holds : AllRows starred
 unfolding run isBlank isDigit entryStep edgeAt edgeEnd edgeList escaped escapedAll groupsBy groups sevenBit meant byteAt groupsFrom numberAt
 starred-holds = (those-nodes, ((refl, refl), ((refl, refl), ((refl, refl), ((refl, refl), (refl, (refl, (refl, (refl, (refl, (three-loads, (two-loads, ((refl, refl), tt)))))))))))))

@@ -36,4 +36,4 @@ pub record Accepts (c : Load) (σ : Store) : Type 0 where
   -- '2 the level list isn't one level per support variable, strictly ascending, below the store's level count'
   pub list-fits : listFits (nsuppvarsIn (c .file) (tableOf (c .file))) (σ .levels) (c .list) ≡ true
   -- 'The file's writer, nodes': all lines can be read and `.end` follows; 'Whoever filled the store': it has room for the nodes needed
-  pub node-lines : nodes.Accepts (setupOf c (σ .levels) (headerIn (c .file) (tableOf (c .file)) next lines)) σ (c .file) next
+  pub node-lines : nodes.NodesAccepted (setupOf c (σ .levels) (headerIn (c .file) (tableOf (c .file)) next lines)) σ (c .file) next

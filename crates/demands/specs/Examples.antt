@@ -11,8 +11,8 @@ use Rattle.calls.specs.Load.{Lengths, Load}
 use Rattle.demands.specs.Lists.{Call, load, evaluate}
 
 -- lists that are just long enough, with scratch for n nodes
-abbrev pub enough : ℕ → Lengths
-enough n = record {
+abbrev pub enoughFor : ℕ → Lengths
+enoughFor n = record {
   ids = 4096;
   order = 4096;
   permids = 4096;
@@ -27,8 +27,8 @@ enough n = record {
 }
 
 -- a file with no variable, no node and no root
-abbrev pub bare : Load
-bare = record { file = bytes ".nodes\n.end\n"; list = []; lent = enough 0 }
+abbrev pub bareLoad : Load
+bareLoad = record { file = bytes ".nodes\n.end\n"; list = []; lent = enoughFor 0 }
 
 abbrev pub bareHeader : Header
 bareHeader = record {
@@ -44,11 +44,11 @@ bareHeader = record {
 }
 
 -- document 01's example, at the two levels of a store
-abbrev pub example : Load
-example = record {
-  file = head.example ++ bytes "1 T 0 0\n2 1 1 -1\n3 0 2 -1\n.end\n";
+abbrev pub exampleLoad : Load
+exampleLoad = record {
+  file = head.exampleHead ++ bytes "1 T 0 0\n2 1 1 -1\n3 0 2 -1\n.end\n";
   list = 0 ∷ 1 ∷ [];
-  lent = enough 3;
+  lent = enoughFor 3;
 }
 
 abbrev pub exampleHeader : Header
@@ -66,4 +66,4 @@ exampleHeader = record {
 
 -- the example is loaded, its first root evaluated, and the example loaded again
 abbrev pub twice : List Call
-twice = load example ∷ evaluate (pos 3) (1 ∷ 1 ∷ []) ∷ load example ∷ []
+twice = load exampleLoad ∷ evaluate (pos 3) (1 ∷ 1 ∷ []) ∷ load exampleLoad ∷ []

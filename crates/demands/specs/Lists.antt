@@ -21,10 +21,10 @@ leaves (evaluate e s) σ = σ
 leaves (export x) σ = σ
 
 -- calls one after the other, each on the store as the last one left it, refused ones included
-unfoldable pub run : Store → List Call → Store
-run σ [] = σ
-run σ (c ∷ cs) = run (leaves c σ) cs
+unfoldable pub runCalls : Store → List Call → Store
+runCalls σ [] = σ
+runCalls σ (c ∷ cs) = runCalls (leaves c σ) cs
 
 -- the store before the call at a place of the list, counted from 0
 abbrev pub before : Store → List Call → ℕ → Store
-before σ cs k = run σ (take k cs)
+before σ cs k = runCalls σ (take k cs)

@@ -25,25 +25,25 @@ Tells n line accepted = (n ≡ 0) × (line ≡ 0)
 Tells n line (refusal k at) = (n ≡ k) × (line ≡ at)
 
 -- of a load
-abbrev pub ofAnswer : head.Answer → Verdict
-ofAnswer (head.header h) = accepted
-ofAnswer (head.refusal n line) = refusal n line
+abbrev pub verdictOf : head.HeaderAnswer → Verdict
+verdictOf (head.header h) = accepted
+verdictOf (head.refusal n line) = refusal n line
 
 -- of 'every call that reads no file': the line is 0
-abbrev pub ofRead : {A : Type 0} → Read A → Verdict
-ofRead (value a) = accepted
-ofRead (refused n) = refusal n 0
+abbrev pub verdictRead : {A : Type 0} → Read A → Verdict
+verdictRead (value a) = accepted
+verdictRead (refused n) = refusal n 0
 
 -- what a lent list holds: numbers or bytes, or edges
-pub data Part : Type 0 where
-  numbers : List ℕ → Part
-  edges : List ℤ → Part
+pub data LentPart : Type 0 where
+  numbers : List ℕ → LentPart
+  edges : List ℤ → LentPart
 
-abbrev pub Zeros : Part → Type 0
+abbrev pub Zeros : LentPart → Type 0
 Zeros (numbers l) = l ≡ replicate (length l) 0
 Zeros (edges l) = l ≡ replicate (length l) (pos 0)
 
-abbrev pub AllZeros : List Part → Type 0
+abbrev pub AllZeros : List LentPart → Type 0
 AllZeros [] = Unit
 AllZeros (p ∷ ps) = Zeros p × AllZeros ps
 
@@ -51,28 +51,28 @@ AllZeros (p ∷ ps) = Zeros p × AllZeros ps
 pub record Outcome : Type 0 where
   pub verdict : Verdict
   pub after : Store
-  pub outputs : List Part
-  pub scratch : List Part
+  pub outputs : List LentPart
+  pub scratch : List LentPart
 
-abbrev pub outcome : Verdict → Store → List Part → List Part → Outcome
+abbrev pub outcome : Verdict → Store → List LentPart → List LentPart → Outcome
 outcome v σ outputs scratch = record { verdict = v; after = σ; outputs = outputs; scratch = scratch }
 
 -- the lists of a load: nine of output, two of scratch
-abbrev pub outputsOf : Parts → List Part
+abbrev pub outputsOf : Parts → List LentPart
 outputsOf p =
     numbers (p .ids) ∷ numbers (p .order) ∷ numbers (p .permids) ∷ numbers (p .auxids) ∷ numbers (p .names) ∷ numbers (p .lens)
     ∷ edges (p .roots) ∷ numbers (p .rootnames) ∷ numbers (p .rootlens) ∷ []
 
-abbrev pub scratchOf : Parts → List Part
+abbrev pub scratchOf : Parts → List LentPart
 scratchOf p = edges (p .edges) ∷ numbers (p .seats) ∷ []
 
 -- What a call on a store may leave, as the calls promise it: of a load or an evaluation one outcome; of an export one for each file that it
 -- may write, with the marks, which are its scratch, as zeros.
 pub data Leaves : Call → Store → Outcome → Type 0 where
   loads : (c : Load) (σ : Store)
-      → Leaves (load c) σ (outcome (ofAnswer (loadOf c σ .answer)) (loadOf c σ .after)
+      → Leaves (load c) σ (outcome (verdictOf (loadOf c σ .answer)) (loadOf c σ .after)
       (outputsOf (partsOf (c .lent) (loadOf c σ))) (scratchOf (partsOf (c .lent) (loadOf c σ))))
-  evaluates : (e : ℤ) (s : List ℕ) (σ : Store) → Leaves (evaluate e s) σ (outcome (ofRead (evaluateOf e s σ)) σ [] [])
+  evaluates : (e : ℤ) (s : List ℕ) (σ : Store) → Leaves (evaluate e s) σ (outcome (verdictRead (evaluateOf e s σ)) σ [] [])
   exports : (x : Export) (σ : Store) (r : Exported) (out : List ℕ) → Exports x σ r out
-      → Leaves (export x) σ (outcome (ofRead (ofExported r)) σ (numbers out ∷ [])
+      → Leaves (export x) σ (outcome (verdictRead (ofExported r)) σ (numbers out ∷ [])
       (numbers (replicate (x .slots) 0) ∷ numbers (replicate (x .numbers) 0) ∷ []))

@@ -14,7 +14,7 @@ use Rattle.read_text.specs.Text.{place}
 use Rattle.writers.specs.Binary.{sevenBit}
 use Rattle.store.specs.Store.{Store}
 use Rattle.store.specs.Empty.{empty}
-use Rattle.header.specs.Header.{Header, Answer, header, refusal}
+use Rattle.header.specs.Header.{Header, HeaderAnswer, header, refusal}
 use Rattle.codes.specs.Texts.{bytes}
 use Rattle.node_lines.specs.Line.{Line, terminal, inner}
 use Rattle.node_lines.specs.Decode.{nodeLines, allRead}
@@ -23,11 +23,11 @@ use Rattle.numbering.specs.Numbering.{numbering}
 use Rattle.export_nodes.specs.Lines.{linesFor}
 use Rattle.node_writers.specs.Encoded.{nodeBytes}
 use Rattle.calls.specs.Load.{Load, Loaded, setupOf, loadOf}
-use Rattle.demands.specs.Examples.{enough, example, exampleHeader}
+use Rattle.demands.specs.Examples.{enoughFor, exampleLoad, exampleHeader}
 
 -- what a load of document 01's example leaves in an empty store of two levels and three slots, and the roots that it gives
 abbrev pub exampleLeft : Loaded
-exampleLeft = loadOf example (empty 2 3)
+exampleLeft = loadOf exampleLoad (empty 2 3)
 
 abbrev pub exampleRoots : List ℤ
 exampleRoots = take (exampleHeader .nroots) (exampleLeft .roots)
@@ -36,7 +36,7 @@ exampleRoots = take (exampleHeader .nroots) (exampleLeft .roots)
 pub record ThoseNodes (ls : List Line) (w : List ℕ) : Type 0 where
   -- the example is accepted, and these are the lines of its text
   pub accepted : exampleLeft .answer ≡ header exampleHeader
-  pub of-text : linesIn (setupOf example 2 exampleHeader) (example .file) (exampleHeader .next) .lines ≡ ls
+  pub of-text : linesIn (setupOf exampleLoad 2 exampleHeader) (exampleLoad .file) (exampleHeader .next) .lines ≡ ls
   -- the roots that it gives have these lines again, in the store that it leaves and numbered as an export numbers them
   pub of-store : linesFor (exampleLeft .after) (numbering (exampleLeft .after) exampleRoots) ≡ ls
   -- in binary they are written as these bytes
@@ -46,37 +46,37 @@ pub record ThoseNodes (ls : List Line) (w : List ℕ) : Type 0 where
 
 -- A row: the nodes of the example; a number of a binary file, written as bytes that read back as it; bytes that are read as such a number
 -- or refused; a root list, and what it reads as; a load, its answer, and the entries of `.ids` that it gives.
-pub data Row : Type 0 where
-  nodes : List Line → List ℕ → Row
-  number : ℕ → List ℕ → Row
-  reads : List ℕ → Step ℕ → Row
-  roots : List ℕ → Listed ℤ → Row
-  loads : Load → Store → Answer → List ℕ → Row
+pub data StarredRow : Type 0 where
+  nodes : List Line → List ℕ → StarredRow
+  number : ℕ → List ℕ → StarredRow
+  reads : List ℕ → Step ℕ → StarredRow
+  roots : List ℕ → Listed ℤ → StarredRow
+  loads : Load → Store → HeaderAnswer → List ℕ → StarredRow
 
-abbrev pub Holds : Row → Type 0
+abbrev pub Holds : StarredRow → Type 0
 Holds (nodes ls w) = ThoseNodes ls w
 Holds (number n w) = (sevenBit n ≡ w) × (numberAt w 0 ≡ got n (length w))
 Holds (reads w a) = numberAt w 0 ≡ a
 Holds (roots s a) = edgeList rootLimit s ≡ a
 Holds (loads c σ a ids) = (loadOf c σ .answer ≡ a) × (loadOf c σ .ids ≡ ids)
 
-abbrev pub All : List Row → Type 0
-All [] = Unit
-All (r ∷ rs) = Holds r × All rs
+abbrev pub AllRows : List StarredRow → Type 0
+AllRows [] = Unit
+AllRows (r ∷ rs) = Holds r × AllRows rs
 
 -- files with the ids 0 and 2, of three variables and of two
 abbrev pub threeVariables : Load
 threeVariables = record {
   file = bytes ".nvars 3\n.nsuppvars 2\n.ids 0 2\n.permids 0 1\n.nodes\n.end\n";
   list = 0 ∷ 1 ∷ [];
-  lent = enough 0;
+  lent = enoughFor 0;
 }
 
 abbrev pub twoVariables : Load
 twoVariables = record {
   file = bytes ".nvars 2\n.nsuppvars 2\n.ids 0 2\n.permids 0 1\n.nodes\n.end\n";
   list = 0 ∷ 1 ∷ [];
-  lent = enough 0;
+  lent = enoughFor 0;
 }
 
 abbrev pub threeHeader : Header
@@ -92,7 +92,7 @@ threeHeader = record {
   lines = 5;
 }
 
-abbrev pub starred : List Row
+abbrev pub starred : List StarredRow
 starred =
     -- those nodes in binary: 00 00 24 02 7c
     nodes

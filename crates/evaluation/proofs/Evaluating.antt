@@ -18,23 +18,23 @@ use Rattle.store.specs.Store.{Store, slots}
 use Rattle.store.specs.Rules.{limits, Rules}
 use Rattle.store.specs.Meaning.{settingOf, answer}
 use Rattle.store.specs.Keeps.{keeps, keeps-true}
-use Rattle.evaluation.specs.Evaluation.{bits, isRoot, isSetting, evaluation}
+use Rattle.evaluation.specs.Evaluation.{onlyBits, isRoot, isSetting, evaluation}
 use Rattle.evaluation.specs.Evaluated.{Walks}
 use Rattle.store.proofs.Lower.{nodes-lower}
 use Rattle.evaluation.proofs.Walk.{slots-answer}
 
 -- the bytes of a setting, by the next one
 module _ (s : List ℕ) (i : ℕ) where
-  pub bits-go : i < length s → getD s i 0 ≤ 1 → bits (drop i s) ≡ bits (drop (i + 1) s)
-  unfolding bits
+  pub bits-go : i < length s → getD s i 0 ≤ 1 → onlyBits (drop i s) ≡ onlyBits (drop (i + 1) s)
+  unfolding onlyBits
   bits-go h k = rw (add-one, drop-cons s i 0, le-leb (getD s i 0) 1)
 
-  pub bits-stop : i < length s → 1 < getD s i 0 → bits (drop i s) ≡ false
-  unfolding bits
+  pub bits-stop : i < length s → 1 < getD s i 0 → onlyBits (drop i s) ≡ false
+  unfolding onlyBits
   bits-stop h k = rw (drop-cons s i 0, lt-leb (getD s i 0) 1)
 
-  pub bits-end : length s ≤ i → bits (drop i s) ≡ true
-  unfolding bits
+  pub bits-end : length s ≤ i → onlyBits (drop i s) ≡ true
+  unfolding onlyBits
   bits-end h = rw (drop-of-length-le s)
 
 -- a root, by its magnitude k, which the code takes of `toZ w16 (ofZ w16 e)`
@@ -55,15 +55,15 @@ root-there σ e h = go (leb 1 (natAbs e)) h where
   go false h = absurd (true≢false (sym h))
 
 -- a setting for a number of levels
-pub setting-is : (s : List ℕ) (levels : ℕ) (r : Bool) → length s ≡ levels → r ≡ bits s → r ≡ (eqb (length s) levels && bits s)
+pub setting-is : (s : List ℕ) (levels : ℕ) (r : Bool) → length s ≡ levels → r ≡ onlyBits s → r ≡ (eqb (length s) levels && onlyBits s)
 setting-is s levels r h k = rw (eq-eqb (length s) levels h) k
 
-pub setting-not : (s : List ℕ) (levels : ℕ) → (length s ≡ levels → ⊥) → false ≡ (eqb (length s) levels && bits s)
+pub setting-not : (s : List ℕ) (levels : ℕ) → (length s ≡ levels → ⊥) → false ≡ (eqb (length s) levels && onlyBits s)
 setting-not s levels h = rw (ne-eqb (length s) levels h)
 
-pub setting-long : (s : List ℕ) (levels : ℕ) → (eqb (length s) levels && bits s) ≡ true → length s ≡ levels
+pub setting-long : (s : List ℕ) (levels : ℕ) → (eqb (length s) levels && onlyBits s) ≡ true → length s ≡ levels
 setting-long s levels h = go (eqb (length s) levels) refl h where
-  go : (b : Bool) → eqb (length s) levels ≡ b → (b && bits s) ≡ true → length s ≡ levels
+  go : (b : Bool) → eqb (length s) levels ≡ b → (b && onlyBits s) ≡ true → length s ≡ levels
   go true k h = eqb-true (length s) levels k
   go false k h = absurd (true≢false (sym h))
 

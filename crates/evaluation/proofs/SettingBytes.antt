@@ -12,12 +12,12 @@ use Rattle.codes.proofs.Bytes.{both}
 use Rattle.store.specs.Store.{Store}
 use Rattle.store.specs.Meaning.{settingOf}
 use Rattle.store.specs.Settings.{chosen}
-use Rattle.evaluation.specs.Evaluation.{bits, isSetting}
+use Rattle.evaluation.specs.Evaluation.{onlyBits, isSetting}
 use Rattle.evaluation.specs.SettingBytes.{byteOf, bytesOf}
 
 -- the bytes of a list of yes and no are 00 or 01
-bytes-bits : (s : List Bool) → bits (bytesOf s) ≡ true
-unfolding bits
+bytes-bits : (s : List Bool) → onlyBits (bytesOf s) ≡ true
+unfolding onlyBits
 bytes-bits [] = refl
 bytes-bits (true ∷ s) = bytes-bits s
 bytes-bits (false ∷ s) = bytes-bits s
@@ -25,7 +25,7 @@ bytes-bits (false ∷ s) = bytes-bits s
 -- They are a setting of a store exactly where the list has one entry per level.
 pub bytes-setting : (σ : Store) (s : List Bool) → (isSetting σ (bytesOf s) ≡ true) ↔ (length s ≡ σ .levels)
 bytes-setting σ s = (
-  λ q. sym (length-map s byteOf) ∙ eqb-true _ _ (both (eqb (length (bytesOf s)) (σ .levels)) (bits (bytesOf s)) q .0),
+  λ q. sym (length-map s byteOf) ∙ eqb-true _ _ (both (eqb (length (bytesOf s)) (σ .levels)) (onlyBits (bytesOf s)) q .0),
   λ q. rw (eq-eqb (length (bytesOf s)) (σ .levels) (length-map s byteOf ∙ q)) (bytes-bits s),
 )
 
@@ -39,9 +39,9 @@ pub setting-chosen : (s : List Bool) → settingOf (bytesOf s) ≡ chosen s
 setting-chosen s = fun-ext (λ l. ap (λ n. eqb n 1) (List·getD-map byteOf s l false) ∙ byte-back (getD s l false))
 
 -- Every setting is such bytes.
-pub setting-bytes : (b : List ℕ) → bits b ≡ true → (s : List Bool) × (b ≡ bytesOf s)
-unfolding bits
+pub setting-bytes : (b : List ℕ) → onlyBits b ≡ true → (s : List Bool) × (b ≡ bytesOf s)
+unfolding onlyBits
 setting-bytes [] q = ([], refl)
 setting-bytes (zero ∷ b) q = let w = setting-bytes b q in (false ∷ w .0, ap (λ l. zero ∷ l) (w .1))
 setting-bytes (suc zero ∷ b) q = let w = setting-bytes b q in (true ∷ w .0, ap (λ l. suc zero ∷ l) (w .1))
-setting-bytes (suc (suc n) ∷ b) q = absurd (omega (arith, leb-true (suc (suc n)) 1 (both _ (bits b) q .0)))
+setting-bytes (suc (suc n) ∷ b) q = absurd (omega (arith, leb-true (suc (suc n)) 1 (both _ (onlyBits b) q .0)))

@@ -9,7 +9,7 @@ use Rattle.edges.specs.Edge.{minus, turn}
 use Rattle.edges.proofs.Edge.{abs-neg, turn-neg}
 use Rattle.store.specs.Store.{Store}
 use Rattle.store.specs.Meaning.{Setting, node}
-use Rattle.evaluation.specs.Evaluated.{Leads}
+use Rattle.evaluation.specs.Evaluated.{LeadsDown}
 
 -- an answer under an odd number of minuses, or under an even one
 abbrev over : Bool → Bool → Bool
@@ -39,7 +39,7 @@ module _ {σ : Store} {s : Setting} {n : ℕ} where
 
   module _ {at : ℕ} {odd : Bool} {k : ℕ} (p : Passed σ s n at odd k) where
     -- one level more, by the sign b and the node m that the code found of the edge e
-    pub passed-more : (e : ℤ) (b : Bool) (m : ℕ) → Leads σ s at e → b ≡ minus e → m ≡ natAbs e → Passed σ s n m (not (Bool·beq odd b)) (k + 1)
+    pub passed-more : (e : ℤ) (b : Bool) (m : ℕ) → LeadsDown σ s at e → b ≡ minus e → m ≡ natAbs e → Passed σ s n m (not (Bool·beq odd b)) (k + 1)
     passed-more e b m l f g =
         record {
           says = p .says ∙ ap (over odd) (sym (l .says) ∙ turn-over e (node σ s (natAbs e))) ∙ rw (f, g) (over-over odd (minus e) (node σ s (natAbs e)));
@@ -48,10 +48,10 @@ module _ {σ : Store} {s : Setting} {n : ℕ} where
         }
 
     -- the edge r to where the stretch ends
-    pub passed-leads : (r : ℤ) → at < n → r ≡ cond odd (negℤ (pos at)) (pos at) → Leads σ s n r
+    pub passed-leads : (r : ℤ) → at < n → r ≡ cond odd (negℤ (pos at)) (pos at) → LeadsDown σ s n r
     unfolding turn
     passed-leads r h f = rw f (go odd (p .says)) where
-      go : (o : Bool) → node σ s n ≡ over o (node σ s at) → Leads σ s n (cond o (negℤ (pos at)) (pos at))
+      go : (o : Bool) → node σ s n ≡ over o (node σ s at) → LeadsDown σ s n (cond o (negℤ (pos at)) (pos at))
       go true q =
           record {
             says = rw (abs-neg (pos at)) (turn-neg (pos at) (node σ s at) (p .some)) ∙ sym q;

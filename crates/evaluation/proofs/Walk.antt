@@ -17,7 +17,7 @@ use Rattle.edges.proofs.Signed.{edge-back}
 use Rattle.store.specs.Store.{Store, store, thenAt, elseAt, slots}
 use Rattle.store.specs.Meaning.{Setting, settingOf, nodeBy, node, answer}
 use Rattle.store.specs.Rules.{Fits}
-use Rattle.evaluation.specs.Evaluated.{child, Walks, Leads}
+use Rattle.evaluation.specs.Evaluated.{child, Walks, LeadsDown}
 use Rattle.store.proofs.Lower.{nodes-lower}
 use Rattle.store.proofs.Meaning.{node-step}
 
@@ -56,7 +56,7 @@ module _ (σ : Store) (s : Setting) (e : ℤ) (k : ℕ) (a : Bool) (at : k ≡ n
 pub walk-back : {level : List ℕ} {then els : List ℤ} {b : List ℕ} (e : ℤ) → Walks level then els b (natAbs e) → toZ w16 (ofZ w16 e) ≡ e
 walk-back e w = edge-back w16 e (w .small)
 
-pub leads-back : {σ : Store} {s : Setting} {n : ℕ} (e : ℤ) → IsEdge (pos n) → Leads σ s n e → Leads σ s n (toZ w16 (ofZ w16 e))
+pub leads-back : {σ : Store} {s : Setting} {n : ℕ} (e : ℤ) → IsEdge (pos n) → LeadsDown σ s n e → LeadsDown σ s n (toZ w16 (ofZ w16 e))
 leads-back e h l = rw (edge-back w16 e (omega (arith, l .lower))) l
 
 module _ {level : List ℕ} {then els : List ℤ} {b : List ℕ} {n : ℕ} (w : Walks level then els b n) where
@@ -106,6 +106,6 @@ module _ {level : List ℕ} {then els : List ℤ} {b : List ℕ} {n : ℕ} (w : 
         go false = slots-answer (store (length b) n level then els [] []) s (getD els (n - 1) (pos 0))
 
       -- the walk goes on from the child r
-      pub child-leads : (r : ℤ) → r ≡ child (slots level then els) s n → Leads (slots level then els) s n (toZ w16 (ofZ w16 r))
+      pub child-leads : (r : ℤ) → r ≡ child (slots level then els) s n → LeadsDown (slots level then els) s n (toZ w16 (ofZ w16 r))
       child-leads r is =
           leads-back r (w .small) (rw is (record { says = sym node-child; some = child-some; lower = child-low }))

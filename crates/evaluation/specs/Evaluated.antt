@@ -32,7 +32,7 @@ pub record Walks (level : List ℕ) (then els : List ℤ) (s : List ℕ) (n : �
   pub nodes : Nodes (store (length s) n level then els [] [])
 
 -- Where a walk from node n may go on: edge e answers as the node does, and its node is a lower one.
-pub record Leads (σ : Store) (s : Setting) (n : ℕ) (e : ℤ) : Type 0 where
+pub record LeadsDown (σ : Store) (s : Setting) (n : ℕ) (e : ℤ) : Type 0 where
   pub says : answer σ s e ≡ node σ s n
   pub some : 1 ≤ natAbs e
   pub lower : natAbs e < n

@@ -16,13 +16,13 @@ abbrev pub isRoot : Store → ℤ → Bool
 isRoot σ e = leb 1 (natAbs e) && leb (natAbs e) (σ .count)
 
 -- each byte is 00 or 01
-unfoldable pub bits : List ℕ → Bool
-bits [] = true
-bits (b ∷ bs) = leb b 1 && bits bs
+unfoldable pub onlyBits : List ℕ → Bool
+onlyBits [] = true
+onlyBits (b ∷ bs) = leb b 1 && onlyBits bs
 
 -- '4 .. a setting isn't one byte 00 or 01 per level'
 abbrev pub isSetting : Store → List ℕ → Bool
-isSetting σ s = eqb (length s) (σ .levels) && bits s
+isSetting σ s = eqb (length s) (σ .levels) && onlyBits s
 
 unfoldable pub evaluation : Limits → Store → ℤ → List ℕ → Read Bool
 evaluation m σ e s = cond (keeps m σ) (cond (isRoot σ e && isSetting σ s) (value (answer σ (settingOf s) e)) (refused 4)) (refused 3)

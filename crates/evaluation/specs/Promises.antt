@@ -10,7 +10,7 @@ use Rattle.evaluation.specs.declared.Evaluation.{Evaluation}
 use Rattle.evaluation.specs.Evaluation.{evaluation}
 use Rattle.evaluation.specs.Evaluated.{ofEvaluation}
 
-pub record EvaluatePromise (levels count : ℕ) (level : Part (List ℕ)) (then els : Part (List ℤ)) (next heads : Part (List ℕ)) (root : ℤ)
+pub record EvaluationPromise (levels count : ℕ) (level : Part (List ℕ)) (then els : Part (List ℤ)) (next heads : Part (List ℕ)) (root : ℤ)
     (setting : Part (List ℕ)) (r : Evaluation) : Type 0 where
   -- 'Evaluation gives 3, 4.' 'An edge's answer is its node's, turned over under a minus'
   pub answer : ofEvaluation r ≡ evaluation limits (oldStore levels count level then els next heads) root (old setting)

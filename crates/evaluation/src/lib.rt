@@ -8,9 +8,9 @@ ghost use lib.IntN.{pos, negℤ, natAbs};
 ghost use Rattle.edges.specs.Edge.{IsEdge};
 ghost use Rattle.store.specs.Store.{slots};
 ghost use Rattle.store.specs.Meaning.{settingOf, node, answer};
-ghost use Rattle.evaluation.specs.Evaluation.{bits};
-ghost use Rattle.evaluation.specs.Evaluated.{child, Walks, Leads};
-ghost use Rattle.evaluation.specs.Promises.{EvaluatePromise};
+ghost use Rattle.evaluation.specs.Evaluation.{onlyBits};
+ghost use Rattle.evaluation.specs.Evaluated.{child, Walks, LeadsDown};
+ghost use Rattle.evaluation.specs.Promises.{EvaluationPromise};
 use codes::refusal;
 use edges::Edge;
 use edges::Index;
@@ -56,7 +56,7 @@ fn child_at(level: &[u16], then: &[Edge], els: &[Edge], setting: &[u8], n: Index
 fn descend(level: &[u16], then: &[Edge], els: &[Edge], setting: &[u8], n: Index) -> Edge
     requires { ⌜ 2 ≤ n ⌝ }
     requires { ⌜ Walks (now level) (now then) (now els) (now setting) n ⌝ }
-    ensures { λ r. ⌜ Leads (slots (now (level .entry)) (now (then .entry)) (now (els .entry))) (settingOf (now (setting .entry))) n r ⌝ }
+    ensures { λ r. ⌜ LeadsDown (slots (now (level .entry)) (now (then .entry)) (now (els .entry))) (settingOf (now (setting .entry))) n r ⌝ }
 {
     let mut at = n;
     let mut odd = false;
@@ -96,7 +96,7 @@ pub fn eval_node(level: &[u16], then: &[Edge], els: &[Edge], setting: &[u8], n: 
 
 // Is each byte 00 or 01?
 fn bits_only(setting: &[u8]) -> bool
-    ensures { λ r. ⌜ r ≡ bits (now (setting .entry)) ⌝ }
+    ensures { λ r. ⌜ r ≡ onlyBits (now (setting .entry)) ⌝ }
 {
     let mut i = 0;
     while i < setting.len() {
@@ -118,7 +118,7 @@ pub fn is_root(count: Index, root: Edge) -> bool
 
 // Is this one byte 00 or 01 per level?
 fn is_setting(levels: u16, setting: &[u8]) -> bool
-    ensures { λ r. ⌜ r ≡ eqb (length (now (setting .entry))) levels && bits (now (setting .entry)) ⌝ }
+    ensures { λ r. ⌜ r ≡ eqb (length (now (setting .entry))) levels && onlyBits (now (setting .entry)) ⌝ }
 {
     if setting.len() == levels as usize {
         return bits_only(setting);
@@ -138,7 +138,7 @@ pub fn evaluate(
     root: Edge,
     setting: &[u8],
 ) -> Evaluation
-    ensures { λ r. ⌜ EvaluatePromise levels count level then els next heads root setting r ⌝ }
+    ensures { λ r. ⌜ EvaluationPromise levels count level then els next heads root setting r ⌝ }
 {
     if !rules::keeps_rules(levels, count, level, then, els, next, heads) {
         return Evaluation::Refused(refusal::BROKEN_STORE);

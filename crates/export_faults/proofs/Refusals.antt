@@ -14,14 +14,14 @@ use Rattle.store.specs.Keeps.{keeps, keeps-true}
 use Rattle.seats.specs.Seats.{Seats}
 use Rattle.variable_order.specs.Order.{isOrder, SeatsIf}
 use Rattle.heading.specs.Tables.{Lent}
-use Rattle.exported.specs.Export.{rootsFit, enough, namesFit, exportFault}
+use Rattle.exported.specs.Export.{rootsFit, longEnough, namesFit, exportFault}
 
 module _ (σ : Store) (roots : List ℤ) (order : List ℕ) (p : Lent) (slots numbers out : ℕ) where
-  pub refused-short : enough σ roots p slots numbers out ≡ false → 1 ≡ exportFault σ roots order p slots numbers out
+  pub refused-short : longEnough σ roots p slots numbers out ≡ false → 1 ≡ exportFault σ roots order p slots numbers out
   unfolding exportFault firstFault
   refused-short a = rw a
 
-  module _ (a : enough σ roots p slots numbers out ≡ true) where
+  module _ (a : longEnough σ roots p slots numbers out ≡ true) where
     pub refused-store : keeps limits σ ≡ false → 3 ≡ exportFault σ roots order p slots numbers out
     unfolding exportFault firstFault
     refused-store b = rw (a, b)

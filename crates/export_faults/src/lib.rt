@@ -6,7 +6,7 @@ ghost use lib.ListN.{replicate};
 ghost use Rattle.codes.specs.Limits.{varLimit};
 ghost use Rattle.codes.specs.Lent.{old};
 ghost use Rattle.header_values.specs.Kinds.{ofPlace};
-ghost use Rattle.export_names.specs.Names.{fitPlace, listFits};
+ghost use Rattle.export_names.specs.Names.{fitPlace, nameListFits};
 ghost use Rattle.export_size.specs.Size.{exportSize};
 ghost use Rattle.exported.specs.Export.{rootsFit};
 ghost use Rattle.export_faults.specs.Promise.{FaultPromise};
@@ -67,8 +67,8 @@ fn names_fit(
     rootlens: &[u32],
     dd: Place,
 ) -> bool
-    ensures { λ r. ⌜ r ≡ listFits levels (old bytes) (old starts) (old lens)
-        && listFits roots (old bytes) (old rootstarts) (old rootlens) && fitPlace true (old bytes) (ofPlace dd) ⌝ }
+    ensures { λ r. ⌜ r ≡ nameListFits levels (old bytes) (old starts) (old lens)
+        && nameListFits roots (old bytes) (old rootstarts) (old rootlens) && fitPlace true (old bytes) (ofPlace dd) ⌝ }
 {
     if !export_names::list_fits(levels as usize, bytes, starts, lens) {
         return false;

@@ -10,12 +10,12 @@ use Rattle.codes.specs.declared.DDDMPVersion.{DDDMPVersion}
 use Rattle.codes.specs.Lent.{Part, old}
 use Rattle.read_text.specs.Text.{place}
 use Rattle.header_keys.specs.declared.Key.the-variants.{Dd}
-use Rattle.export_names.specs.Names.{nameAt, namesAt, listFits}
+use Rattle.export_names.specs.Names.{nameAt, namesAt, nameListFits}
 use Rattle.writers.specs.Written.{Fits, Written}
-use Rattle.export_nodes.specs.Tables.{numberOf}
+use Rattle.export_nodes.specs.Tables.{lineNumberOf}
 use Rattle.heading.specs.Lines.{line, linesText}
 use Rattle.heading.specs.Heading.{unlessEmpty, rootLines, headText}
-use Rattle.heading.specs.Tables.{Lent, lent, seated, headingBy, Ordered, Rooted, NamesFit}
+use Rattle.heading.specs.Tables.{Lent, lent, seatedLevels, headingBy, Ordered, Rooted, NamesFit}
 
 -- the line of the diagram's name, left out where it is empty
 abbrev diagramText : List ℕ → List ℕ
@@ -23,7 +23,7 @@ diagramText name = linesText (unlessEmpty name (line Dd (name ∷ [])))
 
 -- 'with no roots `.rootnames` is left out'
 abbrev rootsText : List ℤ → List ℕ → List (List ℕ) → List ℕ
-rootsText roots numbers names = linesText (rootLines (map (numberOf numbers) roots) names)
+rootsText roots numbers names = linesText (rootLines (map (lineNumberOf numbers) roots) names)
 
 -- the name lies inside the lent bytes, and there is room for its line
 pub record DiagramAsks (out : RefT (List ℕ)) (at : ℕ) (bytes : RefT (List ℕ)) (start len : ℕ) : Type 0 where
@@ -37,7 +37,7 @@ DiagramPromise out at bytes start len r = Written out at (diagramText (nameAt (o
 -- each root has a line, 'names are lent for all .. or none, likewise for roots', and there is room
 pub record RootsAsks (out : RefT (List ℕ)) (at : ℕ) (roots : RefT (List ℤ)) (numbers bytes starts lens : RefT (List ℕ)) : Type 0 where
   pub rooted : Rooted (now roots) (now numbers)
-  pub names-fit : listFits (length (now roots)) (now bytes) (now starts) (now lens) ≡ true
+  pub names-fit : nameListFits (length (now roots)) (now bytes) (now starts) (now lens) ≡ true
   pub room : Fits out at (rootsText (now roots) (now numbers) (namesAt (now bytes) (now starts) (now lens)))
 
 -- the lines of the roots are written
@@ -51,7 +51,7 @@ pub record HeaderAsks (version : DDDMPVersion) (ascii : Bool) (out : RefT (List 
   pub ordered : Ordered (now order) (now vars) (now seats)
   pub rooted : Rooted (now roots) (now numbers)
   pub names : NamesFit (lent (now bytes) (now starts) (now lens) (now rootstarts) (now rootlens) (place ddstart ddlen)) (length (now order)) (length (now roots))
-  pub counted : nsuppvars ≡ length (seated (now seats))
+  pub counted : nsuppvars ≡ length (seatedLevels (now seats))
   pub room : Fits out at
       (headText
       (headingBy version ascii (lent (now bytes) (now starts) (now lens) (now rootstarts) (now rootlens) (place ddstart ddlen)) nnodes (now order) (now seats)

@@ -13,7 +13,7 @@ use Rattle.codes.proofs.Bytes.{both}
 use Rattle.read_lines.specs.Each.{Each, none, each}
 use Rattle.read_text.specs.Text.{Place, place}
 use Rattle.variable_names.specs.Names.{places}
-use Rattle.export_names.specs.Names.{counted, inside, nameAt, fitName, fitPlace, fitPlaces, listFits, namesAt}
+use Rattle.export_names.specs.Names.{counted, inside, nameAt, fitName, fitPlace, fitPlaces, nameListFits, namesAt}
 use Rattle.export_size.specs.Size.{sum}
 use Rattle.export_names.proofs.NameReading.{length-name}
 
@@ -52,7 +52,7 @@ module _ (d : Bool) (bytes : List ℕ) where
       let q = both (fitPlace d bytes (place s n)) (fitPlaces d bytes (places ss ns)) h in
       rw (place-length s n (q .0), places-sum ss ns (suc-inj e) (q .1))
 
-module _ (want : ℕ) (bytes starts lens : List ℕ) (h : listFits want bytes starts lens ≡ true) where
+module _ (want : ℕ) (bytes starts lens : List ℕ) (h : nameListFits want bytes starts lens ≡ true) where
   -- the tests of a list
   record Fits : Type 0 where
     even : length starts ≡ length lens
@@ -60,7 +60,7 @@ module _ (want : ℕ) (bytes starts lens : List ℕ) (h : listFits want bytes st
     names : fitPlaces false bytes (places starts lens) ≡ true
 
   fits : Fits
-  unfolding listFits counted
+  unfolding nameListFits counted
   fits =
       let p = both (counted want starts lens) (fitPlaces false bytes (places starts lens)) h in
       let q = both (eqb (length starts) (length lens)) (eqb (length lens) 0 || eqb (length lens) want) (p .0) in

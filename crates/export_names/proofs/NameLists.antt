@@ -11,7 +11,7 @@ use lib.Dec.{eqb}
 use borrow.Author.Tests.{eqb-false, eq-eqb, ne-eqb}
 use Rattle.read_text.specs.Text.{place}
 use Rattle.variable_names.specs.Names.{places}
-use Rattle.export_names.specs.Names.{counted, fitPlace, fitPlaces, listFits, fitSpan}
+use Rattle.export_names.specs.Names.{counted, fitPlace, fitPlaces, nameListFits, fitSpan}
 use Rattle.export_names.proofs.NameReading.{place-unfit}
 
 -- the first i names are fit, so that the rest decides
@@ -59,21 +59,21 @@ one-name d bytes s n = and-true (fitPlace d bytes (place s n))
 
 module _ (want : ℕ) (bytes starts lens : List ℕ) where
   -- starts and lengths aren't equally many
-  pub list-uneven : (length starts ≡ length lens → ⊥) → false ≡ listFits want bytes starts lens
-  unfolding listFits counted
+  pub list-uneven : (length starts ≡ length lens → ⊥) → false ≡ nameListFits want bytes starts lens
+  unfolding nameListFits counted
   list-uneven h = rw (ne-eqb (length starts) (length lens) h)
 
   -- there are some names, and not as many as wanted
-  pub list-uncounted : (length lens ≡ 0 → ⊥) → (length lens ≡ want → ⊥) → false ≡ listFits want bytes starts lens
-  unfolding listFits counted
+  pub list-uncounted : (length lens ≡ 0 → ⊥) → (length lens ≡ want → ⊥) → false ≡ nameListFits want bytes starts lens
+  unfolding nameListFits counted
   list-uncounted z h = rw (ne-eqb (length lens) 0 z, ne-eqb (length lens) want h, and-false (eqb (length starts) (length lens)))
 
   -- there are none, or as many as wanted: the names decide
   pub list-counted : length starts ≡ length lens → ((length lens ≡ 0 → ⊥) → length lens ≡ want)
-      → fitPlaces false bytes (places starts lens) ≡ listFits want bytes starts lens
-  unfolding listFits counted
+      → fitPlaces false bytes (places starts lens) ≡ nameListFits want bytes starts lens
+  unfolding nameListFits counted
   list-counted e h = go (eqb (length lens) 0) refl
     where
-      go : (b : Bool) → eqb (length lens) 0 ≡ b → fitPlaces false bytes (places starts lens) ≡ listFits want bytes starts lens
+      go : (b : Bool) → eqb (length lens) 0 ≡ b → fitPlaces false bytes (places starts lens) ≡ nameListFits want bytes starts lens
       go true q = rw (eq-eqb (length starts) (length lens) e, q)
       go false q = rw (eq-eqb (length starts) (length lens) e, q, eq-eqb (length lens) want (h (eqb-false (length lens) 0 q)))

@@ -44,8 +44,8 @@ fitPlaces diagram bytes [] = true
 fitPlaces diagram bytes (p ∷ ps) = fitPlace diagram bytes p && fitPlaces diagram bytes ps
 
 -- a whole list of names, of variables or of roots
-unfoldable pub listFits : ℕ → List ℕ → List ℕ → List ℕ → Bool
-listFits want bytes starts lens = counted want starts lens && fitPlaces false bytes (places starts lens)
+unfoldable pub nameListFits : ℕ → List ℕ → List ℕ → List ℕ → Bool
+nameListFits want bytes starts lens = counted want starts lens && fitPlaces false bytes (places starts lens)
 
 -- the names of a list, as their bytes
 unfoldable pub namesAt : List ℕ → List ℕ → List ℕ → List (List ℕ)

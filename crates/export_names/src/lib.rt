@@ -4,7 +4,7 @@ ghost use mathlib.Core.Bool.{true};
 ghost use lib.ListN.{length};
 ghost use Rattle.read_text.specs.Kinds.{ofUtf8Next};
 ghost use Rattle.read_text.specs.Text.{place};
-ghost use Rattle.export_names.specs.Names.{fitSpan, nameNext, fitPlace, fitPlaces, listFits};
+ghost use Rattle.export_names.specs.Names.{fitSpan, nameNext, fitPlace, fitPlaces, nameListFits};
 ghost use Rattle.variable_names.specs.Names.{places};
 use read_text::Utf8;
 use read_text::Utf8Next;
@@ -83,7 +83,7 @@ pub fn names_fit(diagram: bool, bytes: &[u8], starts: &[u32], lens: &[u32]) -> b
 
 // Is a list of names fit, with no entry or one for each of `want`?
 pub fn list_fits(want: usize, bytes: &[u8], starts: &[u32], lens: &[u32]) -> bool
-    ensures { λ r. ⌜ r ≡ listFits want (now (bytes .entry)) (now (starts .entry)) (now (lens .entry)) ⌝ }
+    ensures { λ r. ⌜ r ≡ nameListFits want (now (bytes .entry)) (now (starts .entry)) (now (lens .entry)) ⌝ }
 {
     if starts.len() != lens.len() {
         return false;

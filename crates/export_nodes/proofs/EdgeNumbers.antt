@@ -14,15 +14,15 @@ use Rattle.edges.specs.Edge.{minus}
 use Rattle.edges.proofs.Edge.{abs-neg}
 use Rattle.edges.proofs.Signed.{edge-fits, edge-back}
 use Rattle.read_edges.specs.Edges.{signed}
-use Rattle.export_nodes.specs.Tables.{numberOf}
+use Rattle.export_nodes.specs.Tables.{lineNumberOf}
 
 -- its magnitude is the number
 pub signed-abs : (b : Bool) (n : ℕ) → natAbs (signed b n) ≡ n
 signed-abs true n = abs-neg (pos n)
 signed-abs false n = refl
 
-pub number-abs : (numbers : List ℕ) (e : ℤ) → natAbs (numberOf numbers e) ≡ getD numbers (natAbs e - 1) 0
-unfolding numberOf
+pub number-abs : (numbers : List ℕ) (e : ℤ) → natAbs (lineNumberOf numbers e) ≡ getD numbers (natAbs e - 1) 0
+unfolding lineNumberOf
 number-abs numbers e = signed-abs (minus e) (getD numbers (natAbs e - 1) 0)
 
 -- A number n that an edge can have, as the code reads it, and the edge that it becomes.

@@ -10,13 +10,13 @@ use Rattle.writers.specs.Binary.{escaped, escapedAll, groupsBy, groups, sevenBi
 use Rattle.reached.specs.Walk.{meetBy, meet, meetAll}
 use Rattle.numbering.specs.Numbering.{atDepth, deepestFirst, numbering}
 use Rattle.numbering.specs.Support.{supportFrom}
-use Rattle.export_nodes.specs.Lines.{renumbered, lineFor, linesFor}
+use Rattle.export_nodes.specs.Lines.{renumbered, lineOfNode, linesFor}
 use Rattle.node_writers.specs.Encoded.{textBytes, childCode, variableCode, innerBytes, binBytes, encodeFrom, nodeBytes}
-use Rattle.export_nodes.specs.Examples.{example, exampleNodes, exampleLines, exampleText, exampleBinary, mixed, mixedRoots}
+use Rattle.export_nodes.specs.Examples.{exampleStore, exampleNodes, exampleLines, exampleText, exampleBinary, mixed, mixedRoots}
 
 -- document 01's example: its lines, as text and in binary
-pub example-lines : linesFor example exampleNodes ≡ exampleLines
-unfolding seatOf meetBy meet meetAll atDepth deepestFirst numbering supportFrom minus renumbered lineFor linesFor
+pub example-lines : linesFor exampleStore exampleNodes ≡ exampleLines
+unfolding seatOf meetBy meet meetAll atDepth deepestFirst numbering supportFrom minus renumbered lineOfNode linesFor
 example-lines = refl
 
 pub example-text : nodeBytes true exampleLines ≡ exampleText

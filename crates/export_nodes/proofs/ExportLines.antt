@@ -14,9 +14,9 @@ use Rattle.seats.proofs.Seating.{seat-most}
 use Rattle.node_lines.specs.Line.{terminal}
 use Rattle.numbering.specs.Numbering.{Numbers}
 use Rattle.numbering.specs.Support.{supportOf}
-use Rattle.export_nodes.specs.Lines.{renumbered, lineFor, linesFor}
+use Rattle.export_nodes.specs.Lines.{renumbered, lineOfNode, linesFor}
 use Rattle.node_writers.specs.Encoded.{nodeBytes}
-use Rattle.export_nodes.specs.Tables.{lineBy, linesBy, Child, Lined}
+use Rattle.export_nodes.specs.Tables.{lineBy, linesBy, ChildLine, Lined}
 use Rattle.export_nodes.specs.Exported.{Exported}
 use Rattle.export_nodes.proofs.TableLines.{map-at}
 use Rattle.export_nodes.proofs.Renumbered.{seat-back, Numbered, renumbered-abs, NodeAt, terminalAt, innerAt, entry-node, lines-few, inner-at, node-at}
@@ -37,7 +37,7 @@ module _ {σ : Store} {roots : List ℤ} {ns numbers seats : List ℕ} (E : Expo
   level-held n h k = omega (arith, E .rules .nodes .fits n h k .level-low, E .rules .sizes .levels-limit, F .seats-long)
 
   -- a child of the node of line i + 1
-  child-lined : (i : ℕ) (c : ℤ) → Numbered ns i c → 1 ≤ natAbs c → natAbs c ≤ σ .count → Child (slots (σ .level) (σ .then) (σ .els)) numbers seats (i + 1) (natAbs c)
+  child-lined : (i : ℕ) (c : ℤ) → Numbered ns i c → 1 ≤ natAbs c → natAbs c ≤ σ .count → ChildLine (slots (σ .level) (σ .then) (σ .els)) numbers seats (i + 1) (natAbs c)
   child-lined i c M some there =
       let s = number-seat ns numbers (natAbs c) (F .numbered) some (omega (arith, F .numbers-long)) in
       record {
@@ -94,8 +94,8 @@ module _ {σ : Store} {roots : List ℤ} {ns : List ℕ} (E : Exported σ roots 
   edge-small : (c : ℤ) → natAbs (renumbered ns c) ≤ nodeLimit
   edge-small c = omega (arith, renumbered-abs ns c, seat-most (natAbs c) ns, lines-few E, E .rules .sizes .count-limit)
 
-  line-small : {i n : ℕ} → NodeAt σ ns i n → Small (lineFor σ (supportOf σ ns) ns n)
-  unfolding lineFor
+  line-small : {i n : ℕ} → NodeAt σ ns i n → Small (lineOfNode σ (supportOf σ ns) ns n)
+  unfolding lineOfNode
   line-small terminalAt = tt
   line-small {i} {n} (innerAt I) =
       rw (ne-eqb n 1 (λ z. omega (arith, I .node)))
@@ -105,12 +105,12 @@ module _ {σ : Store} {roots : List ℤ} {ns : List ℕ} (E : Exported σ roots 
   pub lines-small : (i : ℕ) → i < length (linesFor σ ns) → Small (getD (linesFor σ ns) i terminal)
   unfolding linesFor
   lines-small i h =
-      let k : i < length ns = rw (length-map ns (lineFor σ (supportOf σ ns) ns)) at h in
-      rw (map-at (lineFor σ (supportOf σ ns) ns) ns i 0 terminal k) (line-small (node-at E i (getD ns i 0) k refl))
+      let k : i < length ns = rw (length-map ns (lineOfNode σ (supportOf σ ns) ns)) at h in
+      rw (map-at (lineOfNode σ (supportOf σ ns) ns) ns i 0 terminal k) (line-small (node-at E i (getD ns i 0) k refl))
 
   -- .. so they are short.
   pub lines-short : (ascii : Bool) → length (nodeBytes ascii (linesFor σ ns)) ≤ 32 * length ns
   unfolding linesFor
   lines-short ascii =
-      let long = length-map ns (lineFor σ (supportOf σ ns) ns) in
+      let long = length-map ns (lineOfNode σ (supportOf σ ns) ns) in
       omega (arith, nodes-short ascii (linesFor σ ns) (omega (arith, lines-few E, E .rules .sizes .count-limit)) lines-small)

@@ -13,8 +13,8 @@ use Rattle.store.specs.Store.{Store, levelAt, thenAt, elseAt}
 use Rattle.seats.specs.Seats.{seatOf, Seats}
 use Rattle.numbering.specs.Numbering.{Numbers}
 use Rattle.numbering.specs.Support.{supportOf}
-use Rattle.export_nodes.specs.Lines.{renumbered, lineFor, linesFor}
-use Rattle.export_nodes.specs.Tables.{numberOf, lineBy, linesBy}
+use Rattle.export_nodes.specs.Lines.{renumbered, lineOfNode, linesFor}
+use Rattle.export_nodes.specs.Tables.{lineNumberOf, lineBy, linesBy}
 
 -- lists mapped alike
 map-same : {A B : Type 0} (f g : A → B) (d : A) (l : List A) → ((i : ℕ) → i < length l → f (getD l i d) ≡ g (getD l i d)) → map f l ≡ map g l
@@ -26,8 +26,8 @@ pub number-seat : (ns numbers : List ℕ) (c : ℕ) → Numbers ns numbers → 1
 number-seat ns numbers c N some there = N (c - 1) (omega arith) ∙ ap (λ n. seatOf n ns) (omega arith)
 
 -- an edge by the table is the edge to its node's line
-pub number-line : (ns numbers : List ℕ) (e : ℤ) → Numbers ns numbers → 1 ≤ natAbs e → natAbs e ≤ length numbers → numberOf numbers e ≡ renumbered ns e
-unfolding numberOf renumbered
+pub number-line : (ns numbers : List ℕ) (e : ℤ) → Numbers ns numbers → 1 ≤ natAbs e → natAbs e ≤ length numbers → lineNumberOf numbers e ≡ renumbered ns e
+unfolding lineNumberOf renumbered
 number-line ns numbers e N some there = ap (signed (minus e)) (number-seat ns numbers (natAbs e) N some there)
 
 -- an inner node whose level and children have entries in the tables
@@ -39,11 +39,11 @@ pub record Held (σ : Store) (numbers seats : List ℕ) (n : ℕ) : Type 0 where
   pub else-there : natAbs (elseAt σ n) ≤ length numbers
 
 module _ (σ : Store) (ns numbers seats : List ℕ) (N : Numbers ns numbers) (S : Seats (supportOf σ ns) seats) where
-  line-by-tables : (n : ℕ) → ((n ≡ 1 → ⊥) → Held σ numbers seats n) → lineBy σ numbers seats n ≡ lineFor σ (supportOf σ ns) ns n
-  unfolding lineBy lineFor
+  line-by-tables : (n : ℕ) → ((n ≡ 1 → ⊥) → Held σ numbers seats n) → lineBy σ numbers seats n ≡ lineOfNode σ (supportOf σ ns) ns n
+  unfolding lineBy lineOfNode
   line-by-tables n held = go (ℕ-discrete n 1)
     where
-      go : Dec (n ≡ 1) → lineBy σ numbers seats n ≡ lineFor σ (supportOf σ ns) ns n
+      go : Dec (n ≡ 1) → lineBy σ numbers seats n ≡ lineOfNode σ (supportOf σ ns) ns n
       go (yes e) = rw e
       go (no f) =
           let h = held f in
@@ -57,4 +57,4 @@ module _ (σ : Store) (ns numbers seats : List ℕ) (N : Numbers ns numbers) (S 
   -- The lines by the tables are those of the nodes.
   pub lines-by-tables : ((i : ℕ) → i < length ns → (getD ns i 0 ≡ 1 → ⊥) → Held σ numbers seats (getD ns i 0)) → linesBy σ numbers seats ns ≡ linesFor σ ns
   unfolding linesBy linesFor
-  lines-by-tables held = map-same (lineBy σ numbers seats) (lineFor σ (supportOf σ ns) ns) 0 ns (λ i h. line-by-tables (getD ns i 0) (held i h))
+  lines-by-tables held = map-same (lineBy σ numbers seats) (lineOfNode σ (supportOf σ ns) ns) 0 ns (λ i h. line-by-tables (getD ns i 0) (held i h))

@@ -9,9 +9,9 @@ use lib.ListN.{length, getD, length-map}
 use lib.IntN.{ℤ, natAbs}
 use borrow.Author.Tests.{ne-eqb}
 use Rattle.store.specs.Store.{Store, thenAt, elseAt}
-use Rattle.node_lines.specs.Line.{seatOf}
+use Rattle.node_lines.specs.Line.{seatOfLine}
 use Rattle.node_writers.specs.Encoded.{binBytes, lineBytes}
-use Rattle.export_nodes.specs.Tables.{numberOf, lineBy, linesBy, seatBy, innerBy, nodeBy, Child, Lined}
+use Rattle.export_nodes.specs.Tables.{lineNumberOf, lineBy, linesBy, seatBy, innerBy, nodeLineBy, ChildLine, Lined}
 use Rattle.export_nodes.proofs.EdgeNumbers.{number-abs}
 
 -- an entry of a list that was mapped
@@ -22,39 +22,39 @@ map-at f (x ∷ l) (suc i) a b h = map-at f l i a b (omega arith)
 
 -- the seats of all lines
 abbrev pub lineSeats : Store → List ℕ → List ℕ → List ℕ → List ℕ
-lineSeats σ numbers seats nodes = map seatOf (linesBy σ numbers seats nodes)
+lineSeats σ numbers seats nodes = map seatOfLine (linesBy σ numbers seats nodes)
 
 module _ {σ : Store} {nodes numbers seats : List ℕ} (L : Lined σ nodes numbers seats) where
   -- a line has the seat of its node
-  own-seat : (i : ℕ) → i < length nodes → seatOf (lineBy σ numbers seats (getD nodes i 0)) ≡ seatBy σ seats (getD nodes i 0)
+  own-seat : (i : ℕ) → i < length nodes → seatOfLine (lineBy σ numbers seats (getD nodes i 0)) ≡ seatBy σ seats (getD nodes i 0)
   unfolding lineBy
   own-seat i h = go (ℕ-discrete (getD nodes i 0) 1)
     where
-      go : Dec (getD nodes i 0 ≡ 1) → seatOf (lineBy σ numbers seats (getD nodes i 0)) ≡ seatBy σ seats (getD nodes i 0)
+      go : Dec (getD nodes i 0 ≡ 1) → seatOfLine (lineBy σ numbers seats (getD nodes i 0)) ≡ seatBy σ seats (getD nodes i 0)
       go (yes e) = rw e
       go (no f) = rw (ne-eqb (getD nodes i 0) 1 f) (omega (arith, L .inner i h (omega (arith, f, L .some i h)) .supported))
 
   seat-at : (i : ℕ) → i < length nodes → getD (lineSeats σ numbers seats nodes) i 0 ≡ seatBy σ seats (getD nodes i 0)
   unfolding linesBy
   seat-at i h =
-      map-at seatOf (map (lineBy σ numbers seats) nodes) i (lineBy σ numbers seats 0) 0 (rw (length-map nodes (lineBy σ numbers seats)) h)
-      ∙ ap seatOf (map-at (lineBy σ numbers seats) nodes i 0 (lineBy σ numbers seats 0) h) ∙ own-seat i h
+      map-at seatOfLine (map (lineBy σ numbers seats) nodes) i (lineBy σ numbers seats 0) 0 (rw (length-map nodes (lineBy σ numbers seats)) h)
+      ∙ ap seatOfLine (map-at (lineBy σ numbers seats) nodes i 0 (lineBy σ numbers seats 0) h) ∙ own-seat i h
 
   -- a child is found by the number of its line
-  child-seat : (n : ℕ) → n ≤ length nodes → (e : ℤ) → Child σ numbers seats n (natAbs e)
-      → getD (lineSeats σ numbers seats nodes) (natAbs (numberOf numbers e) - 1) 0 ≡ seatBy σ seats (natAbs e)
+  child-seat : (n : ℕ) → n ≤ length nodes → (e : ℤ) → ChildLine σ numbers seats n (natAbs e)
+      → getD (lineSeats σ numbers seats nodes) (natAbs (lineNumberOf numbers e) - 1) 0 ≡ seatBy σ seats (natAbs e)
   child-seat n h e C =
       let k = getD numbers (natAbs e - 1) 0 - 1 in
       rw (number-abs numbers e) (seat-at k (omega (arith, C .lined, C .earlier)) ∙ rw (L .back (natAbs e) (C .some) (C .there) (C .lined)))
 
   -- each node is written as its line
   pub node-line : (ascii : Bool) (i : ℕ) → i < length nodes
-      → nodeBy ascii σ numbers seats (i + 1) (getD nodes i 0) ≡ lineBytes ascii (lineSeats σ numbers seats nodes) (i + 1) (lineBy σ numbers seats (getD nodes i 0))
-  unfolding nodeBy innerBy lineBy binBytes
+      → nodeLineBy ascii σ numbers seats (i + 1) (getD nodes i 0) ≡ lineBytes ascii (lineSeats σ numbers seats nodes) (i + 1) (lineBy σ numbers seats (getD nodes i 0))
+  unfolding nodeLineBy innerBy lineBy binBytes
   node-line ascii i h = go (ℕ-discrete (getD nodes i 0) 1) ascii
     where
       go : Dec (getD nodes i 0 ≡ 1) → (ascii : Bool)
-          → nodeBy ascii σ numbers seats (i + 1) (getD nodes i 0) ≡ lineBytes ascii (lineSeats σ numbers seats nodes) (i + 1) (lineBy σ numbers seats (getD nodes i 0))
+          → nodeLineBy ascii σ numbers seats (i + 1) (getD nodes i 0) ≡ lineBytes ascii (lineSeats σ numbers seats nodes) (i + 1) (lineBy σ numbers seats (getD nodes i 0))
       go (yes e) true = rw e
       go (yes e) false = rw e
       go (no f) true = rw (ne-eqb (getD nodes i 0) 1 f)

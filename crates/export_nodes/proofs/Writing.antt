@@ -11,7 +11,7 @@ use Rattle.store.specs.Store.{Store}
 use Rattle.writers.specs.Written.{Wrote}
 use Rattle.writers.proofs.Sets.{sets-append}
 use Rattle.node_writers.specs.Encoded.{lineBytes, encodeFrom, nodeBytes}
-use Rattle.export_nodes.specs.Tables.{linesBy, nodeBy, Lined}
+use Rattle.export_nodes.specs.Tables.{linesBy, nodeLineBy, Lined}
 use Rattle.export_nodes.proofs.TableLines.{lineSeats, node-line}
 
 module _ (ascii : Bool) (σ : Store) (nodes numbers seats : List ℕ) where
@@ -43,7 +43,7 @@ module _ (ascii : Bool) (σ : Store) (nodes numbers seats : List ℕ) where
 -- The line of the next node is the first of those that are left.
 module _ (ascii : Bool) {σ : Store} {nodes numbers seats : List ℕ} (L : Lined σ nodes numbers seats) (i : ℕ) (h : i < length nodes) where
   abbrev line : List ℕ
-  line = nodeBy ascii σ numbers seats (i + 1) (getD nodes i 0)
+  line = nodeLineBy ascii σ numbers seats (i + 1) (getD nodes i 0)
 
   left-more : left ascii σ nodes numbers seats i ≡ line ++ left ascii σ nodes numbers seats (i + 1)
   unfolding encodeFrom linesBy

@@ -8,14 +8,14 @@ use Rattle.node_lines.specs.Line.{Line, terminal, inner}
 use Rattle.numbering.specs.Numbering.{numbering}
 
 -- the nodes of document 01's example, and its roots
-abbrev pub example : Store
-example = store 2 3 (0 ∷ 1 ∷ 0 ∷ []) (pos 0 ∷ pos 1 ∷ pos 2 ∷ []) (pos 0 ∷ negsuc 0 ∷ negsuc 0 ∷ []) [] []
+abbrev pub exampleStore : Store
+exampleStore = store 2 3 (0 ∷ 1 ∷ 0 ∷ []) (pos 0 ∷ pos 1 ∷ pos 2 ∷ []) (pos 0 ∷ negsuc 0 ∷ negsuc 0 ∷ []) [] []
 
-abbrev pub exampleRoots : List ℤ
-exampleRoots = pos 3 ∷ negsuc 2 ∷ []
+abbrev pub exampleStoreRoots : List ℤ
+exampleStoreRoots = pos 3 ∷ negsuc 2 ∷ []
 
 abbrev pub exampleNodes : List ℕ
-exampleNodes = numbering example exampleRoots
+exampleNodes = numbering exampleStore exampleStoreRoots
 
 abbrev pub exampleLines : List Line
 exampleLines = terminal ∷ inner 1 (pos 1) (negsuc 0) ∷ inner 0 (pos 2) (negsuc 0) ∷ []

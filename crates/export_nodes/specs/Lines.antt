@@ -16,10 +16,10 @@ unfoldable pub renumbered : List ℕ → ℤ → ℤ
 renumbered ns e = signed (minus e) (seatOf (natAbs e) ns)
 
 -- the line of a node: its support position is that of its level among the levels of the support
-unfoldable pub lineFor : Store → List ℕ → List ℕ → ℕ → Line
-lineFor σ support ns n =
+unfoldable pub lineOfNode : Store → List ℕ → List ℕ → ℕ → Line
+lineOfNode σ support ns n =
     cond (eqb n 1) terminal (inner (seatOf (levelAt σ n) support - 1) (renumbered ns (thenAt σ n)) (renumbered ns (elseAt σ n)))
 
 -- the lines of the nodes ns, in their order
 unfoldable pub linesFor : Store → List ℕ → List Line
-linesFor σ ns = map (lineFor σ (supportOf σ ns) ns) ns
+linesFor σ ns = map (lineOfNode σ (supportOf σ ns) ns) ns

@@ -14,8 +14,8 @@ use Rattle.node_lines.specs.Line.{Line, terminal, inner}
 use Rattle.node_writers.specs.Encoded.{smaller, textBytes, innerBytes, lineBytes}
 
 -- the table's number of an edge's node, with the edge's sign
-unfoldable pub numberOf : List ℕ → ℤ → ℤ
-numberOf numbers e = signed (minus e) (getD numbers (natAbs e - 1) 0)
+unfoldable pub lineNumberOf : List ℕ → ℤ → ℤ
+lineNumberOf numbers e = signed (minus e) (getD numbers (natAbs e - 1) 0)
 
 -- a node of a number that an edge can have
 pub record Numbered (numbers : List ℕ) (n : ℕ) : Type 0 where
@@ -25,7 +25,7 @@ pub record Numbered (numbers : List ℕ) (n : ℕ) : Type 0 where
 
 unfoldable pub lineBy : Store → List ℕ → List ℕ → ℕ → Line
 lineBy σ numbers seats n =
-    cond (eqb n 1) terminal (inner (getD seats (levelAt σ n) 0 - 1) (numberOf numbers (thenAt σ n)) (numberOf numbers (elseAt σ n)))
+    cond (eqb n 1) terminal (inner (getD seats (levelAt σ n) 0 - 1) (lineNumberOf numbers (thenAt σ n)) (lineNumberOf numbers (elseAt σ n)))
 
 -- the lines by a table of each node's number, and one of each level's seat in the support
 unfoldable pub linesBy : Store → List ℕ → List ℕ → List ℕ → List Line
@@ -39,14 +39,14 @@ seatBy σ seats n = cond (eqb n 1) 0 (getD seats (levelAt σ n) 0)
 unfoldable pub innerBy : Bool → Store → List ℕ → List ℕ → ℕ → ℕ → List ℕ
 innerBy ascii σ numbers seats n m =
     let p = getD seats (levelAt σ m) 0 - 1 in
-    let t = numberOf numbers (thenAt σ m) in
-    let e = numberOf numbers (elseAt σ m) in
+    let t = lineNumberOf numbers (thenAt σ m) in
+    let e = lineNumberOf numbers (elseAt σ m) in
     let seat = smaller (seatBy σ seats (natAbs (thenAt σ m))) (seatBy σ seats (natAbs (elseAt σ m))) in
     cond ascii (textBytes n (inner p t e)) (innerBytes n p t e seat)
 
 -- the bytes of a node m as line n; a terminal's line asks for no seats
-unfoldable pub nodeBy : Bool → Store → List ℕ → List ℕ → ℕ → ℕ → List ℕ
-nodeBy ascii σ numbers seats n m = cond (eqb m 1) (lineBytes ascii [] n terminal) (innerBy ascii σ numbers seats n m)
+unfoldable pub nodeLineBy : Bool → Store → List ℕ → List ℕ → ℕ → ℕ → List ℕ
+nodeLineBy ascii σ numbers seats n m = cond (eqb m 1) (lineBytes ascii [] n terminal) (innerBy ascii σ numbers seats n m)
 
 -- a node that is the terminal or whose level has a seat
 pub record Seated (level seats : List ℕ) (n : ℕ) : Type 0 where
@@ -55,7 +55,7 @@ pub record Seated (level seats : List ℕ) (n : ℕ) : Type 0 where
   pub seated : 2 ≤ n → getD level (n - 1) 0 < length seats
 
 -- a child of the node of line n: it has an earlier line
-pub record Child (σ : Store) (numbers seats : List ℕ) (n c : ℕ) : Type 0 where
+pub record ChildLine (σ : Store) (numbers seats : List ℕ) (n c : ℕ) : Type 0 where
   pub some : 1 ≤ c
   pub there : c ≤ length numbers
   pub level-there : c ≤ length (σ .level)
@@ -70,8 +70,8 @@ pub record Inner (σ : Store) (numbers seats : List ℕ) (n m : ℕ) : Type 0 wh
   pub els-there : m ≤ length (σ .els)
   pub seated : levelAt σ m < length seats
   pub supported : 1 ≤ getD seats (levelAt σ m) 0
-  pub then : Child σ numbers seats n (natAbs (thenAt σ m))
-  pub els : Child σ numbers seats n (natAbs (elseAt σ m))
+  pub then : ChildLine σ numbers seats n (natAbs (thenAt σ m))
+  pub els : ChildLine σ numbers seats n (natAbs (elseAt σ m))
 
 -- what writing lines leans on
 pub record Lined (σ : Store) (nodes numbers seats : List ℕ) : Type 0 where

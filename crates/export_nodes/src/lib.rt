@@ -8,14 +8,14 @@ ghost use Rattle.store.specs.Store.{slots};
 ghost use Rattle.codes.specs.Lent.{old};
 ghost use Rattle.writers.specs.Written.{Fits, Written};
 ghost use Rattle.node_writers.specs.Encoded.{nodeBytes};
-ghost use Rattle.export_nodes.specs.Tables.{numberOf, Numbered, linesBy, seatBy, innerBy, nodeBy, Seated, Inner, Lined};
+ghost use Rattle.export_nodes.specs.Tables.{lineNumberOf, Numbered, linesBy, seatBy, innerBy, nodeLineBy, Seated, Inner, Lined};
 use edges::Edge;
 use edges::Index;
 
 // An edge to a node, as an edge to that node's line.
 pub fn number_of(numbers: &[Index], e: Edge) -> Edge
     requires { ⌜ Numbered (now numbers) (natAbs e) ⌝ }
-    ensures { λ r. ⌜ r ≡ numberOf (now (numbers .entry)) e ⌝ }
+    ensures { λ r. ⌜ r ≡ lineNumberOf (now (numbers .entry)) e ⌝ }
 {
     let n = numbers[edges::magnitude(e) as usize - 1] as Edge;
     if edges::is_minus(e) {
@@ -81,8 +81,8 @@ fn put_node(
     node: Index,
 ) -> usize
     requires { ⌜ (1 ≤ node) × (n ≤ nodeLimit) × (2 ≤ node → Inner (slots (now level) (now then) (now els)) (now numbers) (now seats) n node) ⌝ }
-    requires { ⌜ Fits out at (nodeBy ascii (slots (now level) (now then) (now els)) (now numbers) (now seats) n node) ⌝ }
-    ensures { λ r. ⌜ Written out at (nodeBy ascii (slots (old level) (old then) (old els)) (old numbers) (old seats) n node) r ⌝ }
+    requires { ⌜ Fits out at (nodeLineBy ascii (slots (now level) (now then) (now els)) (now numbers) (now seats) n node) ⌝ }
+    ensures { λ r. ⌜ Written out at (nodeLineBy ascii (slots (old level) (old then) (old els)) (old numbers) (old seats) n node) r ⌝ }
 {
     if node != 1 {
         return put_inner(ascii, level, then, els, numbers, seats, out, at, n, node);

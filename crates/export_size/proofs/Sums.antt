@@ -12,7 +12,7 @@ use lib.Dec.{leb}
 use borrow.Author.Tests.{leb-true, leb-false, le-leb, lt-leb}
 use Rattle.export_size.specs.declared.Sum.{Sum}
 use Rattle.export_size.specs.declared.Sum.the-variants.{Within, Over}
-use Rattle.export_size.specs.Size.{sum, exportSize, limited, added, Held}
+use Rattle.export_size.specs.Size.{sum, exportSize, limited, addedTo, Held}
 
 -- a number that isn't over the limit is the sum
 limited-within : (max n : ℕ) → n ≤ max → limited max n ≡ Within n
@@ -35,46 +35,46 @@ module _ (max s times n : ℕ) {total : Sum} (e : total ≡ Within s) (h : Held 
   has-room q = omega (arith, held-within e h, mul-comm n times, le-div-iff-mul-le t .0 q)
 
   -- so the multiple is added
-  pub room-added : n ≤ (max - s) / times → Within (s + times * n) ≡ added max total (times * n)
-  unfolding added
+  pub room-added : n ≤ (max - s) / times → Within (s + times * n) ≡ addedTo max total (times * n)
+  unfolding addedTo
   room-added q = rw e (sym (limited-within max (s + times * n) (has-room q)))
 
   -- there is none
-  pub no-room-added : (max - s) / times < n → Over ≡ added max total (times * n)
-  unfolding added
+  pub no-room-added : (max - s) / times < n → Over ≡ addedTo max total (times * n)
+  unfolding addedTo
   no-room-added q =
       rw e (sym (limited-over max (s + times * n) (omega (arith, held-within e h, mul-comm n times, div-lt-iff-lt-mul t .0 q))))
 
 -- what is over stays so
-pub over-added : (max n : ℕ) {total : Sum} → total ≡ Over → Over ≡ added max total n
-unfolding added
+pub over-added : (max n : ℕ) {total : Sum} → total ≡ Over → Over ≡ addedTo max total n
+unfolding addedTo
 over-added max n e = rw e
 
 -- a number added to one that was held to the limit is the sum of both, held to it
-limited-more : (max t n : ℕ) → added max (limited max t) n ≡ limited max (t + n)
-unfolding limited added
+limited-more : (max t n : ℕ) → addedTo max (limited max t) n ≡ limited max (t + n)
+unfolding limited addedTo
 limited-more max t n = go (leb t max) refl
   where
-    go : (b : Bool) → leb t max ≡ b → added max (cond b (Within t) Over) n ≡ limited max (t + n)
+    go : (b : Bool) → leb t max ≡ b → addedTo max (cond b (Within t) Over) n ≡ limited max (t + n)
     go true e = refl
     go false e = sym (limited-over max (t + n) (omega (arith, leb-false t max e)))
 
 -- one number after another is their sum
-added-both : (max : ℕ) (s : Sum) (m n : ℕ) → added max (added max s m) n ≡ added max s (m + n)
-unfolding added
+added-both : (max : ℕ) (s : Sum) (m n : ℕ) → addedTo max (addedTo max s m) n ≡ addedTo max s (m + n)
+unfolding addedTo
 added-both max (Within s) m n = let e : s + m + n ≡ s + (m + n) = omega arith in limited-more max (s + m) n ∙ ap (limited max) e
 added-both max Over m n = refl
 
 -- nothing added leaves a sum
-added-none : (max : ℕ) (s : Sum) → Held max s → added max s 0 ≡ s
-unfolding added
+added-none : (max : ℕ) (s : Sum) → Held max s → addedTo max s 0 ≡ s
+unfolding addedTo
 added-none max (Within s) h = let e : s + 0 ≡ s = omega arith in rw e (limited-within max s h)
 added-none max Over h = refl
 
 -- with the multiples of the first i lengths added, those of the others give the whole
 pub record Adding (max : ℕ) (start : Sum) (times : ℕ) (lens : List ℕ) (total : Sum) (i : ℕ) : Type 0 where
   pub held : Held max total
-  pub rest : added max total (times * sum (drop i lens)) ≡ added max start (times * sum lens)
+  pub rest : addedTo max total (times * sum (drop i lens)) ≡ addedTo max start (times * sum lens)
 
 -- no length is added yet
 pub adding-start : (max : ℕ) (start : Sum) (times : ℕ) (lens : List ℕ) → Held max start → Adding max start times lens start 0
@@ -82,7 +82,7 @@ adding-start max start times lens h = record { held = h; rest = refl }
 
 module _ {max : ℕ} {start : Sum} {times : ℕ} {lens : List ℕ} {total : Sum} {i : ℕ} (a : Adding max start times lens total i) where
   -- one length more
-  pub adding-more : {next : Sum} → i < length lens → next ≡ added max total (times * getD lens i 0) → Held max next
+  pub adding-more : {next : Sum} → i < length lens → next ≡ addedTo max total (times * getD lens i 0) → Held max next
       → Adding max start times lens next (i + 1)
   unfolding sum
   adding-more {next} h e k = record {
@@ -94,22 +94,22 @@ module _ {max : ℕ} {start : Sum} {times : ℕ} {lens : List ℕ} {total : Sum}
   }
 
   -- all lengths are added
-  pub adding-end : length lens ≤ i → total ≡ added max start (times * sum lens)
+  pub adding-end : length lens ≤ i → total ≡ addedTo max start (times * sum lens)
   unfolding sum
   adding-end h = let z : times * 0 ≡ 0 = omega arith in sym (added-none max total (a .held)) ∙ rw (drop-of-length-le lens h, z) at (a .rest)
 
 -- one number more is added to a sum
-limited-next : (max t n : ℕ) {s r : Sum} → s ≡ limited max t → r ≡ added max s n → r ≡ limited max (t + n)
-limited-next max t n e q = q ∙ ap (λ x. added max x n) e ∙ limited-more max t n
+limited-next : (max t n : ℕ) {s r : Sum} → s ≡ limited max t → r ≡ addedTo max s n → r ≡ limited max (t + n)
+limited-next max t n e q = q ∙ ap (λ x. addedTo max x n) e ∙ limited-more max t n
 
 module _ (max count levels roots : ℕ) (lens rootlens : List ℕ) (dd : ℕ) {fixed nodes variables listed named rooted whole : Sum} where
   -- the parts of the export size, added one after the other
-  pub size-limited : fixed ≡ added max (Within 0) (1 * 256) → nodes ≡ added max fixed (32 * count)
-      → variables ≡ added max nodes (24 * levels) → listed ≡ added max variables (16 * roots)
-      → named ≡ added max listed (3 * sum lens) → rooted ≡ added max named (1 * sum rootlens)
-      → whole ≡ added max rooted (1 * dd)
+  pub size-limited : fixed ≡ addedTo max (Within 0) (1 * 256) → nodes ≡ addedTo max fixed (32 * count)
+      → variables ≡ addedTo max nodes (24 * levels) → listed ≡ addedTo max variables (16 * roots)
+      → named ≡ addedTo max listed (3 * sum lens) → rooted ≡ addedTo max named (1 * sum rootlens)
+      → whole ≡ addedTo max rooted (1 * dd)
       → whole ≡ limited max (exportSize count levels roots lens rootlens dd)
-  unfolding exportSize added
+  unfolding exportSize addedTo
   size-limited a b c d e f g =
       let n : 0 + 1 * 256 + 32 * count + 24 * levels + 16 * roots + 3 * sum lens + 1 * sum rootlens + 1 * dd
       ≡ 256 + 32 * count + 24 * levels + 16 * roots + 3 * sum lens + sum rootlens + dd = omega arith in

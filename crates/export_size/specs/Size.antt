@@ -20,9 +20,9 @@ unfoldable pub limited : ℕ → ℕ → Sum
 limited max n = cond (leb n max) (Within n) Over
 
 -- a sum and a number; what is over stays so
-unfoldable pub added : ℕ → Sum → ℕ → Sum
-added max (Within s) n = limited max (s + n)
-added max Over n = Over
+unfoldable pub addedTo : ℕ → Sum → ℕ → Sum
+addedTo max (Within s) n = limited max (s + n)
+addedTo max Over n = Over
 
 -- a sum within a limit is no more than it
 abbrev pub Held : ℕ → Sum → Type 0

@@ -2,7 +2,7 @@
 ghost use mathlib.Core.Path.{_≡_};
 ghost use Prim.Native.Nat.{_*_, _<_};
 ghost use lib.Dec.{leb};
-ghost use Rattle.export_size.specs.Size.{sum, exportSize, added, Held};
+ghost use Rattle.export_size.specs.Size.{sum, exportSize, addedTo, Held};
 use edges::Index;
 
 // What a sum has come to, or that it is over a limit.
@@ -15,7 +15,7 @@ pub enum Sum {
 fn plus(total: Sum, times: usize, n: usize, max: usize) -> Sum
     requires { ⌜ Held max total ⌝ }
     requires { ⌜ 0 < times ⌝ }
-    ensures { λ r. ⌜ r ≡ added max total (times * n) ⌝ }
+    ensures { λ r. ⌜ r ≡ addedTo max total (times * n) ⌝ }
     ensures { λ r. ⌜ Held max r ⌝ }
 {
     match total {
@@ -33,7 +33,7 @@ fn plus(total: Sum, times: usize, n: usize, max: usize) -> Sum
 fn plus_all(start: Sum, times: usize, lens: &[u32], max: usize) -> Sum
     requires { ⌜ Held max start ⌝ }
     requires { ⌜ 0 < times ⌝ }
-    ensures { λ r. ⌜ r ≡ added max start (times * sum (now (lens .entry))) ⌝ }
+    ensures { λ r. ⌜ r ≡ addedTo max start (times * sum (now (lens .entry))) ⌝ }
     ensures { λ r. ⌜ Held max r ⌝ }
 {
     let mut total = start;

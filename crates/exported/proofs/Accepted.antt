@@ -18,10 +18,10 @@ use Rattle.store.specs.Keeps.{keeps, keeps-true}
 use Rattle.store.specs.Growth.{EdgeOf}
 use Rattle.support.specs.Support.{permidsFit}
 use Rattle.variable_order.specs.Order.{isOrder}
-use Rattle.export_names.specs.Names.{fitPlace, listFits}
+use Rattle.export_names.specs.Names.{fitPlace, nameListFits}
 use Rattle.export_size.specs.Size.{exportSize}
 use Rattle.heading.specs.Tables.{Lent, NamesFit}
-use Rattle.exported.specs.Export.{allRoots, rootsFit, enough, namesFit, exportFault}
+use Rattle.exported.specs.Export.{allRoots, rootsFit, longEnough, namesFit, exportFault}
 
 pub record Accepted (σ : Store) (roots : List ℤ) (order : List ℕ) (p : Lent) (slots numbers out : ℕ) : Type 0 where
   pub slots-long : σ .count ≤ slots
@@ -54,16 +54,16 @@ unfolding isOrder
 order-length levels order h = eqb-true (length order) levels (both (eqb (length order) levels) (permidsFit levels order) h .0)
 
 module _ (σ : Store) (roots : List ℤ) (order : List ℕ) (p : Lent) (slots numbers out : ℕ) where
-  passed : enough σ roots p slots numbers out ≡ true → keeps limits σ ≡ true → rootsFit (σ .count) roots ≡ true → isOrder (σ .levels) order ≡ true
+  passed : longEnough σ roots p slots numbers out ≡ true → keeps limits σ ≡ true → rootsFit (σ .count) roots ≡ true → isOrder (σ .levels) order ≡ true
       → namesFit σ roots p ≡ true → Accepted σ roots order p slots numbers out
-  unfolding enough rootsFit namesFit
+  unfolding longEnough rootsFit namesFit
   passed a b c d e =
       let size = exportSize (σ .count) (σ .levels) (length roots) (p .lens) (p .rootlens) (p .dd .len) in
       let x = all-three (leb (σ .count) slots) (leb (σ .count) numbers) (leb size out) a in
       let y = both (leb (length roots) rootLimit) (allRoots (σ .count) roots) c in
       let z = order-length (σ .levels) order d in
       let n =
-      all-three (listFits (σ .levels) (p .bytes) (p .starts) (p .lens)) (listFits (length roots) (p .bytes) (p .rootstarts) (p .rootlens))
+      all-three (nameListFits (σ .levels) (p .bytes) (p .starts) (p .lens)) (nameListFits (length roots) (p .bytes) (p .rootstarts) (p .rootlens))
       (fitPlace true (p .bytes) (p .dd)) e
       in
       record {

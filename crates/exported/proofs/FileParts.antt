@@ -22,7 +22,7 @@ use Rattle.export_nodes.proofs.Renumbered.{renumbered-abs, lines-few}
 use Rattle.export_nodes.proofs.Support.{support-few}
 use Rattle.export_nodes.proofs.ExportLines.{lines-short}
 use Rattle.heading.specs.Heading.{headText}
-use Rattle.heading.specs.Small.{Small}
+use Rattle.heading.specs.Small.{SmallHeading}
 use Rattle.heading.specs.Tables.{Lent}
 use Rattle.heading.proofs.Short.{head-short}
 use Rattle.exported.specs.Settings.{Settings}
@@ -41,7 +41,7 @@ module _ (s : Settings) {σ : Store} {roots : List ℤ} {order : List ℕ} {p : 
       length-append h (b ++ endText) ∙ ap (λ n. length h + n) (length-append b endText)
 
   -- the header is within the limits
-  heading-small : Small (headingOf s σ roots order p ns)
+  heading-small : SmallHeading (headingOf s σ roots order p ns)
   unfolding headingOf
   heading-small =
       let few = lines-few E in

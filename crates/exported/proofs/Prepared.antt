@@ -22,11 +22,11 @@ use Rattle.export_support.proofs.SupportLevels.{support-fits}
 use Rattle.numbering.proofs.Allowed.{numbering-allowed}
 use Rattle.export_nodes.specs.Exported.{Exported}
 use Rattle.export_nodes.specs.Lines.{renumbered, linesFor}
-use Rattle.export_nodes.specs.Tables.{numberOf, linesBy, Lined}
+use Rattle.export_nodes.specs.Tables.{lineNumberOf, linesBy, Lined}
 use Rattle.export_nodes.proofs.Renumbered.{entry-node, lines-few}
 use Rattle.export_nodes.proofs.FilledTables.{number-seat, number-line}
 use Rattle.export_nodes.proofs.ExportLines.{Filled, allowed-lined, allowed-lines}
-use Rattle.heading.specs.Tables.{Lent, seated, headingBy, Ordered, Rooted}
+use Rattle.heading.specs.Tables.{Lent, seatedLevels, headingBy, Ordered, Rooted}
 use Rattle.heading.proofs.Support.{seated-support}
 use Rattle.exported.specs.Settings.{settings}
 use Rattle.exported.specs.Export.{headingOf}
@@ -78,14 +78,14 @@ module _ {σ : Store} {roots : List ℤ} {order : List ℕ} {p : Lent} {room mar
           };
     }
 
-    roots-same : (rs : List ℤ) → ((i : ℕ) → i < length rs → EdgeOf σ (getD rs i (pos 0))) → map (numberOf numbers) rs ≡ map (renumbered ns) rs
+    roots-same : (rs : List ℤ) → ((i : ℕ) → i < length rs → EdgeOf σ (getD rs i (pos 0))) → map (lineNumberOf numbers) rs ≡ map (renumbered ns) rs
     roots-same [] h = refl
     roots-same (r ∷ rs) h =
         let E = h 0 (omega arith) in
         rw (number-line ns numbers r (F .numbered) (E .some) (omega (arith, E .there, F .numbers-long)), roots-same rs (λ i k. h (suc i) (omega arith)))
 
     -- the levels that have a seat are the support
-    seated-same : seated seats ≡ supportOf σ ns
+    seated-same : seatedLevels seats ≡ supportOf σ ns
     seated-same =
         seated-support (σ .levels) (supportOf σ ns) seats (F .seated) (support-fits σ ns) (omega (arith, A .rules .sizes .levels-limit, F .seats-long))
 
@@ -120,7 +120,7 @@ module _ {σ : Store} {roots : List ℤ} {order : List ℕ} {p : Lent} {room mar
     -- the tables are filled
     pub filled : {numbers seats : List ℕ} → Numbers ns numbers → length numbers ≡ marks → Seats (supportOf σ (take n nodes)) seats
         → varLimit ≤ length seats → Filled σ ns numbers seats
-    filled N long S more = record { numbered = N; seated = rw nodes-front at S; numbers-long = omega (arith, A .numbers-long); seats-long = more }
+    filled N long S more = record { numbered = N; seatedLevels = rw nodes-front at S; numbers-long = omega (arith, A .numbers-long); seats-long = more }
 
     -- the lines can be written by them, and are those of the nodes
     pub lined : {numbers seats : List ℕ} → Filled σ ns numbers seats → Lined (slots (σ .level) (σ .then) (σ .els)) (take n nodes) numbers seats
@@ -131,5 +131,5 @@ module _ {σ : Store} {roots : List ℤ} {order : List ℕ} {p : Lent} {room mar
     lines-same numbers seats F = rw nodes-front (allowed-lines exported F)
 
     -- as many levels have a seat as the support has
-    pub seats-count : {k : ℕ} {numbers seats : List ℕ} → Filled σ ns numbers seats → k ≡ length (supportOf σ (take n nodes)) → k ≡ length (seated seats)
+    pub seats-count : {k : ℕ} {numbers seats : List ℕ} → Filled σ ns numbers seats → k ≡ length (supportOf σ (take n nodes)) → k ≡ length (seatedLevels seats)
     seats-count F q = q ∙ rw (nodes-front, seated-same F)

@@ -13,7 +13,7 @@ use Rattle.store.specs.Store.{Store}
 use Rattle.store.specs.Rules.{limits}
 use Rattle.store.specs.Keeps.{keeps}
 use Rattle.variable_order.specs.Order.{isOrder}
-use Rattle.export_names.specs.Names.{nameAt, fitPlace, listFits}
+use Rattle.export_names.specs.Names.{nameAt, fitPlace, nameListFits}
 use Rattle.export_size.specs.Size.{exportSize}
 use Rattle.numbering.specs.Support.{supportOf}
 use Rattle.export_nodes.specs.Lines.{renumbered, linesFor}
@@ -38,23 +38,23 @@ rootsFit count roots = leb (length roots) rootLimit && allRoots count roots
 
 -- '1 a lent part too short: .. the store count for export marks, the export size below', by the lengths of the two lists of marks and of the
 -- output
-unfoldable pub enough : Store → List ℤ → Lent → ℕ → ℕ → ℕ → Bool
-enough σ roots p slots numbers out =
+unfoldable pub longEnough : Store → List ℤ → Lent → ℕ → ℕ → ℕ → Bool
+longEnough σ roots p slots numbers out =
     leb (σ .count) slots && leb (σ .count) numbers
     && leb (exportSize (σ .count) (σ .levels) (length roots) (p .lens) (p .rootlens) (p .dd .len)) out
 
 -- '5 a name list ..': the names of the variables, of the roots, and of the diagram
 unfoldable pub namesFit : Store → List ℤ → Lent → Bool
 namesFit σ roots p =
-    listFits (σ .levels) (p .bytes) (p .starts) (p .lens)
-    && listFits (length roots) (p .bytes) (p .rootstarts) (p .rootlens)
+    nameListFits (σ .levels) (p .bytes) (p .starts) (p .lens)
+    && nameListFits (length roots) (p .bytes) (p .rootstarts) (p .rootlens)
     && fitPlace true (p .bytes) (p .dd)
 
 -- 'Export gives 1, 3, 4, 6, 5.' The refusal, 0 of none.
 unfoldable pub exportFault : Store → List ℤ → List ℕ → Lent → ℕ → ℕ → ℕ → ℕ
 exportFault σ roots order p slots numbers out =
     firstFault (
-    unless (enough σ roots p slots numbers out) 1
+    unless (longEnough σ roots p slots numbers out) 1
     ∷ unless (keeps limits σ) 3
     ∷ unless (rootsFit (σ .count) roots) 4
     ∷ unless (isOrder (σ .levels) order) 6

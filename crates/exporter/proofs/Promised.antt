@@ -16,7 +16,7 @@ use Rattle.heading.specs.Tables.{Lent}
 use Rattle.exporter.specs.declared.Exported.the-variants.{Written, Refused}
 use Rattle.exported.specs.Settings.{Settings}
 use Rattle.exported.specs.Export.{exportFault, fileOf}
-use Rattle.exporter.specs.Promise.{Exports}
+use Rattle.exporter.specs.Promise.{ExportsBy}
 use Rattle.exported.specs.Export.{VarsIf}
 use Rattle.exported.proofs.Accepted.{accepted}
 use Rattle.exported.proofs.Prepared.{exported}
@@ -33,10 +33,10 @@ module _ (σ : Store) (roots : List ℤ) (order : List ℕ) (p : Lent) {a b c sl
 
   -- a refusal, with an output of zeros
   pub promised-none : (s : Settings) {out : List ℕ} → (k ≡ 0 → ⊥) → out ≡ replicate lent 0
-      → Exports (exportFault σ roots order p slots numbers lent) s σ roots order p lent (Refused k) out
+      → ExportsBy (exportFault σ roots order p slots numbers lent) s σ roots order p lent (Refused k) out
   promised-none s {out} f q = go (exportFault σ roots order p slots numbers lent) refusal
     where
-      go : (fault : ℕ) → k ≡ fault → Exports fault s σ roots order p lent (Refused k) out
+      go : (fault : ℕ) → k ≡ fault → ExportsBy fault s σ roots order p lent (Refused k) out
       go zero e = absurd (f e)
       go (suc fault) e = record { answer = rw e; bytes = q }
 
@@ -50,7 +50,7 @@ module _ (σ : Store) (roots : List ℤ) (order : List ℕ) (p : Lent) {a b c sl
     -- and the file of the numbered nodes is written
     pub promised-file : (s : Settings) {n : ℕ} {out : List ℕ} → n ≡ length (fileOf s σ roots order p (numbering (bare σ) roots))
         → out ≡ laid (fileOf s σ roots order p (numbering (bare σ) roots)) (replicate c 0)
-        → Exports (exportFault σ roots order p slots numbers lent) s σ roots order p lent (Written n) out
+        → ExportsBy (exportFault σ roots order p slots numbers lent) s σ roots order p lent (Written n) out
     promised-file s q w =
         rw (sym refusal ∙ none) (record {
           nodes = numbering (bare σ) roots;

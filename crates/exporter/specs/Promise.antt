@@ -31,14 +31,14 @@ pub record Writes (s : Settings) (σ : Store) (roots : List ℤ) (order : List �
   pub bytes : out ≡ laid (fileOf s σ roots order p nodes) (replicate lent 0)
 
 -- 'on a refusal all output is zeros'
-pub record Refuses (k lent : ℕ) (r : Exported) (out : List ℕ) : Type 0 where
+pub record RefusesExport (k lent : ℕ) (r : Exported) (out : List ℕ) : Type 0 where
   pub answer : ofExported r ≡ refused k
   pub bytes : out ≡ replicate lent 0
 
 -- by the refusal, 0 of none, and the length of the output
-abbrev pub Exports : ℕ → Settings → Store → List ℤ → List ℕ → Lent → ℕ → Exported → List ℕ → Type 0
-Exports zero s σ roots order p lent r out = Writes s σ roots order p lent r out
-Exports (suc k) s σ roots order p lent r out = Refuses (suc k) lent r out
+abbrev pub ExportsBy : ℕ → Settings → Store → List ℤ → List ℕ → Lent → ℕ → Exported → List ℕ → Type 0
+ExportsBy zero s σ roots order p lent r out = Writes s σ roots order p lent r out
+ExportsBy (suc k) s σ roots order p lent r out = RefusesExport (suc k) lent r out
 
 -- `ExportSettings::export`
 module _ (self : ExportSettings) (levels count : ℕ) (level : Part (List ℕ)) (then els : Part (List ℤ)) (next heads : Part (List ℕ))
@@ -52,9 +52,9 @@ module _ (self : ExportSettings) (levels count : ℕ) (level : Part (List ℕ)) 
   abbrev fault : ℕ
   fault = exportFault lentStore (old roots) (old order) lentNames (length (old slots)) (length (old numbers)) (length (old out))
 
-  pub record ExportPromise (r : Exported) : Type 0 where
+  pub record ExporterPromise (r : Exported) : Type 0 where
     -- 'Export gives 1, 3, 4, 6, 5'; 'on success unused output is zero'
-    pub file : Exports fault (ofSettings self) lentStore (old roots) (old order) lentNames (length (old out)) r (new out)
+    pub file : ExportsBy fault (ofSettings self) lentStore (old roots) (old order) lentNames (length (old out)) r (new out)
     -- 'Scratch ends as zeros.'
     pub slots-left : new slots ≡ replicate (length (old slots)) 0
     pub numbers-left : new numbers ≡ replicate (length (old numbers)) 0

@@ -4,7 +4,7 @@ ghost use mathlib.Core.Bool.{true, false};
 ghost use Rattle.read_text.specs.Text.{place};
 ghost use Rattle.exported.specs.Settings.{settings, defaults};
 ghost use Rattle.exporter.specs.Settings.{ofSettings};
-ghost use Rattle.exporter.specs.Promise.{ExportPromise};
+ghost use Rattle.exporter.specs.Promise.{ExporterPromise};
 use codes::DDDMPVersion;
 use codes::limits::VAR_LIMIT;
 use edges::Edge;
@@ -117,7 +117,7 @@ impl ExportSettings {
         numbers: &mut [Index],
         out: &mut [u8],
     ) -> Exported
-        ensures { λ r. ⌜ ExportPromise self levels count level then els next heads roots order
+        ensures { λ r. ⌜ ExporterPromise self levels count level then els next heads roots order
             bytes starts lens rootstarts rootlens slots numbers out r ⌝ }
     {
         let dd = self.dd;

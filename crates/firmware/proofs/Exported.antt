@@ -12,7 +12,7 @@ use Rattle.exporter.specs.Settings.{ofSettings}
 use Rattle.exporter.specs.Promise.{ofExported}
 use Rattle.calls.specs.Calls.{exportInto, Exports}
 use Rattle.c_answers.specs.declared.ExportAnswer.{ExportAnswer}
-use Rattle.c_answers.specs.Answers.{ofLength, Exporting}
+use Rattle.c_answers.specs.Answers.{ofLength, ExportingForC}
 
 -- what an export by equal settings promises is promised, and the answer is its answer in C's form
 pub exported-as : {t : Settings} {roots : List ℤ} {order bytes starts lens rootstarts rootlens out : List ℕ} {slots numbers room : ℕ}
@@ -20,7 +20,7 @@ pub exported-as : {t : Settings} {roots : List ℤ} {order bytes starts lens roo
     → Exports (exportInto (ofSettings s) roots order (lent bytes starts lens rootstarts rootlens (ofSettings s .dd)) slots numbers room)
     σ r out
     → a ≡ ofLength (ofExported r)
-    → Exporting (exportInto t roots order (lent bytes starts lens rootstarts rootlens (t .dd)) slots numbers room) σ a out
+    → ExportingForC (exportInto t roots order (lent bytes starts lens rootstarts rootlens (t .dd)) slots numbers room) σ a out
 exported-as {roots = roots} {order} {bytes} {starts} {lens} {rootstarts} {rootlens} {out} {slots} {numbers} {room} {σ} s r e x q =
     let P : Settings → Type 0 =
     λ t. Exports (exportInto t roots order (lent bytes starts lens rootstarts rootlens (t .dd)) slots numbers room) σ r out in

@@ -13,7 +13,7 @@ use Rattle.dddmp.specs.Promises as dddmp
 use Rattle.c_answers.specs.declared.LoadAnswer.{LoadAnswer}
 use Rattle.c_answers.specs.declared.EvaluateAnswer.{EvaluateAnswer}
 use Rattle.c_answers.specs.declared.ExportAnswer.{ExportAnswer}
-use Rattle.c_answers.specs.Answers.{ofAnswer, ofEvaluated, Exporting}
+use Rattle.c_answers.specs.Answers.{ofLoadAnswer, ofEvaluated, ExportingForC}
 use Rattle.c_answers.specs.Settings.{settingsOf}
 
 module _ (file list : Part (List ℕ)) (levels : ℕ) (count : Part ℕ) (level : Part (List ℕ)) (then els : Part (List ℤ))
@@ -34,7 +34,7 @@ module _ (file list : Part (List ℕ)) (levels : ℕ) (count : Part ℕ) (level 
 
   pub record ZtLoadPromise (r : LoadAnswer) : Type 0 where
     -- 'A refusal is a number and a line.'
-    pub answer : r ≡ ofAnswer (loaded .answer)
+    pub answer : r ≡ ofLoadAnswer (loaded .answer)
     -- 'On any refusal .. the store is unchanged'
     pub store : newStore levels (new count) level then els next heads ≡ loaded .after
     -- 'On any refusal outputs are all zeros ..; on success unused output is zero. Scratch ends as zeros.'
@@ -49,7 +49,7 @@ pub record ZtExportPromise (version text ddstart ddlen levels count : ℕ) (leve
     (next heads : Part (List ℕ)) (roots : Part (List ℤ)) (order bytes starts lens rootstarts rootlens slots numbers out : Part (List ℕ))
     (r : ExportAnswer) : Type 0 where
   -- 'Export gives 1, 3, 4, 6, 5'; 'version 3.0 and text are each a byte that isn't 0'
-  pub file : Exporting
+  pub file : ExportingForC
       (dddmp.exporting (settingsOf version text ddstart ddlen) levels count level then els next heads roots order bytes starts lens rootstarts rootlens
       slots numbers out)
       (oldStore levels count level then els next heads) r (new out)

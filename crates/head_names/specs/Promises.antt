@@ -10,20 +10,20 @@ use Rattle.codes.specs.Lent.{Part, old}
 use Rattle.seats.specs.Seats.{Seats}
 use Rattle.header_keys.specs.declared.Key.the-variants.{Rootnames}
 use Rattle.variable_order.specs.Order.{isOrder}
-use Rattle.export_names.specs.Names.{namesAt, listFits}
+use Rattle.export_names.specs.Names.{namesAt, nameListFits}
 use Rattle.writers.specs.Words.{spaced}
 use Rattle.writers.specs.Written.{Fits, Written}
 use Rattle.heading.specs.Lines.{line, linesText}
-use Rattle.heading.specs.Heading.{idsFrom, variablesFrom, chosen, unlessEmpty, namedLines}
-use Rattle.heading.specs.Tables.{seated, Seatable, Ordered, Inside}
+use Rattle.heading.specs.Heading.{idsFrom, variablesFrom, chosenNames, unlessEmpty, namedLines}
+use Rattle.heading.specs.Tables.{seatedLevels, Seatable, Ordered, Inside}
 
 -- the names of the support variables, in the order of the variables
 abbrev suppNames : List (List ℕ) → List ℕ → List ℕ → List ℕ
-suppNames names order seats = spaced (chosen (idsFrom (seated seats) 0 order) names)
+suppNames names order seats = spaced (chosenNames (idsFrom (seatedLevels seats) 0 order) names)
 
 -- the names of all variables, in the order of the levels
 abbrev orderedNames : List (List ℕ) → List ℕ → List ℕ
-orderedNames names order = spaced (chosen (variablesFrom (length order) 0 order) names)
+orderedNames names order = spaced (chosenNames (variablesFrom (length order) 0 order) names)
 
 -- 'with no roots `.rootnames` is left out'
 abbrev rootnames : List (List ℕ) → List ℕ
@@ -51,9 +51,9 @@ module _ (out : RefT (List ℕ)) (at : ℕ) (bytes starts lens : RefT (List ℕ)
 
   -- 'Names are lent for all variables or none'; the tables of the levels, and room
   pub record NamesAsks (version : DDDMPVersion) (order vars seats : RefT (List ℕ)) : Type 0 where
-    pub names-fit : listFits (length (now order)) (now bytes) (now starts) (now lens) ≡ true
+    pub names-fit : nameListFits (length (now order)) (now bytes) (now starts) (now lens) ≡ true
     pub ordered : Ordered (now order) (now vars) (now seats)
-    pub room : Fits out at (linesText (namedLines version (seated (now seats)) (now order) lentNames))
+    pub room : Fits out at (linesText (namedLines version (seatedLevels (now seats)) (now order) lentNames))
 
   -- each name lies inside the lent bytes, and there is room for their line
   pub record RootnamesAsks : Type 0 where
@@ -74,7 +74,7 @@ module _ (out : Part (List ℕ)) (at : ℕ) (bytes starts lens : Part (List ℕ)
 
   -- 'with no variables the name lines are written empty'
   abbrev pub NamesPromise : DDDMPVersion → Part (List ℕ) → Part (List ℕ) → ℕ → Type 0
-  NamesPromise version order seats r = Written out at (linesText (namedLines version (seated (old seats)) (old order) oldNames)) r
+  NamesPromise version order seats r = Written out at (linesText (namedLines version (seatedLevels (old seats)) (old order) oldNames)) r
 
   -- 'with no roots `.rootnames` is left out'
   abbrev pub RootnamesPromise : ℕ → Type 0

@@ -9,10 +9,10 @@ ghost use Rattle.writers.specs.Decimal.{decimal, edgeText};
 ghost use Rattle.writers.specs.Words.{spaced};
 ghost use Rattle.writers.specs.Written.{Fits, Written};
 ghost use Rattle.reached.specs.Walk.{isIn};
-ghost use Rattle.export_nodes.specs.Tables.{numberOf, Numbered};
+ghost use Rattle.export_nodes.specs.Tables.{lineNumberOf, Numbered};
 ghost use Rattle.heading.specs.Lines.{keyedText, linesText};
 ghost use Rattle.heading.specs.Heading.{idsFrom, permidsOf, countLines, idLines};
-ghost use Rattle.heading.specs.Tables.{seated, Seatable, Ordered, Rooted};
+ghost use Rattle.heading.specs.Tables.{seatedLevels, Seatable, Ordered, Rooted};
 use edges::Edge;
 use edges::Index;
 
@@ -54,7 +54,7 @@ pub fn write_counts(
 // Is a variable in the support? Its level then has a seat.
 pub fn in_support(order: &[u16], seats: &[u16], v: usize) -> bool
     requires { ⌜ Seatable (now order) (now seats) × (v < length (now order)) ⌝ }
-    ensures { λ r. ⌜ r ≡ isIn (getD (old order) v 0) (seated (old seats)) ⌝ }
+    ensures { λ r. ⌜ r ≡ isIn (getD (old order) v 0) (seatedLevels (old seats)) ⌝ }
 {
     seats[order[v] as usize] != 0
 }
@@ -62,8 +62,8 @@ pub fn in_support(order: &[u16], seats: &[u16], v: usize) -> bool
 // Writes the support variables.
 fn put_ids(out: &mut [u8], at: usize, order: &[u16], seats: &[u16]) -> usize
     requires { ⌜ Seatable (now order) (now seats) ⌝ }
-    requires { ⌜ Fits out at (spaced (map decimal (idsFrom (seated (now seats)) 0 (now order)))) ⌝ }
-    ensures { λ r. ⌜ Written out at (spaced (map decimal (idsFrom (seated (old seats)) 0 (old order)))) r ⌝ }
+    requires { ⌜ Fits out at (spaced (map decimal (idsFrom (seatedLevels (now seats)) 0 (now order)))) ⌝ }
+    ensures { λ r. ⌜ Written out at (spaced (map decimal (idsFrom (seatedLevels (old seats)) 0 (old order)))) r ⌝ }
 {
     let mut next = at;
     let mut v: usize = 0;
@@ -79,8 +79,8 @@ fn put_ids(out: &mut [u8], at: usize, order: &[u16], seats: &[u16]) -> usize
 // Writes their levels, in the order of the variables.
 fn put_permids(out: &mut [u8], at: usize, order: &[u16], seats: &[u16]) -> usize
     requires { ⌜ Seatable (now order) (now seats) ⌝ }
-    requires { ⌜ Fits out at (spaced (map decimal (permidsOf (seated (now seats)) (now order)))) ⌝ }
-    ensures { λ r. ⌜ Written out at (spaced (map decimal (permidsOf (seated (old seats)) (old order)))) r ⌝ }
+    requires { ⌜ Fits out at (spaced (map decimal (permidsOf (seatedLevels (now seats)) (now order)))) ⌝ }
+    ensures { λ r. ⌜ Written out at (spaced (map decimal (permidsOf (seatedLevels (old seats)) (old order)))) r ⌝ }
 {
     let mut next = at;
     let mut v: usize = 0;
@@ -96,8 +96,8 @@ fn put_permids(out: &mut [u8], at: usize, order: &[u16], seats: &[u16]) -> usize
 // Writes `.ids` and `.permids`. `vars` isn't read: it belongs to what `Ordered` says.
 pub fn write_ids(out: &mut [u8], at: usize, order: &[u16], vars: &[u16], seats: &[u16]) -> usize
     requires { ⌜ Ordered (now order) (now vars) (now seats) ⌝ }
-    requires { ⌜ Fits out at (linesText (idLines (seated (now seats)) (now order))) ⌝ }
-    ensures { λ r. ⌜ Written out at (linesText (idLines (seated (old seats)) (old order))) r ⌝ }
+    requires { ⌜ Fits out at (linesText (idLines (seatedLevels (now seats)) (now order))) ⌝ }
+    ensures { λ r. ⌜ Written out at (linesText (idLines (seatedLevels (old seats)) (old order))) r ⌝ }
 {
     let ids_at = writers::text::put_bytes(out, at, b".ids");
     let permids_key = put_ids(out, ids_at, order, seats);
@@ -109,8 +109,8 @@ pub fn write_ids(out: &mut [u8], at: usize, order: &[u16], vars: &[u16], seats: 
 // Writes a root, as the number of its line, with a space before it.
 fn put_root(out: &mut [u8], at: usize, root: Edge, numbers: &[Index]) -> usize
     requires { ⌜ Numbered (now numbers) (natAbs root) ⌝ }
-    requires { ⌜ Fits out at (0x20 ∷ edgeText (numberOf (now numbers) root)) ⌝ }
-    ensures { λ r. ⌜ Written out at (0x20 ∷ edgeText (numberOf (old numbers) root)) r ⌝ }
+    requires { ⌜ Fits out at (0x20 ∷ edgeText (lineNumberOf (now numbers) root)) ⌝ }
+    ensures { λ r. ⌜ Written out at (0x20 ∷ edgeText (lineNumberOf (old numbers) root)) r ⌝ }
 {
     let next = writers::text::put_byte(out, at, b' ');
     writers::text::put_edge(out, next, export_nodes::number_of(numbers, root))
@@ -119,8 +119,8 @@ fn put_root(out: &mut [u8], at: usize, root: Edge, numbers: &[Index]) -> usize
 // Writes the roots, as numbers of lines.
 pub fn put_roots(out: &mut [u8], at: usize, roots: &[Edge], numbers: &[Index]) -> usize
     requires { ⌜ Rooted (now roots) (now numbers) ⌝ }
-    requires { ⌜ Fits out at (spaced (map edgeText (map (numberOf (now numbers)) (now roots)))) ⌝ }
-    ensures { λ r. ⌜ Written out at (spaced (map edgeText (map (numberOf (old numbers)) (old roots)))) r ⌝ }
+    requires { ⌜ Fits out at (spaced (map edgeText (map (lineNumberOf (now numbers)) (now roots)))) ⌝ }
+    ensures { λ r. ⌜ Written out at (spaced (map edgeText (map (lineNumberOf (old numbers)) (old roots)))) r ⌝ }
 {
     let mut next = at;
     let mut i: usize = 0;

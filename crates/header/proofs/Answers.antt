@@ -20,7 +20,7 @@ use Rattle.header_checks.specs.Whole.{wholeFault}
 use Rattle.header.specs.declared.Loaded.{Loaded}
 use Rattle.header.specs.Kinds.{ofHeader, ofLoaded}
 use Rattle.header.specs.Promises.{JudgePromise}
-use Rattle.header.specs.Header.{Header, Answer, header, refusal, headerIn, tableOf, settled, judged, readOf, after, tableBy, NextWithin}
+use Rattle.header.specs.Header.{Header, HeaderAnswer, header, refusal, headerIn, tableOf, settled, judgedHeader, readOf, after, tableBy, NextWithin}
 use Rattle.header_lists.specs.Settled.{Settled}
 use Rattle.header.proofs.NoValues.{none-settled}
 use Rattle.header.proofs.Faultless.{faultless-settled}
@@ -43,7 +43,7 @@ pub header-read : (f : List ℕ) (t : List Span) (next lines : ℕ)
 header-read f t next lines ea v ev d ed en em es er = rw (ea, ev, ed, en, em, es, er)
 
 -- What `judge` promises, as facts of its answer and the two lists that it leaves.
-abbrev pub Promised : ℕ → List ℕ → Answer → List ℕ → List ℕ → Type 0
+abbrev pub Promised : ℕ → List ℕ → HeaderAnswer → List ℕ → List ℕ → Type 0
 Promised n f a starts ends =
     (a ≡ after n f)
     × ((starts ≡ map spanStart (tableBy f a))
@@ -98,7 +98,7 @@ SweptBy f s starts ends =
     × (EndWithin f (ofSwept s) × Table f starts ends)))
 
 -- nothing was found before: the lines decide
-judged-first : (n : ℕ) (f : List ℕ) → n ≡ 0 → after n f ≡ judged f (endOf f (linesOf f))
+judged-first : (n : ℕ) (f : List ℕ) → n ≡ 0 → after n f ≡ judgedHeader f (endOf f (linesOf f))
 unfolding readOf
 judged-first n f z = rw z
 
@@ -108,7 +108,7 @@ module _ (n : ℕ) (f : List ℕ) (z : n ≡ 0) {s : Swept} {ss es : List ℕ} (
       → starts ≡ replicate (length ss) 0 → ends ≡ replicate (length es) 0 → Promised n f (refusal k line) starts ends
   refused-line {k} {line} q a b =
       let e : endOf f (linesOf f) ≡ refusedAt k line = sym (w .0) ∙ ap ofSwept q in
-      refused n f k line (sym (judged-first n f z ∙ ap (judged f) e))
+      refused n f k line (sym (judged-first n f z ∙ ap (judgedHeader f) e))
       (cleared a (w .1 .1 .1 .1 .starts-long))
       (cleared b (w .1 .1 .1 .1 .ends-long))
 
@@ -119,7 +119,7 @@ module _ (n : ℕ) (f : List ℕ) (z : n ≡ 0) {s : Swept} {ss es : List ℕ} (
 
     -- the header as a whole decides
     decided : after n f ≡ settled f (tableOf f) next lines (wholeFault f (tableOf f))
-    decided = judged-first n f z ∙ ap (judged f) ended
+    decided = judged-first n f z ∙ ap (judgedHeader f) ended
 
     -- the lines before `.nodes` are all sound, so that the table is that of the file
     table-all : lasts (sound f (linesOf f)) ≡ tableOf f

@@ -15,24 +15,24 @@ use Rattle.header_lines.specs.Sweep.{linesFrom, linesOf, endFrom, endOf, allOf,
 use Rattle.seats.specs.Seats.{seatOf}
 use Rattle.seats.specs.Ordered.{ascending, distinct}
 use Rattle.support.specs.Support.{lastBelow, idsFit, allBelow, permidsFit, orderFrom, supportOrder}
-use Rattle.variable_names.specs.Names.{places, sameBytes, sameName, sameNames, chosen, freeFrom, orderedFrom, orderedSeats, suppFrom, suppSeats, variableNames}
+use Rattle.variable_names.specs.Names.{places, sameBytes, sameName, sameNames, chosenPlaces, freeFrom, orderedFrom, orderedSeats, suppFrom, suppSeats, variableNames}
 use Rattle.file_roots.specs.Roots.{rootsFault, edgeOf}
 use Rattle.header_values.specs.Values.{spans, numberIn, asciiIn, varinfoIn, ddIn, u32sIn, namesIn, rootsIn}
 use Rattle.header_checks.specs.Names.{upFrom, agree, variableNamesIn}
 use Rattle.codes.specs.Faults.{firstFault}
 use Rattle.header_checks.specs.Whole.{numberFaults, supportFaults, nameCountFaults, nameFaults, rootFaults, wholeFault}
-use Rattle.header.specs.Header.{tableOf, readOf, lengthFault, loadOf}
-use Rattle.header.specs.Examples.{loaded, example, exampleLoaded, starred, starredLoaded, All, refusals}
+use Rattle.header.specs.Header.{tableOf, readOf, lengthFault, loadHeader}
+use Rattle.header.specs.Examples.{loadedHead, exampleHead, exampleLoaded, starredHead, starredLoaded, AllHeaders, headRefusals}
 
-pub example-loads : loaded example ≡ exampleLoaded
-unfolding run isBlank isDigit isLineEnd isOf seek trim feedAt lineOf keyEnd valueStart valueEnd fieldOf digit number single judge u32List wordsFrom words entryStep edgeAt edgeEnd edgeList utf8Next isUtf8 nameList textAt alike lookup keyOf versionFault modeFault varinfoFault textFault singleFault u32ListFault rootListFault nameListFault faultOf linesFrom linesOf endFrom endOf allOf sound lastFrom lastOf lasts stepAt seatOf ascending lastBelow idsFit allBelow distinct permidsFit orderFrom supportOrder places sameBytes sameName sameNames chosen freeFrom orderedFrom orderedSeats suppFrom suppSeats variableNames rootsFault edgeOf spans numberIn asciiIn varinfoIn ddIn u32sIn namesIn rootsIn upFrom agree variableNamesIn firstFault numberFaults supportFaults nameCountFaults nameFaults rootFaults wholeFault tableOf readOf lengthFault loadOf
+pub example-loads : loadedHead exampleHead ≡ exampleLoaded
+unfolding run isBlank isDigit isLineEnd isOf seek trim feedAt lineOf keyEnd valueStart valueEnd fieldOf digit number single judge u32List wordsFrom words entryStep edgeAt edgeEnd edgeList utf8Next isUtf8 nameList textAt alike lookup keyOf versionFault modeFault varinfoFault textFault singleFault u32ListFault rootListFault nameListFault faultOf linesFrom linesOf endFrom endOf allOf sound lastFrom lastOf lasts stepAt seatOf ascending lastBelow idsFit allBelow distinct permidsFit orderFrom supportOrder places sameBytes sameName sameNames chosenPlaces freeFrom orderedFrom orderedSeats suppFrom suppSeats variableNames rootsFault edgeOf spans numberIn asciiIn varinfoIn ddIn u32sIn namesIn rootsIn upFrom agree variableNamesIn firstFault numberFaults supportFaults nameCountFaults nameFaults rootFaults wholeFault tableOf readOf lengthFault loadHeader
 example-loads = refl
 
-pub starred-loads : loaded starred ≡ starredLoaded
-unfolding run isBlank isDigit isLineEnd isOf seek trim feedAt lineOf keyEnd valueStart valueEnd fieldOf digit number single judge u32List wordsFrom words entryStep edgeAt edgeEnd edgeList utf8Next isUtf8 nameList textAt alike lookup keyOf versionFault modeFault varinfoFault textFault singleFault u32ListFault rootListFault nameListFault faultOf linesFrom linesOf endFrom endOf allOf sound lastFrom lastOf lasts stepAt seatOf ascending lastBelow idsFit allBelow distinct permidsFit orderFrom supportOrder places sameBytes sameName sameNames chosen freeFrom orderedFrom orderedSeats suppFrom suppSeats variableNames rootsFault edgeOf spans numberIn asciiIn varinfoIn ddIn u32sIn namesIn rootsIn upFrom agree variableNamesIn firstFault numberFaults supportFaults nameCountFaults nameFaults rootFaults wholeFault tableOf readOf lengthFault loadOf
+pub starred-loads : loadedHead starredHead ≡ starredLoaded
+unfolding run isBlank isDigit isLineEnd isOf seek trim feedAt lineOf keyEnd valueStart valueEnd fieldOf digit number single judge u32List wordsFrom words entryStep edgeAt edgeEnd edgeList utf8Next isUtf8 nameList textAt alike lookup keyOf versionFault modeFault varinfoFault textFault singleFault u32ListFault rootListFault nameListFault faultOf linesFrom linesOf endFrom endOf allOf sound lastFrom lastOf lasts stepAt seatOf ascending lastBelow idsFit allBelow distinct permidsFit orderFrom supportOrder places sameBytes sameName sameNames chosenPlaces freeFrom orderedFrom orderedSeats suppFrom suppSeats variableNames rootsFault edgeOf spans numberIn asciiIn varinfoIn ddIn u32sIn namesIn rootsIn upFrom agree variableNamesIn firstFault numberFaults supportFaults nameCountFaults nameFaults rootFaults wholeFault tableOf readOf lengthFault loadHeader
 starred-loads = refl
 
 -- every row of the table holds
-pub refusals-hold : All refusals
-unfolding run isBlank isDigit isLineEnd isOf seek trim feedAt lineOf keyEnd valueStart valueEnd fieldOf digit number single judge u32List wordsFrom words entryStep edgeAt edgeEnd edgeList utf8Next isUtf8 nameList textAt alike lookup keyOf versionFault modeFault varinfoFault textFault singleFault u32ListFault rootListFault nameListFault faultOf linesFrom linesOf endFrom endOf allOf sound lastFrom lastOf lasts stepAt seatOf ascending lastBelow idsFit allBelow distinct permidsFit orderFrom supportOrder places sameBytes sameName sameNames chosen freeFrom orderedFrom orderedSeats suppFrom suppSeats variableNames rootsFault edgeOf spans numberIn asciiIn varinfoIn ddIn u32sIn namesIn rootsIn upFrom agree variableNamesIn firstFault numberFaults supportFaults nameCountFaults nameFaults rootFaults wholeFault tableOf readOf lengthFault loadOf
+pub refusals-hold : AllHeaders headRefusals
+unfolding run isBlank isDigit isLineEnd isOf seek trim feedAt lineOf keyEnd valueStart valueEnd fieldOf digit number single judge u32List wordsFrom words entryStep edgeAt edgeEnd edgeList utf8Next isUtf8 nameList textAt alike lookup keyOf versionFault modeFault varinfoFault textFault singleFault u32ListFault rootListFault nameListFault faultOf linesFrom linesOf endFrom endOf allOf sound lastFrom lastOf lasts stepAt seatOf ascending lastBelow idsFit allBelow distinct permidsFit orderFrom supportOrder places sameBytes sameName sameNames chosenPlaces freeFrom orderedFrom orderedSeats suppFrom suppSeats variableNames rootsFault edgeOf spans numberIn asciiIn varinfoIn ddIn u32sIn namesIn rootsIn upFrom agree variableNamesIn firstFault numberFaults supportFaults nameCountFaults nameFaults rootFaults wholeFault tableOf readOf lengthFault loadHeader
 refusals-hold = (refl, (refl, (refl, (refl, (refl, (refl, (refl, (refl, (refl, (refl, (refl, (refl, (refl, (refl, (refl, (refl, (refl, (refl, (refl, (refl, (refl, (refl, (refl, (refl, (refl, (refl, (refl, (refl, (refl, (refl, tt))))))))))))))))))))))))))))))

@@ -8,14 +8,14 @@ use lib.ListN.{length, replicate}
 use Rattle.codes.specs.Lent.{Part, old, new, laid}
 use Rattle.codes.specs.Limits.{rootLimit}
 use Rattle.read_text.specs.Text.{startOf, lenOf}
-use Rattle.header_lines.specs.Sweep.{Span, End, atNodes, refusedAt, endOf, linesOf}
+use Rattle.header_lines.specs.Sweep.{Span, SweepEnd, atNodes, refusedAt, endOf, linesOf}
 use Rattle.header_keys.specs.declared.Key.the-variants.{Ids, Permids, Auxids, Rootnames}
 use Rattle.file_roots.specs.Roots.{edgeOf}
 use Rattle.support.specs.Support.{supportOrder}
 use Rattle.header_values.specs.Values.{spans, pad, nvarsIn, u32sIn, namesIn, rootsIn}
 use Rattle.header_checks.specs.Names.{variableNamesIn}
 use Rattle.header_checks.specs.Whole.{wholeFault}
-use Rattle.header.specs.Header.{Header, Answer, header, refusal, tableOf, settled, judged, readOf, after, listsIn, listsBy, loadOf, tableBy}
+use Rattle.header.specs.Header.{Header, HeaderAnswer, header, refusal, tableOf, settled, judgedHeader, readOf, after, listsIn, listsBy, loadHeader, tableBy}
 use Rattle.header.specs.declared.Loaded as code
 use Rattle.header.specs.Kinds.{ofLoaded}
 use Rattle.header.specs.Promises.{LoadHeaderPromise}
@@ -30,7 +30,7 @@ stands-clean f h t next lines zero e = refl
 stands-clean f h t next lines (suc m) e = let z : _≡_ {A = ℕ} 0 1 = cc in absurd (omega arith)
 
 -- so has one that stands after the lines
-judged-clean : (f : List ℕ) (h : Header) (e : End) → header h ≡ judged f e → wholeFault f (tableOf f) ≡ 0
+judged-clean : (f : List ℕ) (h : Header) (e : SweepEnd) → header h ≡ judgedHeader f e → wholeFault f (tableOf f) ≡ 0
 judged-clean f h (refusedAt n line) e = let z : _≡_ {A = ℕ} 0 1 = cc in absurd (omega arith)
 judged-clean f h (atNodes next lines) e = stands-clean f h (tableOf f) next lines (wholeFault f (tableOf f)) e
 
@@ -41,16 +41,16 @@ after-clean zero f h e = judged-clean f h (endOf f (linesOf f)) e
 after-clean (suc n) f h e = let z : _≡_ {A = ℕ} 0 1 = cc in absurd (omega arith)
 
 -- the roots of the table that the last phase reads are themselves as edges
-edges-by : (n : ℕ) (f : List ℕ) (a : Answer) → a ≡ after n f → map edgeOf (rootsIn f (tableBy f a)) ≡ rootsIn f (tableBy f a)
+edges-by : (n : ℕ) (f : List ℕ) (a : HeaderAnswer) → a ≡ after n f → map edgeOf (rootsIn f (tableBy f a)) ≡ rootsIn f (tableBy f a)
 edges-by n f (header h) e = faultless-roots f (tableOf f) (after-clean n f h e)
 edges-by n f (refusal k line) e = rw (ap (λ l. l .roots) (no-lists f (refusal k line)))
 
 -- that table gives the lists of the answer
-lists-by : (f : List ℕ) (a : Answer) → listsIn f (tableBy f a) a ≡ listsBy f a
+lists-by : (f : List ℕ) (a : HeaderAnswer) → listsIn f (tableBy f a) a ≡ listsBy f a
 lists-by f (header h) = refl
 lists-by f (refusal k line) = no-lists f (refusal k line)
 
-module _ (n : ℕ) (f : List ℕ) (a : Answer) {starts ends : List ℕ} (w : Promised n f a starts ends) where
+module _ (n : ℕ) (f : List ℕ) (a : HeaderAnswer) {starts ends : List ℕ} (w : Promised n f a starts ends) where
   -- the two lists hold that table
   held-spans : spans starts ends ≡ tableBy f a
   held-spans = spans-of (w .1 .0) (w .1 .1 .0)
@@ -64,8 +64,8 @@ module _ (n : ℕ) (f : List ℕ) (a : Answer) {starts ends : List ℕ} (w : Pro
   held-edges = rw held-spans (edges-by n f a (w .0))
 
   -- the lists that are read are those of the load
-  all-loaded : listsIn f (spans starts ends) a ≡ loadOf n f
-  unfolding loadOf
+  all-loaded : listsIn f (spans starts ends) a ≡ loadHeader n f
+  unfolding loadHeader
   all-loaded = ap (λ t. listsIn f t a) held-spans ∙ lists-by f a ∙ ap (listsBy f) (w .0)
 
 -- What a load leaves in its nine lists.

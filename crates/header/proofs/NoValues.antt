@@ -10,20 +10,20 @@ use Rattle.read_lines.specs.Words.{wordsFrom, words}
 use Rattle.read_lists.specs.Lists.{judge, u32List}
 use Rattle.read_edges.specs.Edges.{edgeEnd, edgeList}
 use Rattle.read_text.specs.Text.{nameList}
-use Rattle.header_lines.specs.Sweep.{Span, none, keys}
+use Rattle.header_lines.specs.Sweep.{Span, noSpan, keys}
 use Rattle.support.specs.Support.{orderFrom, supportOrder}
 use Rattle.variable_names.specs.Names.{variableNames}
 use Rattle.header_values.specs.Values.{u32sIn, namesIn, rootsIn, numberIn}
 use Rattle.header_checks.specs.Names.{variableNamesIn}
-use Rattle.header.specs.Header.{Answer, nothing, listsIn}
+use Rattle.header.specs.Header.{HeaderAnswer, nothing, listsIn}
 use Rattle.header_lists.specs.Settled.{Settled}
 
 -- the table of no values
 abbrev pub noValues : List Span
-noValues = replicate keys none
+noValues = replicate keys noSpan
 
 -- it gives no lists
-pub no-lists : (f : List ℕ) (a : Answer) → listsIn f noValues a ≡ nothing a
+pub no-lists : (f : List ℕ) (a : HeaderAnswer) → listsIn f noValues a ≡ nothing a
 unfolding numberIn single u32sIn u32List judge words wordsFrom namesIn nameList rootsIn edgeList edgeEnd run variableNamesIn variableNames supportOrder orderFrom
 no-lists f a = refl
 

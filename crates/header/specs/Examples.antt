@@ -7,19 +7,19 @@ use lib.ListN.{length}
 use lib.IntN.{pos, negsuc}
 use Rattle.codes.specs.Texts.{bytes}
 use Rattle.read_text.specs.Text.{place}
-use Rattle.header.specs.Header.{Loaded, header, refusal, nothing, lengthFault, loadOf}
+use Rattle.header.specs.Header.{HeaderLoaded, header, refusal, nothing, lengthFault, loadHeader}
 
 -- a load of a file's header, where nothing is found before the input's length
-abbrev pub loaded : List ℕ → Loaded
-loaded f = loadOf (lengthFault (length f)) f
+abbrev pub loadedHead : List ℕ → HeaderLoaded
+loadedHead f = loadHeader (lengthFault (length f)) f
 
 -- the header of document 01's example file
-abbrev pub example : List ℕ
-example =
+abbrev pub exampleHead : List ℕ
+exampleHead =
     bytes
     ".ver DDDMP-2.0\n.mode A\n.varinfo 4\n.nnodes 3\n.nvars 2\n.nsuppvars 2\n.suppvarnames gate dock\n.orderedvarnames gate dock\n.ids 0 1\n.permids 0 1\n.nroots 2\n.rootids 3 -3\n.rootnames full short\n.nodes\n"
 
-abbrev pub exampleLoaded : Loaded
+abbrev pub exampleLoaded : HeaderLoaded
 exampleLoaded = record {
   answer = header (record {
     ascii = true;
@@ -42,21 +42,21 @@ exampleLoaded = record {
 }
 
 -- a file, and the number and line of its refusal
-pub record Row : Type 0 where
+pub record HeaderRow : Type 0 where
   pub file : List ℕ
   pub number : ℕ
   pub line : ℕ
 
-abbrev pub row : List ℕ → ℕ → ℕ → Row
+abbrev pub row : List ℕ → ℕ → ℕ → HeaderRow
 row f n line = record { file = f; number = n; line = line }
 
 -- each row is refused so, and leaves nothing
-abbrev pub All : List Row → Type 0
-All [] = Unit
-All (r ∷ rs) = (loaded (r .file) ≡ nothing (refusal (r .number) (r .line))) × All rs
+abbrev pub AllHeaders : List HeaderRow → Type 0
+AllHeaders [] = Unit
+AllHeaders (r ∷ rs) = (loadedHead (r .file) ≡ nothing (refusal (r .number) (r .line))) × AllHeaders rs
 
-abbrev pub refusals : List Row
-refusals =
+abbrev pub headRefusals : List HeaderRow
+headRefusals =
     row (bytes "") 10 0
     ∷ row (bytes ".nvars 1\n") 10 0
     ∷ row (bytes ".idss 0\n.nodes\n") 11 1
@@ -90,10 +90,10 @@ refusals =
     ∷ []
 
 -- starred: ids `0 2`, three variables: accepted
-abbrev pub starred : List ℕ
-starred = bytes ".nvars 3\n.nsuppvars 2\n.ids 0 2\n.permids 2 0\n.suppvarnames a b\n.nodes\n"
+abbrev pub starredHead : List ℕ
+starredHead = bytes ".nvars 3\n.nsuppvars 2\n.ids 0 2\n.permids 2 0\n.suppvarnames a b\n.nodes\n"
 
-abbrev pub starredLoaded : Loaded
+abbrev pub starredLoaded : HeaderLoaded
 starredLoaded = record {
   answer = header (record {
     ascii = true;

@@ -8,7 +8,7 @@ use lib.IntN.{ℤ}
 use lib.Dec.{leb, ltb}
 use Rattle.codes.specs.Limits.{varLimit, rootLimit, inputLimit}
 use Rattle.read_text.specs.Text.{Place}
-use Rattle.header_lines.specs.Sweep.{Span, none, keys, End, atNodes, refusedAt, linesOf, allOf, endOf, lasts}
+use Rattle.header_lines.specs.Sweep.{Span, noSpan, keys, SweepEnd, atNodes, refusedAt, linesOf, allOf, endOf, lasts}
 use Rattle.header_keys.specs.declared.Key.the-variants.{Ids, Permids, Auxids, Rootnames}
 use Rattle.support.specs.Support.{supportOrder}
 use Rattle.header_values.specs.Values.{nnodesIn, nvarsIn, nsuppvarsIn, nrootsIn, asciiIn, varinfoIn, ddIn, u32sIn, namesIn, rootsIn}
@@ -30,9 +30,9 @@ pub record Header : Type 0 where
   pub lines : ℕ
 
 -- a header, or a refusal and its line
-pub data Answer : Type 0 where
-  header : Header → Answer
-  refusal : ℕ → ℕ → Answer
+pub data HeaderAnswer : Type 0 where
+  header : Header → HeaderAnswer
+  refusal : ℕ → ℕ → HeaderAnswer
 
 -- the numbers, by the last value of each key
 abbrev pub headerIn : List ℕ → List Span → ℕ → ℕ → Header
@@ -53,20 +53,20 @@ unfoldable pub tableOf : List ℕ → List Span
 tableOf f = lasts (allOf (linesOf f))
 
 -- after the lines the header as a whole, whose refusals have line 0
-abbrev pub settled : List ℕ → List Span → ℕ → ℕ → ℕ → Answer
+abbrev pub settled : List ℕ → List Span → ℕ → ℕ → ℕ → HeaderAnswer
 settled f t next lines zero = header (headerIn f t next lines)
 settled f t next lines (suc n) = refusal (suc n) 0
 
-abbrev pub judged : List ℕ → End → Answer
-judged f (refusedAt n line) = refusal n line
-judged f (atNodes next lines) = settled f (tableOf f) next lines (wholeFault f (tableOf f))
+abbrev pub judgedHeader : List ℕ → SweepEnd → HeaderAnswer
+judgedHeader f (refusedAt n line) = refusal n line
+judgedHeader f (atNodes next lines) = settled f (tableOf f) next lines (wholeFault f (tableOf f))
 
 -- 'header': its lines, then the header as a whole
-unfoldable pub readOf : List ℕ → Answer
-readOf f = judged f (endOf f (linesOf f))
+unfoldable pub readOf : List ℕ → HeaderAnswer
+readOf f = judgedHeader f (endOf f (linesOf f))
 
 -- The header is read where nothing was found before, which is 0; what was found is a refusal with line 0.
-abbrev pub after : ℕ → List ℕ → Answer
+abbrev pub after : ℕ → List ℕ → HeaderAnswer
 after zero f = readOf f
 after (suc n) f = refusal (suc n) 0
 
@@ -93,12 +93,12 @@ abbrev pub MayRead : ℕ → List ℕ → Type 0
 MayRead found f = found ≡ 0 → length f ≤ inputLimit
 
 -- a file's header by itself: '19 for the input's length, header'
-unfoldable pub answerOf : List ℕ → Answer
+unfoldable pub answerOf : List ℕ → HeaderAnswer
 answerOf f = after (lengthFault (length f)) f
 
 -- What a load of the header leaves: its answer, and the entries of each lent list, which are followed by zeros.
-pub record Loaded : Type 0 where
-  pub answer : Answer
+pub record HeaderLoaded : Type 0 where
+  pub answer : HeaderAnswer
   pub ids : List ℕ
   pub order : List ℕ
   pub permids : List ℕ
@@ -108,7 +108,7 @@ pub record Loaded : Type 0 where
   pub rootnames : List Place
 
 -- the lists that a table gives
-abbrev pub listsIn : List ℕ → List Span → Answer → Loaded
+abbrev pub listsIn : List ℕ → List Span → HeaderAnswer → HeaderLoaded
 listsIn f t a = record {
   answer = a;
   ids = u32sIn f t Ids;
@@ -121,23 +121,23 @@ listsIn f t a = record {
 }
 
 -- 'On any refusal outputs are all zeros'
-abbrev pub nothing : Answer → Loaded
+abbrev pub nothing : HeaderAnswer → HeaderLoaded
 nothing a = record { answer = a; ids = []; order = []; permids = []; auxids = []; names = []; roots = []; rootnames = [] }
 
-abbrev pub listsBy : List ℕ → Answer → Loaded
+abbrev pub listsBy : List ℕ → HeaderAnswer → HeaderLoaded
 listsBy f (header h) = listsIn f (tableOf f) (header h)
 listsBy f (refusal n line) = nothing (refusal n line)
 
 -- A load of a file's header, after what was found before.
-unfoldable pub loadOf : ℕ → List ℕ → Loaded
-loadOf found f = listsBy f (after found f)
+unfoldable pub loadHeader : ℕ → List ℕ → HeaderLoaded
+loadHeader found f = listsBy f (after found f)
 
 -- the table that the last phase reads: none on a refusal
-abbrev pub tableBy : List ℕ → Answer → List Span
+abbrev pub tableBy : List ℕ → HeaderAnswer → List Span
 tableBy f (header h) = tableOf f
-tableBy f (refusal n line) = replicate keys none
+tableBy f (refusal n line) = replicate keys noSpan
 
 -- the position after `.nodes`' line lies inside the file
-abbrev pub NextWithin : List ℕ → Answer → Type 0
+abbrev pub NextWithin : List ℕ → HeaderAnswer → Type 0
 NextWithin f (header h) = h .next ≤ length f
 NextWithin f (refusal n line) = Unit

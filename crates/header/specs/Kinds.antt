@@ -18,6 +18,6 @@ ofHeader h = record {
   lines = h .lines;
 }
 
-abbrev pub ofLoaded : Loaded → header.Answer
+abbrev pub ofLoaded : Loaded → header.HeaderAnswer
 ofLoaded (loaded.Header h) = header.header (ofHeader h)
 ofLoaded (loaded.Refused n line) = header.refusal n line

@@ -10,7 +10,7 @@ use Rattle.header_lines.specs.Sweep.{Table, spanStart, spanEnd}
 use Rattle.header_values.specs.Values.{pad}
 use Rattle.header_lists.specs.Settled.{Settled}
 use Rattle.header.specs.Header as meant
-use Rattle.header.specs.Header.{after, tableBy, loadOf, NextWithin}
+use Rattle.header.specs.Header.{after, tableBy, loadHeader, NextWithin}
 use Rattle.header.specs.declared.Loaded.{Loaded}
 use Rattle.header.specs.Kinds.{ofLoaded}
 
@@ -29,8 +29,8 @@ pub record JudgePromise (f : Part (List ℕ)) (found : ℕ) (starts ends : Part 
 module _ (f : Part (List ℕ)) (found : ℕ) (ids order permids auxids names lens : Part (List ℕ)) (roots : Part (List ℤ))
     (rootnames rootlens : Part (List ℕ)) where
   -- a load of the header, after what was found before
-  abbrev load : meant.Loaded
-  load = loadOf found (old f)
+  abbrev load : meant.HeaderLoaded
+  load = loadHeader found (old f)
 
   -- 'On any refusal outputs are all zeros ..; on success unused output is zero.'
   pub record LoadHeaderPromise (r : Loaded) : Type 0 where

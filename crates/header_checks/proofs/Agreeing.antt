@@ -12,7 +12,7 @@ use Rattle.read_text.specs.Text.{Place, startOf, lenOf}
 use Rattle.header_lines.specs.Sweep.{Span}
 use Rattle.header_keys.specs.declared.Key.{Key}
 use Rattle.header_keys.specs.declared.Key.the-variants.{Ids, Permids}
-use Rattle.variable_names.specs.Names.{places, sameNames, chosen}
+use Rattle.variable_names.specs.Names.{places, sameNames, chosenPlaces}
 use Rattle.variable_names.proofs.Placed.{places-parts}
 use Rattle.header_values.specs.Promises.{NamesPromise, table}
 use Rattle.header_values.specs.Values.{pad, namesIn}
@@ -20,7 +20,7 @@ use Rattle.header_values.proofs.Counted.{u32s-most, names-most}
 use Rattle.header_values.proofs.Fronts.{front-fits, front-is, front-long}
 use Rattle.header_checks.specs.Names.{upFrom, agree, varnamesIn, orderedvarnamesIn, suppvarnamesIn, varnamesAgree, suppByVarnames, suppByOrdered}
 use Rattle.codes.specs.Faults.{firstFault}
-use Rattle.header_checks.specs.Whole.{nameFaults, NameRoom, Listed}
+use Rattle.header_checks.specs.Whole.{nameFaults, NameRoom, IdsRead}
 use Rattle.codes.proofs.Faults.{refuses, passes, last-check}
 use Rattle.codes.proofs.Refusals.{unless-holds, unless-fails}
 use Rattle.header_checks.proofs.Supporting.{room-in}
@@ -109,13 +109,13 @@ module _ (f : List ℕ) (ps : List Place) (is : List ℕ) (qs : List Place) (js 
       second-missing k = rw (ne-eqb (length ps) 0 (λ z. h (p ∙ z)), eq-eqb (length qs) 0 (sym q ∙ k))
 
       -- both are: their names decide
-      pub both-given : (m ≡ 0 → ⊥) → {r : Bool} → r ≡ sameNames f (chosen is ps) (chosen js qs) → r ≡ agree f ps is qs js
+      pub both-given : (m ≡ 0 → ⊥) → {r : Bool} → r ≡ sameNames f (chosenPlaces is ps) (chosenPlaces js qs) → r ≡ agree f ps is qs js
       unfolding agree
       both-given k e = rw (ne-eqb (length ps) 0 (λ z. h (p ∙ z)), ne-eqb (length qs) 0 (λ z. k (q ∙ z))) e
 
 -- the names at other positions, where those are alike
 pub chosen-alike : (f : List ℕ) {ps ps′ qs qs′ : List Place} {js js′ : List ℕ} (is : List ℕ) {r : Bool} → ps ≡ ps′ → js ≡ js′ → qs ≡ qs′
-    → r ≡ sameNames f (chosen is ps) (chosen js qs) → r ≡ sameNames f (chosen is ps′) (chosen js′ qs′)
+    → r ≡ sameNames f (chosenPlaces is ps) (chosenPlaces js qs) → r ≡ sameNames f (chosenPlaces is ps′) (chosenPlaces js′ qs′)
 chosen-alike f is a j b e = rw (a, j, b) at e
 
 -- the numbers 0, 1, .., n of them, were laid over the front of a list of zeros
@@ -137,7 +137,7 @@ module _ (m n : ℕ) (few : n ≤ m) {order : List ℕ} (l : order ≡ pad m (up
   order-is = front-is m (upFrom n 0) few-order (sym (length-up n 0)) l
 
 -- where the ids and the permids were read and counted
-module _ {f : List ℕ} {t : List Span} {ids permids : List ℕ} (l : Listed f t ids permids) where
+module _ {f : List ℕ} {t : List Span} {ids permids : List ℕ} (l : IdsRead f t ids permids) where
   -- there are few ids
   pub few-ids : length ids ≤ varLimit
   few-ids = rw (l .ids-are) (u32s-most f t Ids)

@@ -14,7 +14,7 @@ use Rattle.variable_names.proofs.Free.{zeros-whole}
 use Rattle.header_values.specs.Values.{pad, nvarsIn, nsuppvarsIn, u32sIn}
 use Rattle.header_values.proofs.Fronts.{front-fits, front-is, front-long}
 use Rattle.codes.specs.Faults.{firstFault, unless}
-use Rattle.header_checks.specs.Whole.{givenFault, supportFaults, Supported, Listed, Room}
+use Rattle.header_checks.specs.Whole.{givenFault, supportFaults, Supported, IdsRead, ListRoom}
 use Rattle.codes.proofs.Faults.{first-none, rest-none, refuses, passes, last-check}
 use Rattle.codes.proofs.Refusals.{unless-holds, unless-fails, unless-none}
 use Rattle.header_checks.proofs.Refusals.{count-right, count-wrong, count-none}
@@ -29,7 +29,7 @@ CountsPass f t =
     ≡ firstFault (supportFaults f t)
 
 -- a local list has room for as many entries as it has
-pub room-in : {want n : ℕ} (m : ℕ) → want ≡ n → want ≤ m → Room n (replicate m 0)
+pub room-in : {want n : ℕ} (m : ℕ) → want ≡ n → want ≤ m → ListRoom n (replicate m 0)
 room-in m w h = record { zeros = zeros-whole m; enough = rw (length-replicate, ← w) h }
 
 module _ (f : List ℕ) (t : List Span) where
@@ -53,7 +53,7 @@ module _ (f : List ℕ) (t : List Span) where
       counted k = record { ids-counted = sym p ∙ h ∙ w; permids-counted = sym q ∙ k ∙ w }
 
   -- numbers that were read into a list with room for as many as support variables, and are as many
-  module _ (k : Key) {old : List ℕ} (r : Room (nsuppvarsIn f t) old) {want n : ℕ} {dst : List ℕ} (w : want ≡ nsuppvarsIn f t)
+  module _ (k : Key) {old : List ℕ} (r : ListRoom (nsuppvarsIn f t) old) {want n : ℕ} {dst : List ℕ} (w : want ≡ nsuppvarsIn f t)
       (h : (n ≡ length (u32sIn f t k)) × (dst ≡ pad (length old) (u32sIn f t k))) (e : n ≡ want) where
     -- they have room
     in-room : length (u32sIn f t k) ≤ length old
@@ -72,7 +72,7 @@ module _ (f : List ℕ) (t : List Span) where
     read-long = front-long (length old) (u32sIn f t k) in-room (h .0) (h .1)
 
   -- where the ids and the permids were read and counted: how many auxids there are
-  module _ {ids permids : List ℕ} (l : Listed f t ids permids) {want a x : ℕ} (w : want ≡ nsuppvarsIn f t)
+  module _ {ids permids : List ℕ} (l : IdsRead f t ids permids) {want a x : ℕ} (w : want ≡ nsuppvarsIn f t)
       (u : a ≡ length (u32sIn f t Auxids)) (g : x ≡ givenFault want a) where
     -- too many or too few
     pub auxids-wrong : (x ≡ 0 → ⊥) → x ≡ firstFault (supportFaults f t)
@@ -91,7 +91,7 @@ module _ (f : List ℕ) (t : List Span) where
         ∙ passes _ refl (count-right _ _ (l .counted .ids-counted))
 
   -- where the counts are right: the answer about the ids
-  module _ (pass : CountsPass f t) {ids permids : List ℕ} (l : Listed f t ids permids) {nvars : ℕ} (v : nvars ≡ nvarsIn f t)
+  module _ (pass : CountsPass f t) {ids permids : List ℕ} (l : IdsRead f t ids permids) {nvars : ℕ} (v : nvars ≡ nvarsIn f t)
       {a : Bool} (e : a ≡ idsFit nvars ids) where
     -- it is about the header's ids
     ids-answer : idsFit (nvarsIn f t) (u32sIn f t Ids) ≡ a

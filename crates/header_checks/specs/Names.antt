@@ -9,7 +9,7 @@ use Rattle.read_text.specs.Text.{Place}
 use Rattle.header_lines.specs.Sweep.{Span}
 use Rattle.header_keys.specs.declared.Key.{Key}
 use Rattle.header_keys.specs.declared.Key.the-variants.{Varnames, Suppvarnames, Orderedvarnames, Ids, Permids}
-use Rattle.variable_names.specs.Names.{sameNames, chosen, variableNames}
+use Rattle.variable_names.specs.Names.{sameNames, chosenPlaces, variableNames}
 use Rattle.header_values.specs.Values.{namesIn, u32sIn, nvarsIn, nsuppvarsIn}
 
 abbrev pub varnamesIn : List ℕ → List Span → List Place
@@ -29,7 +29,7 @@ upFrom (suc n) i = i ∷ upFrom n (i + 1)
 -- whether two lists of names agree about the support variables; one that isn't given says nothing
 unfoldable pub agree : List ℕ → List Place → List ℕ → List Place → List ℕ → Bool
 agree f names index names2 index2 =
-    eqb (length names) 0 || (eqb (length names2) 0 || sameNames f (chosen index names) (chosen index2 names2))
+    eqb (length names) 0 || (eqb (length names2) 0 || sameNames f (chosenPlaces index names) (chosenPlaces index2 names2))
 
 -- Where a list has the names of the support variables: `.varnames` at their ids, `.orderedvarnames` at their permids, `.suppvarnames` in
 -- their order. '24 for a support variable, `.varnames` and `.orderedvarnames`, or either and `.suppvarnames`, give unlike names'.

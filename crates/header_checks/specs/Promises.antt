@@ -9,7 +9,7 @@ use Rattle.codes.specs.Limits.{varLimit}
 use Rattle.codes.specs.Lent.{Part, old}
 use Rattle.read_text.specs.Text.{Place}
 use Rattle.header_keys.specs.declared.Key.{Key}
-use Rattle.variable_names.specs.Names.{sameNames, chosen}
+use Rattle.variable_names.specs.Names.{sameNames, chosenPlaces}
 use Rattle.header_values.specs.Promises.{table}
 use Rattle.header_values.specs.Values.{namesIn}
 use Rattle.header_checks.specs.Names.{upFrom, agree, suppvarnamesIn}
@@ -21,7 +21,7 @@ module _ (f starts ends : Part (List ℕ)) where
 
   -- whether two lists of names, each taken at the positions of its index, are alike
   pub record AlikePromise (key : Key) (index : Part (List ℕ)) (key2 : Key) (index2 : Part (List ℕ)) (r : Bool) : Type 0 where
-    pub answer : r ≡ sameNames (old f) (chosen (old index) (namesOf key)) (chosen (old index2) (namesOf key2))
+    pub answer : r ≡ sameNames (old f) (chosenPlaces (old index) (namesOf key)) (chosenPlaces (old index2) (namesOf key2))
 
   -- whether they agree: one that isn't given says nothing
   pub record AgreePromise (key : Key) (index : Part (List ℕ)) (key2 : Key) (index2 : Part (List ℕ)) (r : Bool) : Type 0 where

@@ -74,14 +74,14 @@ abbrev pub NumbersPass : List ℕ → List Span → Type 0
 NumbersPass f t = firstFault (numberFaults (nvarsIn f t) (nnodesIn f t) (nsuppvarsIn f t)) ≡ 0
 
 -- a list of zeros has room for a number of entries,
-pub record Room (n : ℕ) (l : List ℕ) : Type 0 where
+pub record ListRoom (n : ℕ) (l : List ℕ) : Type 0 where
   pub zeros : l ≡ replicate (length l) 0
   pub enough : n ≤ length l
 
 -- two have room for the starts and the lengths of a list's names,
 pub record NameRoom (f : List ℕ) (t : List Span) (k : Key) (starts lens : List ℕ) : Type 0 where
-  pub starts-room : Room (length (namesIn varLimit f t k)) starts
-  pub lens-room : Room (length (namesIn varLimit f t k)) lens
+  pub starts-room : ListRoom (length (namesIn varLimit f t k)) starts
+  pub lens-room : ListRoom (length (namesIn varLimit f t k)) lens
 
 -- there are as many ids and permids as support variables,
 pub record Supported (f : List ℕ) (t : List Span) : Type 0 where
@@ -89,7 +89,7 @@ pub record Supported (f : List ℕ) (t : List Span) : Type 0 where
   pub permids-counted : length (u32sIn f t Permids) ≡ nsuppvarsIn f t
 
 -- these ids and permids were read,
-pub record Listed (f : List ℕ) (t : List Span) (ids permids : List ℕ) : Type 0 where
+pub record IdsRead (f : List ℕ) (t : List Span) (ids permids : List ℕ) : Type 0 where
   pub ids-are : ids ≡ u32sIn f t Ids
   pub permids-are : permids ≡ u32sIn f t Permids
   pub counted : Supported f t

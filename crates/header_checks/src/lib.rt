@@ -6,7 +6,7 @@ ghost use Rattle.header_lines.specs.Sweep.{Table};
 ghost use Rattle.header_values.specs.Values.{spans, nvarsIn, nsuppvarsIn};
 ghost use Rattle.codes.specs.Faults.{firstFault};
 ghost use Rattle.header_checks.specs.Whole.{countFault, givenFault, numberFaults, supportFaults, nameCountFaults, nameFaults, rootFaults, wholeFault};
-ghost use Rattle.header_checks.specs.Whole.{NumbersPass, Room, Listed, NameCounts};
+ghost use Rattle.header_checks.specs.Whole.{NumbersPass, ListRoom, IdsRead, NameCounts};
 
 pub mod names;
 
@@ -55,7 +55,7 @@ fn number_fault(nvars: u32, nnodes: u64, nsuppvars: u32) -> u8
 fn support_fault(f: &[u8], starts: &[u32], ends: &[u32], ids: &[u32], permids: &[u32]) -> u8
     requires { ⌜ Table (now f) (now starts) (now ends) ⌝ }
     requires { ⌜ nvarsIn (now f) (spans (now starts) (now ends)) ≤ varLimit ⌝ }
-    requires { ⌜ Listed (now f) (spans (now starts) (now ends)) (now ids) (now permids) ⌝ }
+    requires { ⌜ IdsRead (now f) (spans (now starts) (now ends)) (now ids) (now permids) ⌝ }
     ensures { λ r. ⌜ r ≡ firstFault (supportFaults (now (f .entry)) (spans (now (starts .entry)) (now (ends .entry)))) ⌝ }
 {
     let nvars = header_values::u32_in(f, starts, ends, Key::Nvars);
@@ -115,7 +115,7 @@ fn name_fault(
     varnames: usize,
 ) -> u8
     requires { ⌜ Table (now f) (now starts) (now ends) ⌝ }
-    requires { ⌜ Listed (now f) (spans (now starts) (now ends)) (now ids) (now permids) ⌝ }
+    requires { ⌜ IdsRead (now f) (spans (now starts) (now ends)) (now ids) (now permids) ⌝ }
     requires { ⌜ NameCounts (now f) (spans (now starts) (now ends)) ordered supp varnames ⌝ }
     ensures { λ r. ⌜ r ≡ firstFault (nameFaults (now (f .entry)) (spans (now (starts .entry)) (now (ends .entry)))) ⌝ }
 {
@@ -174,7 +174,7 @@ fn root_fault(f: &[u8], starts: &[u32], ends: &[u32]) -> u8
 fn listed_fault(f: &[u8], starts: &[u32], ends: &[u32], ids: &[u32], permids: &[u32]) -> u8
     requires { ⌜ Table (now f) (now starts) (now ends) ⌝ }
     requires { ⌜ NumbersPass (now f) (spans (now starts) (now ends)) ⌝ }
-    requires { ⌜ Listed (now f) (spans (now starts) (now ends)) (now ids) (now permids) ⌝ }
+    requires { ⌜ IdsRead (now f) (spans (now starts) (now ends)) (now ids) (now permids) ⌝ }
     ensures { λ r. ⌜ r ≡ wholeFault (now (f .entry)) (spans (now (starts .entry)) (now (ends .entry))) ⌝ }
 {
     let support = support_fault(f, starts, ends, ids, permids);
@@ -201,8 +201,8 @@ fn listed_fault(f: &[u8], starts: &[u32], ends: &[u32], ids: &[u32], permids: &[
 fn lists_fault(f: &[u8], starts: &[u32], ends: &[u32], ids: &mut [u32], permids: &mut [u32]) -> u8
     requires { ⌜ Table (now f) (now starts) (now ends) ⌝ }
     requires { ⌜ NumbersPass (now f) (spans (now starts) (now ends)) ⌝ }
-    requires { ⌜ Room (nsuppvarsIn (now f) (spans (now starts) (now ends))) (now ids) ⌝ }
-    requires { ⌜ Room (nsuppvarsIn (now f) (spans (now starts) (now ends))) (now permids) ⌝ }
+    requires { ⌜ ListRoom (nsuppvarsIn (now f) (spans (now starts) (now ends))) (now ids) ⌝ }
+    requires { ⌜ ListRoom (nsuppvarsIn (now f) (spans (now starts) (now ends))) (now permids) ⌝ }
     ensures { λ r. ⌜ r ≡ wholeFault (now (f .entry)) (spans (now (starts .entry)) (now (ends .entry))) ⌝ }
 {
     let want = header_values::u32_in(f, starts, ends, Key::Nsuppvars) as u64;

@@ -8,7 +8,7 @@ ghost use Rattle.header_lines.specs.Sweep.{Table};
 ghost use Rattle.header_checks.specs.Names.{upFrom, suppvarnamesIn};
 ghost use Rattle.header_checks.specs.Promises.{AlikePromise, AgreePromise, SuppAgreesPromise};
 ghost use Rattle.header_checks.specs.Whole.{NameRoom};
-ghost use Rattle.header_values.specs.Values.{spans, Known, namesIn};
+ghost use Rattle.header_values.specs.Values.{spans, KnownKey, namesIn};
 use codes::limits;
 use header_keys::Key;
 
@@ -42,7 +42,7 @@ fn alike_in(
     names2: &mut [u32],
     lens2: &mut [u32],
 ) -> bool
-    requires { ⌜ Table (now f) (now starts) (now ends) × Known key × Known key2 ⌝ }
+    requires { ⌜ Table (now f) (now starts) (now ends) × KnownKey key × KnownKey key2 ⌝ }
     requires { ⌜ length (now index2) ≡ length (now index) ⌝ }
     requires { ⌜ NameRoom (now f) (spans (now starts) (now ends)) key (now names) (now lens) ⌝ }
     requires { ⌜ NameRoom (now f) (spans (now starts) (now ends)) key2 (now names2) (now lens2) ⌝ }
@@ -75,7 +75,7 @@ fn alike(
     m: usize,
     index2: &[u32],
 ) -> bool
-    requires { ⌜ Table (now f) (now starts) (now ends) × Known key × Known key2 ⌝ }
+    requires { ⌜ Table (now f) (now starts) (now ends) × KnownKey key × KnownKey key2 ⌝ }
     requires { ⌜ n ≡ length (namesIn varLimit (now f) (spans (now starts) (now ends)) key) ⌝ }
     requires { ⌜ m ≡ length (namesIn varLimit (now f) (spans (now starts) (now ends)) key2) ⌝ }
     requires { ⌜ length (now index2) ≡ length (now index) ⌝ }
@@ -132,7 +132,7 @@ pub fn agree(
     m: usize,
     index2: &[u32],
 ) -> bool
-    requires { ⌜ Table (now f) (now starts) (now ends) × Known key × Known key2 ⌝ }
+    requires { ⌜ Table (now f) (now starts) (now ends) × KnownKey key × KnownKey key2 ⌝ }
     requires { ⌜ n ≡ length (namesIn varLimit (now f) (spans (now starts) (now ends)) key) ⌝ }
     requires { ⌜ m ≡ length (namesIn varLimit (now f) (spans (now starts) (now ends)) key2) ⌝ }
     requires { ⌜ length (now index2) ≡ length (now index) ⌝ }
@@ -157,7 +157,7 @@ pub fn supp_agrees(
     index: &[u32],
     m: usize,
 ) -> bool
-    requires { ⌜ Table (now f) (now starts) (now ends) × Known key ⌝ }
+    requires { ⌜ Table (now f) (now starts) (now ends) × KnownKey key ⌝ }
     requires { ⌜ n ≡ length (namesIn varLimit (now f) (spans (now starts) (now ends)) key) ⌝ }
     requires { ⌜ m ≡ length (suppvarnamesIn (now f) (spans (now starts) (now ends))) ⌝ }
     requires { ⌜ length (now index) ≤ varLimit ⌝ }

@@ -16,8 +16,8 @@ abbrev pub name : List ℕ → Key → Name
 name b k = record { bytes = b; key = k }
 
 -- the keys of single values, and `.nodes`
-abbrev pub singles : List Name
-singles =
+abbrev pub singleKeys : List Name
+singleKeys =
     name (bytes ".ver") Ver
     ∷ name (bytes ".mode") Mode
     ∷ name (bytes ".varinfo") Varinfo
@@ -30,8 +30,8 @@ singles =
     ∷ []
 
 -- the keys of lists
-abbrev pub lists : List Name
-lists =
+abbrev pub listKeys : List Name
+listKeys =
     name (bytes ".varnames") Varnames
     ∷ name (bytes ".suppvarnames") Suppvarnames
     ∷ name (bytes ".orderedvarnames") Orderedvarnames
@@ -48,7 +48,7 @@ lookup w [] = Unknown
 lookup w (n ∷ ns) = cond (alike w (n .bytes)) (n .key) (lookup w ns)
 
 unfoldable pub keyOf : List ℕ → Key
-keyOf w = lookup w (singles ++ lists)
+keyOf w = lookup w (singleKeys ++ listKeys)
 
 -- The entry of a key in a table with one for each. Two keys are one exactly where they have one entry.
 abbrev pub slotOf : Key → ℕ

@@ -1,6 +1,6 @@
 // The keys of a header.
 ghost use mathlib.Core.Path.{_≡_};
-ghost use Rattle.header_keys.specs.Keys.{keyOf, lookup, lists, slotOf};
+ghost use Rattle.header_keys.specs.Keys.{keyOf, lookup, listKeys, slotOf};
 
 pub enum Key {
     Ver,
@@ -31,7 +31,7 @@ pub const NODES: usize = 8;
 
 // The keys of lists.
 fn list_key(word: &[u8]) -> Key
-    ensures { λ r. ⌜ r ≡ lookup (now (word .entry)) lists ⌝ }
+    ensures { λ r. ⌜ r ≡ lookup (now (word .entry)) listKeys ⌝ }
 {
     if read_text::same(word, b".varnames") {
         return Key::Varnames;

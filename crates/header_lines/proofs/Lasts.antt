@@ -7,7 +7,7 @@ use lib.Dec.{eqb}
 use lib.ListN.{getD, set}
 use Rattle.header_keys.specs.declared.Key.{Key}
 use Rattle.header_keys.specs.Keys.{slotOf}
-use Rattle.header_lines.specs.Sweep.{Span, none, Said, lastFrom, lastOf, lasts, keys}
+use Rattle.header_lines.specs.Sweep.{Span, noSpan, Said, lastFrom, lastOf, lasts, keys}
 use Rattle.header_lines.proofs.Entries.{entry-at, entry-set}
 
 -- the law from any last value so far
@@ -21,7 +21,7 @@ last-from-more v k (t ∷ ss) s = last-from-more (cond (eqb (slotOf k) (slotOf (
 last-more : (k : Key) (ss : List Said) (s : Said)
     → lastOf k (ss ++ (s ∷ [])) ≡ cond (eqb (slotOf k) (slotOf (s .key))) (s .value) (lastOf k ss)
 unfolding lastOf
-last-more k ss s = last-from-more none k ss s
+last-more k ss s = last-from-more noSpan k ss s
 
 -- a list with a part of each last value, after a line more: the entry of the line's key is set
 pub lasts-more : {B : Type 0} (part : Span → B) (ss : List Said) (s : Said)
@@ -30,6 +30,6 @@ unfolding lasts
 lasts-more part ss s = simp last-more (entry-set part (λ k. lastOf k ss) (s .key) (s .value))
 
 -- the table's entry of a key is the key's last value
-pub last-at : (k : Key) (ss : List Said) → slotOf k < keys → getD (lasts ss) (slotOf k) none ≡ lastOf k ss
+pub last-at : (k : Key) (ss : List Said) → slotOf k < keys → getD (lasts ss) (slotOf k) noSpan ≡ lastOf k ss
 unfolding lasts
-last-at k ss h = entry-at (λ j. lastOf j ss) none k h
+last-at k ss h = entry-at (λ j. lastOf j ss) noSpan k h

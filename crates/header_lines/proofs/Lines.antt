@@ -17,7 +17,7 @@ use Rattle.header_lines.specs.declared.Step.the-variants as step
 use Rattle.header_keys.specs.Keys.{keyOf, slotOf}
 use Rattle.header_faults.specs.Judge.{faultOf}
 use Rattle.header_lines.specs.Sweep.{keys, part, spanStart, spanEnd, Said, said, fieldAt, keyAt, valueAt, stepAt}
-use Rattle.header_lines.specs.Sweep.{Lines, cut, nodes, line, linesFrom, faultIn, End, atNodes, refusedAt, endFrom, endOf, allOf, sound}
+use Rattle.header_lines.specs.Sweep.{Lines, cut, nodes, line, linesFrom, faultIn, SweepEnd, atNodes, refusedAt, endFrom, endOf, allOf, sound}
 use Rattle.header_lines.proofs.Entries.{entry-known}
 
 -- a line before others, of which the law holds
@@ -136,7 +136,7 @@ module _ (f : List ℕ) (at : ℕ) where
       pub end-is : end ≡ spanEnd (here .value)
 
     -- a line that ends the sweep, and is not read
-    pub record Last (e : End) : Type 0 where
+    pub record Last (e : SweepEnd) : Type 0 where
       pub rest-end : endFrom n f (linesFrom fuel f at) ≡ e
       pub rest-lines : sound f (linesFrom fuel f at) ≡ []
 

@@ -6,7 +6,7 @@ use native.Mathlib.Omega.{arith}
 use lib.ListN.{length, set, replicate}
 use Rattle.header_lines.specs.declared.Step.{Step}
 use Rattle.header_lines.specs.declared.Step.the-variants as step
-use Rattle.header_lines.specs.Sweep.{Said, End, atNodes, refusedAt, linesFrom, linesOf, endFrom, endOf, sound, stepAt}
+use Rattle.header_lines.specs.Sweep.{Said, SweepEnd, atNodes, refusedAt, linesFrom, linesOf, endFrom, endOf, sound, stepAt}
 use Rattle.header_lines.specs.Sweep.{keys, lasts, spanStart, spanEnd, Within, StepWithin, Table, EndWithin}
 use Rattle.header_lines.proofs.Lasts.{lasts-more}
 use Rattle.header_lines.proofs.Tables.{table-none, zeros-none, table-more}
@@ -43,7 +43,7 @@ progress-start f starts ends a b =
     }
 
 -- what the sweep owes at an end
-abbrev pub Outcome : List ℕ → List ℕ → List ℕ → End → Type 0
+abbrev pub Outcome : List ℕ → List ℕ → List ℕ → SweepEnd → Type 0
 Outcome f starts ends e =
     (e ≡ endOf f (linesOf f))
     × ((starts ≡ map spanStart (lasts (sound f (linesOf f))))
@@ -51,7 +51,7 @@ Outcome f starts ends e =
 
 module _ {f starts ends : List ℕ} {at line : ℕ} (p : Progress f starts ends at line) where
   -- nothing more is kept
-  progress-last : {e : End} → Last f at line (p .fuel) e → EndWithin f e → Outcome f starts ends e
+  progress-last : {e : SweepEnd} → Last f at line (p .fuel) e → EndWithin f e → Outcome f starts ends e
   progress-last l w =
       let all : sound f (linesOf f) ≡ p .before = p .rest-lines ∙ rw (l .rest-lines) (append-nil (p .before)) in
       (sym (p .rest-end ∙ l .rest-end), (rw all (p .starts-lie), (rw all (p .ends-lie), (w, p .table))))

@@ -8,7 +8,7 @@ use lib.Dec.{eqb}
 use lib.ListN.{length, getD, set, replicate, length-set}
 use lib.Seq.{getD-set-same, getD-set-other}
 use borrow.Author.Tests.{eqb-true, eqb-false}
-use Rattle.header_lines.specs.Sweep.{keys, Table, Span, none, lastFrom, lastOf, lasts}
+use Rattle.header_lines.specs.Sweep.{keys, Table, Span, noSpan, lastFrom, lastOf, lasts}
 
 -- each element of a list of zeros is 0
 zeros : (n k : ℕ) → _≡_ {A = ℕ} (getD (replicate n 0) k 0) 0
@@ -22,7 +22,7 @@ table-none f =
     record { starts-long = refl; ends-long = refl; ordered = λ k. omega arith; inside = λ k. rw (zeros 17 k) (omega arith) }
 
 -- it is the table of no line
-pub zeros-none : (part : Span → ℕ) → part none ≡ 0 → replicate keys 0 ≡ map part (lasts [])
+pub zeros-none : (part : Span → ℕ) → part noSpan ≡ 0 → replicate keys 0 ≡ map part (lasts [])
 unfolding lasts lastOf lastFrom
 zeros-none part e = rw e
 

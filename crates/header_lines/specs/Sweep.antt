@@ -33,8 +33,8 @@ abbrev pub spanEnd : Span → ℕ
 spanEnd s = s .end
 
 -- the span of a key that is missing: it holds no byte
-abbrev pub none : Span
-none = span 0 0
+abbrev pub noSpan : Span
+noSpan = span 0 0
 
 -- a line before `.nodes`: its key, and where its value stands
 pub record Said : Type 0 where
@@ -82,17 +82,17 @@ abbrev pub faultIn : List ℕ → Said → ℕ
 faultIn f s = faultOf (s .key) (s .value .start) (part f (s .value .start) (s .value .end))
 
 -- how the lines end: with `.nodes`, the position after its line and that line's number; or with a refusal and its line
-pub data End : Type 0 where
-  atNodes : ℕ → ℕ → End
-  refusedAt : ℕ → ℕ → End
+pub data SweepEnd : Type 0 where
+  atNodes : ℕ → ℕ → SweepEnd
+  refusedAt : ℕ → ℕ → SweepEnd
 
 -- 'The line counts from 1 at the top of the file': the first line with a fault decides; '10° input ends before `.nodes`'
-unfoldable pub endFrom : ℕ → List ℕ → Lines → End
+unfoldable pub endFrom : ℕ → List ℕ → Lines → SweepEnd
 endFrom n f cut = refusedAt 10 0
 endFrom n f (nodes next) = atNodes next n
 endFrom n f (line s ls) = elim (faultIn f s) [ zero ↦ endFrom (n + 1) f ls | suc k ↦ refusedAt (suc k) n ]
 
-unfoldable pub endOf : List ℕ → Lines → End
+unfoldable pub endOf : List ℕ → Lines → SweepEnd
 endOf f ls = endFrom 1 f ls
 
 -- the lines before `.nodes`, or before the end of the input
@@ -113,7 +113,7 @@ lastFrom v k [] = v
 lastFrom v k (s ∷ ss) = lastFrom (cond (eqb (slotOf k) (slotOf (s .key))) (s .value) v) k ss
 
 unfoldable pub lastOf : Key → List Said → Span
-lastOf k ss = lastFrom none k ss
+lastOf k ss = lastFrom noSpan k ss
 
 -- the keys, each at its entry
 abbrev pub all : List Key
@@ -161,6 +161,6 @@ pub record Table (f : List ℕ) (starts ends : List ℕ) : Type 0 where
   pub inside : (k : ℕ) → getD ends k 0 ≤ length f
 
 -- the position after `.nodes`' line lies inside the file
-abbrev pub EndWithin : List ℕ → End → Type 0
+abbrev pub EndWithin : List ℕ → SweepEnd → Type 0
 EndWithin f (atNodes next n) = next ≤ length f
 EndWithin f (refusedAt k n) = Unit

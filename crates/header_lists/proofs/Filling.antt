@@ -11,7 +11,7 @@ use Rattle.read_text.specs.Text.{startOf, lenOf}
 use Rattle.header_lines.specs.Sweep.{Span}
 use Rattle.header_keys.specs.declared.Key.{Key}
 use Rattle.header_keys.specs.declared.Key.the-variants.{Ids, Permids}
-use Rattle.variable_names.specs.Names.{nameAt, entryAt, orderedSeats, suppSeats}
+use Rattle.variable_names.specs.Names.{nameAtSeat, entryAt, orderedSeats, suppSeats}
 use Rattle.file_roots.specs.Roots.{edgeOf}
 use Rattle.seats.specs.Seats.{Below}
 use Rattle.support.specs.Support.{supportOrder}
@@ -51,12 +51,12 @@ module _ (f : List ℕ) (t : List Span) (k : Key) {a b : List ℕ} (r : NameRoom
     (h : HasNames f t k a b n starts lens) (seats old : List ℕ) {dst : List ℕ} where
   -- their starts
   pub starts-laid : dst ≡ laid (map (entryAt (take n starts)) seats) old
-      → dst ≡ laid (map startOf (map (nameAt (namesIn varLimit f t k)) seats)) old
+      → dst ≡ laid (map startOf (map (nameAtSeat (namesIn varLimit f t k)) seats)) old
   starts-laid d = d ∙ rw (starts-are f t k r h, starts-gathered (namesIn varLimit f t k) seats)
 
   -- their lengths
   pub lens-laid : dst ≡ laid (map (entryAt (take n lens)) seats) old
-      → dst ≡ laid (map lenOf (map (nameAt (namesIn varLimit f t k)) seats)) old
+      → dst ≡ laid (map lenOf (map (nameAtSeat (namesIn varLimit f t k)) seats)) old
   lens-laid d = d ∙ rw (lens-are f t k r h, lens-gathered (namesIn varLimit f t k) seats)
 
 -- n roots were read into the front of a list

@@ -10,7 +10,7 @@ use Rattle.codes.proofs.Lent.{laid-none}
 use Rattle.read_text.specs.Text.{Place}
 use Rattle.header_lines.specs.Sweep.{Span}
 use Rattle.header_keys.specs.declared.Key.the-variants.{Ids, Permids}
-use Rattle.variable_names.specs.Names.{nameAt, orderedSeats, suppSeats, variableNames}
+use Rattle.variable_names.specs.Names.{nameAtSeat, orderedSeats, suppSeats, variableNames}
 use Rattle.variable_names.proofs.Free.{length-orderedSeats, length-suppSeats}
 use Rattle.header_values.specs.Values.{pad, nvarsIn, u32sIn}
 use Rattle.header_values.proofs.Padded.{pad-none}
@@ -27,7 +27,7 @@ module _ (nvars : ℕ) (ids permids : List ℕ) where
 
   -- else `.orderedvarnames`
   by-ordered : (vs os ss : List Place) → length vs ≡ 0 → (length os ≡ 0 → ⊥)
-      → variableNames nvars ids permids vs os ss ≡ map (nameAt os) (orderedSeats nvars ids permids)
+      → variableNames nvars ids permids vs os ss ≡ map (nameAtSeat os) (orderedSeats nvars ids permids)
   unfolding variableNames
   by-ordered [] [] ss z h = absurd (h refl)
   by-ordered [] (o ∷ os) ss z h = refl
@@ -35,7 +35,7 @@ module _ (nvars : ℕ) (ids permids : List ℕ) where
 
   -- else `.suppvarnames`
   by-supp : (vs os ss : List Place) → length vs ≡ 0 → length os ≡ 0 → (length ss ≡ 0 → ⊥)
-      → variableNames nvars ids permids vs os ss ≡ map (nameAt ss) (suppSeats nvars ids)
+      → variableNames nvars ids permids vs os ss ≡ map (nameAtSeat ss) (suppSeats nvars ids)
   unfolding variableNames
   by-supp [] [] [] z y h = absurd (h refl)
   by-supp [] [] (s ∷ ss) z y h = refl
@@ -107,21 +107,21 @@ module _ (f : List ℕ) (t : List Span) (of : Place → ℕ) (k : ℕ) {n : ℕ}
 
     -- `.orderedvarnames` is given
     pub filled-ordered : (m ≡ 0 → ⊥) → {seats l : List ℕ} → seats ≡ orderedIn f t
-        → l ≡ laid (map of (map (nameAt (orderedvarnamesIn f t)) seats)) old → l ≡ pad k (map of (variableNamesIn f t))
+        → l ≡ laid (map of (map (nameAtSeat (orderedvarnamesIn f t)) seats)) old → l ≡ pad k (map of (variableNamesIn f t))
     unfolding variableNamesIn
     filled-ordered h q d =
         rw q at d
-        ∙ over-zeros (map of (map (nameAt (orderedvarnamesIn f t)) (orderedIn f t)))
+        ∙ over-zeros (map of (map (nameAtSeat (orderedvarnamesIn f t)) (orderedIn f t)))
         ∙ renamed (by-ordered _ _ _ (varnamesIn f t) (orderedvarnamesIn f t) _ (sym e ∙ z) (λ r. h (e2 ∙ r)))
 
     module _ (y : m ≡ 0) {j : ℕ} (e3 : j ≡ length (suppvarnamesIn f t)) where
       -- it isn't, and `.suppvarnames` is
       pub filled-supp : (j ≡ 0 → ⊥) → {seats l : List ℕ} → seats ≡ suppIn f t
-          → l ≡ laid (map of (map (nameAt (suppvarnamesIn f t)) seats)) old → l ≡ pad k (map of (variableNamesIn f t))
+          → l ≡ laid (map of (map (nameAtSeat (suppvarnamesIn f t)) seats)) old → l ≡ pad k (map of (variableNamesIn f t))
       unfolding variableNamesIn
       filled-supp h q d =
           rw q at d
-          ∙ over-zeros (map of (map (nameAt (suppvarnamesIn f t)) (suppIn f t)))
+          ∙ over-zeros (map of (map (nameAtSeat (suppvarnamesIn f t)) (suppIn f t)))
           ∙ renamed (by-supp _ _ _ (varnamesIn f t) (orderedvarnamesIn f t) (suppvarnamesIn f t) (sym e ∙ z) (sym e2 ∙ y) (λ r. h (e3 ∙ r)))
 
       -- none is

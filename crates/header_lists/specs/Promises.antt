@@ -10,7 +10,7 @@ use Rattle.read_text.specs.Text.{Place, startOf, lenOf}
 use Rattle.header_lines.specs.Sweep.{Span}
 use Rattle.header_keys.specs.declared.Key.{Key}
 use Rattle.header_keys.specs.declared.Key.the-variants.{Ids, Permids}
-use Rattle.variable_names.specs.Names.{nameAt, orderedSeats, suppSeats}
+use Rattle.variable_names.specs.Names.{nameAtSeat, orderedSeats, suppSeats}
 use Rattle.file_roots.specs.Roots.{edgeOf}
 use Rattle.support.specs.Support.{supportOrder}
 use Rattle.header_values.specs.Promises.{table}
@@ -45,7 +45,7 @@ module _ (f starts ends : Part (List ℕ)) where
 
   -- the names at the seats of a key's list
   abbrev gathered : Key → Part (List ℕ) → List Place
-  gathered key seats = map (nameAt (namesIn varLimit (old f) t key)) (old seats)
+  gathered key seats = map (nameAtSeat (namesIn varLimit (old f) t key)) (old seats)
 
   -- they lie over the front of the lent lists: where each starts, and how long it is
   pub record GatherPromise (key : Key) (seats names lens : Part (List ℕ)) : Type 0 where

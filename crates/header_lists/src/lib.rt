@@ -4,7 +4,7 @@ ghost use mathlib.Core.Path.{_≡_};
 ghost use lib.ListN.{length};
 ghost use Rattle.codes.specs.Limits.{varLimit};
 ghost use Rattle.header_lines.specs.Sweep.{Table};
-ghost use Rattle.header_values.specs.Values.{spans, Known, namesIn};
+ghost use Rattle.header_values.specs.Values.{spans, KnownKey, namesIn};
 ghost use Rattle.header_checks.specs.Whole.{NameRoom};
 ghost use Rattle.header_lists.specs.Settled.{Settled};
 ghost use Rattle.header_lists.specs.Promises.{FillOrderPromise, OrderedInPromise, SuppInPromise};
@@ -65,7 +65,7 @@ fn gather_in(
     from: &mut [u32],
     sizes: &mut [u32],
 )
-    requires { ⌜ Table (now f) (now starts) (now ends) × Known key ⌝ }
+    requires { ⌜ Table (now f) (now starts) (now ends) × KnownKey key ⌝ }
     requires { ⌜ NameRoom (now f) (spans (now starts) (now ends)) key (now from) (now sizes) ⌝ }
     ensures { λ _. ⌜ GatherPromise f starts ends key seats names lens ⌝ }
 {
@@ -85,7 +85,7 @@ fn gather_names(
     names: &mut [u32],
     lens: &mut [u32],
 )
-    requires { ⌜ Table (now f) (now starts) (now ends) × Known key ⌝ }
+    requires { ⌜ Table (now f) (now starts) (now ends) × KnownKey key ⌝ }
     requires { ⌜ count ≡ length (namesIn varLimit (now f) (spans (now starts) (now ends)) key) ⌝ }
     ensures { λ _. ⌜ GatherPromise f starts ends key seats names lens ⌝ }
 {

@@ -6,7 +6,7 @@ use native.Mathlib.Omega.{arith}
 use lib.ListN.{length, getD}
 use Rattle.header_keys.specs.Keys.{slotOf}
 use Rattle.header_keys.specs.declared.Key.{Key}
-use Rattle.header_lines.specs.Sweep.{Span, span, spanStart, spanEnd, none, part, Table}
+use Rattle.header_lines.specs.Sweep.{Span, span, spanStart, spanEnd, noSpan, part, Table}
 use Rattle.header_values.specs.declared.Span as code
 use Rattle.header_values.specs.Kinds.{ofSpan, SpanWithin}
 use Rattle.header_values.specs.Values.{spans, spanIn, valueIn}
@@ -18,7 +18,7 @@ spans-parts [] = refl
 spans-parts (s ∷ t) = ap (λ l. s ∷ l) (spans-parts t)
 
 -- a span has the start and the end that stand at its place
-getD-spans : (ss es : List ℕ) (k : ℕ) → length ss ≡ length es → getD (spans ss es) k none ≡ span (getD ss k 0) (getD es k 0)
+getD-spans : (ss es : List ℕ) (k : ℕ) → length ss ≡ length es → getD (spans ss es) k noSpan ≡ span (getD ss k 0) (getD es k 0)
 unfolding spans
 getD-spans [] [] k h = refl
 getD-spans [] (e ∷ es) k h = absurd (omega arith)

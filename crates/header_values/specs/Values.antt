@@ -15,7 +15,7 @@ use Rattle.read_text.specs.Text.{Place, place, nameList, textAt}
 use Rattle.read_text.specs.Alike.{alike}
 use Rattle.header_keys.specs.Keys.{slotOf}
 use Rattle.header_faults.specs.Judge.{modeB}
-use Rattle.header_lines.specs.Sweep.{Span, span, none, part, keys}
+use Rattle.header_lines.specs.Sweep.{Span, span, noSpan, part, keys}
 use Rattle.header_keys.specs.declared.Key.{Key}
 use Rattle.header_keys.specs.declared.Key.the-variants.{Mode, Varinfo, Dd, Nnodes, Nvars, Nsuppvars, Nroots, Rootids}
 
@@ -27,7 +27,7 @@ spans (s ∷ ss) (e ∷ es) = span s e ∷ spans ss es
 
 -- the last value of a key: where it stands, and its bytes
 abbrev pub spanIn : List Span → Key → Span
-spanIn t k = getD t (slotOf k) none
+spanIn t k = getD t (slotOf k) noSpan
 
 abbrev pub valueIn : List ℕ → List Span → Key → List ℕ
 valueIn f t k = part f (spanIn t k .start) (spanIn t k .end)
@@ -100,5 +100,5 @@ abbrev pub pad : ℕ → List ℕ → List ℕ
 pad n es = laid es (replicate n 0)
 
 -- a key that there is
-abbrev pub Known : Key → Type 0
-Known k = slotOf k < keys
+abbrev pub KnownKey : Key → Type 0
+KnownKey k = slotOf k < keys

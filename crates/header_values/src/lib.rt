@@ -7,7 +7,7 @@ ghost use Rattle.codes.specs.Limits.{rootLimit};
 ghost use Rattle.header_lines.specs.Sweep.{Table};
 ghost use Rattle.header_values.specs.Kinds.{ofPlace, ofSpan, ofVarInfo, SpanWithin};
 ghost use Rattle.header_values.specs.Promises.{U32sPromise, NamesPromise, RootsInPromise};
-ghost use Rattle.header_values.specs.Values.{spans, spanIn, Known, numberIn, asciiIn, varinfoIn, ddIn, namesIn};
+ghost use Rattle.header_values.specs.Values.{spans, spanIn, KnownKey, numberIn, asciiIn, varinfoIn, ddIn, namesIn};
 use codes::VarInfo;
 use codes::limits;
 use header_keys::Key;
@@ -25,7 +25,7 @@ pub struct Span {
 
 // Where a key's last value stands.
 fn span_in(f: &[u8], starts: &[u32], ends: &[u32], key: Key) -> Span
-    requires { ⌜ Table (now f) (now starts) (now ends) × Known key ⌝ }
+    requires { ⌜ Table (now f) (now starts) (now ends) × KnownKey key ⌝ }
     ensures { λ r. ⌜ ofSpan r ≡ spanIn (spans (now (starts .entry)) (now (ends .entry))) key ⌝ }
     ensures { λ r. ⌜ SpanWithin (now (f .entry)) r ⌝ }
 {
@@ -38,7 +38,7 @@ fn span_in(f: &[u8], starts: &[u32], ends: &[u32], key: Key) -> Span
 
 // A number of 32 bits.
 pub fn u32_in(f: &[u8], starts: &[u32], ends: &[u32], key: Key) -> u32
-    requires { ⌜ Table (now f) (now starts) (now ends) × Known key ⌝ }
+    requires { ⌜ Table (now f) (now starts) (now ends) × KnownKey key ⌝ }
     ensures { λ r. ⌜ r ≡ numberIn (2 ^ 32) (now (f .entry)) (spans (now (starts .entry)) (now (ends .entry))) key ⌝ }
 {
     let span = span_in(f, starts, ends, key);
@@ -52,7 +52,7 @@ pub fn u32_in(f: &[u8], starts: &[u32], ends: &[u32], key: Key) -> u32
 
 // A number of 64 bits.
 pub fn u64_in(f: &[u8], starts: &[u32], ends: &[u32], key: Key) -> u64
-    requires { ⌜ Table (now f) (now starts) (now ends) × Known key ⌝ }
+    requires { ⌜ Table (now f) (now starts) (now ends) × KnownKey key ⌝ }
     ensures { λ r. ⌜ r ≡ numberIn (2 ^ 64) (now (f .entry)) (spans (now (starts .entry)) (now (ends .entry))) key ⌝ }
 {
     let span = span_in(f, starts, ends, key);
@@ -115,7 +115,7 @@ pub fn dd_in(f: &[u8], starts: &[u32], ends: &[u32]) -> Place
 
 // Reads a list of numbers over the front of a list of zeros, and answers how many there are. Where they are refused it is zeros again.
 pub fn read_u32s(f: &[u8], starts: &[u32], ends: &[u32], key: Key, dst: &mut [u32]) -> usize
-    requires { ⌜ Table (now f) (now starts) (now ends) × Known key ⌝ }
+    requires { ⌜ Table (now f) (now starts) (now ends) × KnownKey key ⌝ }
     requires { ⌜ now dst ≡ replicate (length (now dst)) 0 ⌝ }
     ensures { λ r. ⌜ U32sPromise f starts ends key dst r ⌝ }
 {
@@ -132,7 +132,7 @@ pub fn read_u32s(f: &[u8], starts: &[u32], ends: &[u32], key: Key, dst: &mut [u3
 
 // Reads a list of numbers into a list that may hold anything, and answers how many there are. The rest of the lent list is zeros.
 pub fn u32s_in(f: &[u8], starts: &[u32], ends: &[u32], key: Key, dst: &mut [u32]) -> usize
-    requires { ⌜ Table (now f) (now starts) (now ends) × Known key ⌝ }
+    requires { ⌜ Table (now f) (now starts) (now ends) × KnownKey key ⌝ }
     ensures { λ r. ⌜ U32sPromise f starts ends key dst r ⌝ }
 {
     zeros::clear_numbers(dst);
@@ -150,7 +150,7 @@ pub fn read_names(
     names: &mut [u32],
     lens: &mut [u32],
 ) -> usize
-    requires { ⌜ Table (now f) (now starts) (now ends) × Known key ⌝ }
+    requires { ⌜ Table (now f) (now starts) (now ends) × KnownKey key ⌝ }
     requires { ⌜ now names ≡ replicate (length (now names)) 0 ⌝ }
     requires { ⌜ now lens ≡ replicate (length (now lens)) 0 ⌝ }
     ensures { λ r. ⌜ NamesPromise f starts ends key max names lens r ⌝ }
@@ -183,7 +183,7 @@ pub fn names_in(
     names: &mut [u32],
     lens: &mut [u32],
 ) -> usize
-    requires { ⌜ Table (now f) (now starts) (now ends) × Known key ⌝ }
+    requires { ⌜ Table (now f) (now starts) (now ends) × KnownKey key ⌝ }
     ensures { λ r. ⌜ NamesPromise f starts ends key max names lens r ⌝ }
 {
     zeros::clear_numbers(names);
@@ -208,7 +208,7 @@ pub fn roots_in(f: &[u8], starts: &[u32], ends: &[u32], dst: &mut [i64]) -> usiz
 
 // How many names a list has.
 pub fn count_names(f: &[u8], starts: &[u32], ends: &[u32], key: Key, max: usize) -> usize
-    requires { ⌜ Table (now f) (now starts) (now ends) × Known key ⌝ }
+    requires { ⌜ Table (now f) (now starts) (now ends) × KnownKey key ⌝ }
     ensures { λ r. ⌜ r ≡ length (namesIn max (now (f .entry)) (spans (now (starts .entry)) (now (ends .entry))) key) ⌝ }
 {
     let mut names = [0u32; 1];

@@ -13,7 +13,7 @@ use Rattle.variable_order.specs.Order.{isOrder}
 use Rattle.export_size.specs.Size.{sum}
 use Rattle.variable_order.proofs.Permutation.{level-found}
 use Rattle.writers.specs.Words.{spaced}
-use Rattle.heading.specs.Heading.{idsFrom, variablesFrom, chosen}
+use Rattle.heading.specs.Heading.{idsFrom, variablesFrom, chosenNames}
 
 abbrev total : List (List ℕ) → ℕ
 total names = sum (map length names)
@@ -49,14 +49,14 @@ spaced-total (w ∷ ws) = spaced-length w ws ∙ omega (arith, spaced-total ws)
 
 -- the names of the support variables from v on are among those of all variables from v on
 pub ids-names : (support order : List ℕ) (names : List (List ℕ)) (v : ℕ)
-    → length (spaced (chosen (idsFrom support v order) names)) ≤ length order + total (drop v names)
-unfolding idsFrom chosen spaced
+    → length (spaced (chosenNames (idsFrom support v order) names)) ≤ length order + total (drop v names)
+unfolding idsFrom chosenNames spaced
 ids-names support [] names v = omega arith
 ids-names support (l ∷ order) names v = go (isIn l support) (ids-names support order names (v + 1))
   where
-    go : (b : Bool) → length (spaced (chosen (idsFrom support (v + 1) order) names)) ≤ length order + total (drop (v + 1) names)
-        → length (spaced (chosen (cond b (v ∷ idsFrom support (v + 1) order) (idsFrom support (v + 1) order)) names)) ≤ suc (length order) + total (drop v names)
-    go true h = omega (arith, spaced-length (getD names v []) (chosen (idsFrom support (v + 1) order) names), total-next names v)
+    go : (b : Bool) → length (spaced (chosenNames (idsFrom support (v + 1) order) names)) ≤ length order + total (drop (v + 1) names)
+        → length (spaced (chosenNames (cond b (v ∷ idsFrom support (v + 1) order) (idsFrom support (v + 1) order)) names)) ≤ suc (length order) + total (drop v names)
+    go true h = omega (arith, spaced-length (getD names v []) (chosenNames (idsFrom support (v + 1) order) names), total-next names v)
     go false h = omega (arith, total-next names v)
 
 -- Levels of an order have different variables.
@@ -67,8 +67,8 @@ module _ (order : List ℕ) (p : isOrder (length order) order ≡ true) where
 
   -- so the names of those at the levels from m on stay as they are where that of the variable at a level before is taken out
   names-apart : (k l m : ℕ) (names : List (List ℕ)) → l < m → m + k ≤ length order
-      → chosen (variablesFrom k m order) (set names (seatOf l order - 1) []) ≡ chosen (variablesFrom k m order) names
-  unfolding variablesFrom chosen
+      → chosenNames (variablesFrom k m order) (set names (seatOf l order - 1) []) ≡ chosenNames (variablesFrom k m order) names
+  unfolding variablesFrom chosenNames
   names-apart zero l m names h b = refl
   names-apart (suc k) l m names h b =
       rw (getD-set-other names (seatOf l order - 1) (seatOf m order - 1) [] [] (variables-differ l m h (omega arith)))
@@ -76,10 +76,10 @@ module _ (order : List ℕ) (p : isOrder (length order) order ≡ true) where
 
   -- and the names of the variables at k levels are among all
   pub variables-names : (k l : ℕ) (names : List (List ℕ)) → l + k ≤ length order
-      → length (spaced (chosen (variablesFrom k l order) names)) ≤ k + total names
-  unfolding variablesFrom chosen spaced
+      → length (spaced (chosenNames (variablesFrom k l order) names)) ≤ k + total names
+  unfolding variablesFrom chosenNames spaced
   variables-names zero l names b = omega arith
   variables-names (suc k) l names b =
       let v = seatOf l order - 1 in
       let h = rw (names-apart k l (l + 1) names (omega arith) (omega arith)) at (variables-names k (l + 1) (set names v []) (omega arith)) in
-      omega (arith, spaced-length (getD names v []) (chosen (variablesFrom k (l + 1) order) names), total-set names v, h)
+      omega (arith, spaced-length (getD names v []) (chosenNames (variablesFrom k (l + 1) order) names), total-set names v, h)

@@ -12,7 +12,7 @@ use Rattle.header_keys.specs.declared.Key.the-variants.{Ver, Mode, Varinfo, Dd,
 use Rattle.writers.specs.Decimal.{decimal, edgeText}
 use Rattle.writers.specs.Words.{spaced}
 use Rattle.heading.specs.Lines.{HeaderLine, line, keyText, keyedText, lineText, linesText}
-use Rattle.heading.specs.Heading.{Heading, versionText, modeText, unlessEmpty, varnameLines, namedLines, introLines, countLines, idsFrom, permidsOf, variablesFrom, chosen, idLines, rootLines, headLines, headText}
+use Rattle.heading.specs.Heading.{Heading, versionText, modeText, unlessEmpty, varnameLines, namedLines, introLines, countLines, idsFrom, permidsOf, variablesFrom, chosenNames, idLines, rootLines, headLines, headText}
 
 -- the bytes of lines are those of the first and then those of the others
 lines-append : (ls ms : List HeaderLine) → linesText (ls ++ ms) ≡ linesText ls ++ linesText ms
@@ -99,7 +99,7 @@ id-parts support order = two-parts (keyText Ids) (map decimal (idsFrom support 0
 abbrev pub nameParts : DDDMPVersion → List ℕ → List ℕ → List (List ℕ) → List (List ℕ)
 nameParts version support order names =
     linesText (varnameLines version names)
-    ∷ twoParts (keyText Suppvarnames) (chosen (idsFrom support 0 order) names) (keyText Orderedvarnames) (chosen (variablesFrom (length order) 0 order) names)
+    ∷ twoParts (keyText Suppvarnames) (chosenNames (idsFrom support 0 order) names) (keyText Orderedvarnames) (chosenNames (variablesFrom (length order) 0 order) names)
 
 module _ (version : DDDMPVersion) (support order : List ℕ) (names : List (List ℕ)) where
   pub name-parts : length names ≡ length order → linesText (namedLines version support order names) ≡ flatten (nameParts version support order names)
@@ -108,7 +108,7 @@ module _ (version : DDDMPVersion) (support order : List ℕ) (names : List (List
       rw (eq-eqb (length names) (length order) e)
       (lines-append (varnameLines version names) _
       ∙ ap (λ t. linesText (varnameLines version names) ++ t)
-      (two-parts (keyText Suppvarnames) (chosen (idsFrom support 0 order) names) (keyText Orderedvarnames) (chosen (variablesFrom (length order) 0 order) names)))
+      (two-parts (keyText Suppvarnames) (chosenNames (idsFrom support 0 order) names) (keyText Orderedvarnames) (chosenNames (variablesFrom (length order) 0 order) names)))
 
   -- there are no names for some variables
   pub name-parts-none : (length names ≡ length order → ⊥) → linesText (namedLines version support order names) ≡ []

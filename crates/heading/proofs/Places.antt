@@ -12,9 +12,9 @@ use lib.Seq.{drop-cons}
 use borrow.Author.Tests.{leb-true, eqb-true}
 use Rattle.codes.proofs.Bytes.{both}
 use Rattle.read_text.specs.Text.{place}
-use Rattle.variable_names.specs.Names.{places, empty}
+use Rattle.variable_names.specs.Names.{places, emptyName}
 use Rattle.variable_names.proofs.Placed.{getD-places}
-use Rattle.export_names.specs.Names.{counted, inside, nameAt, namesAt, fitName, fitPlace, fitPlaces, listFits}
+use Rattle.export_names.specs.Names.{counted, inside, nameAt, namesAt, fitName, fitPlace, fitPlaces, nameListFits}
 use Rattle.export_names.proofs.FitLists.{list-length}
 use Rattle.heading.specs.Tables.{Inside}
 
@@ -26,7 +26,7 @@ part-name bytes s n = let e : s + n - s ≡ n = omega arith in rw e
 pub name-at : (bytes starts lens : List ℕ) (i : ℕ) → length lens ≡ length starts
     → getD (namesAt bytes starts lens) i [] ≡ nameAt bytes (place (getD starts i 0) (getD lens i 0))
 unfolding namesAt
-name-at bytes starts lens i e = List·getD-map (nameAt bytes) (places starts lens) i empty ∙ ap (nameAt bytes) (getD-places starts lens i e)
+name-at bytes starts lens i e = List·getD-map (nameAt bytes) (places starts lens) i emptyName ∙ ap (nameAt bytes) (getD-places starts lens i e)
 
 -- a place that fits lies inside
 pub place-inside : (d : Bool) (bytes : List ℕ) (s n : ℕ) → fitPlace d bytes (place s n) ≡ true → s + n ≤ length bytes
@@ -43,8 +43,8 @@ places-inside bytes (s ∷ ss) (n ∷ ns) e h (suc i) k =
     places-inside bytes ss ns (suc-inj e) (both (fitPlace false bytes (place s n)) (fitPlaces false bytes (places ss ns)) h .1) i (omega arith)
 
 -- a list of names that fits lies inside
-pub list-inside : (want : ℕ) (bytes starts lens : List ℕ) → listFits want bytes starts lens ≡ true → Inside bytes starts lens
-unfolding listFits counted
+pub list-inside : (want : ℕ) (bytes starts lens : List ℕ) → nameListFits want bytes starts lens ≡ true → Inside bytes starts lens
+unfolding nameListFits counted
 list-inside want bytes starts lens h =
     let p = both (counted want starts lens) (fitPlaces false bytes (places starts lens)) h in
     let e = sym (eqb-true (length starts) (length lens) (both (eqb (length starts) (length lens)) (eqb (length lens) 0 || eqb (length lens) want) (p .0) .0)) in

@@ -20,7 +20,7 @@ use Rattle.writers.specs.Words.{spaced}
 use Rattle.writers.proofs.Decimal.{decimal-short, edge-short}
 use Rattle.heading.specs.Lines.{line, keyText, keyedText, linesText}
 use Rattle.heading.specs.Heading.{Heading, idsFrom, permidsOf, versionText, modeText, unlessEmpty, varnameLines, namedLines, introLines, countLines, idLines, rootLines, headText}
-use Rattle.heading.specs.Small.{Small}
+use Rattle.heading.specs.Small.{SmallHeading}
 use Rattle.heading.proofs.Parts.{intro-parts, count-parts, id-parts, name-parts, name-parts-none, root-parts, head-parts, one-line}
 use Rattle.heading.proofs.ChosenNames.{spaced-length, spaced-total, ids-names, variables-names}
 
@@ -171,7 +171,7 @@ root-lines-short rootids rootnames h f =
 
 -- a header within the limits: 'Export size: 256 + .. 24 × levels + 16 × roots + 3 × variable name bytes + root name bytes + diagram name bytes',
 -- of whose 256 the end of the file takes 5
-pub head-short : (h : Heading) → Small h
+pub head-short : (h : Heading) → SmallHeading h
     → length (headText h)
     ≤ 251 + 24 * length (h .order) + 16 * length (h .rootids) + 3 * sum (map length (h .names)) + sum (map length (h .rootnames)) + length (h .dd)
 unfolding sum spaced

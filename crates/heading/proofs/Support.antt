@@ -14,7 +14,7 @@ use Rattle.seats.specs.Ordered.{ascending}
 use Rattle.support.specs.Support.{lastBelow, idsFit}
 use Rattle.seats.proofs.Seating.{seat-here, seat-there}
 use Rattle.reached.specs.Walk.{isIn}
-use Rattle.heading.specs.Tables.{seatedFrom, seated}
+use Rattle.heading.specs.Tables.{seatedFrom, seatedLevels}
 
 -- after another number one is in a list where it was
 in-there : (x y : ℕ) (l : List ℕ) → (x ≡ y → ⊥) → isIn x (y ∷ l) ≡ isIn x l
@@ -47,8 +47,8 @@ in-from k (suc i) (suc s ∷ seats) =
     in-there (k + suc i) k (seatedFrom (k + 1) seats) (λ q. omega arith) ∙ ap (λ x. isIn x (seatedFrom (k + 1) seats)) e ∙ in-from (k + 1) i seats
 
 -- a level is in the support where it has a seat
-pub in-seated : (seats : List ℕ) (l : ℕ) → isIn l (seated seats) ≡ not (eqb (getD seats l 0) 0)
-unfolding seated
+pub in-seated : (seats : List ℕ) (l : ℕ) → isIn l (seatedLevels seats) ≡ not (eqb (getD seats l 0) 0)
+unfolding seatedLevels
 in-seated seats l = let e : 0 + l ≡ l = omega arith in rw e at (in-from 0 l seats)
 
 -- Numbers that ascend from k on, below n.
@@ -114,8 +114,8 @@ seated-from k n (suc s ∷ seats) l r h f =
 
 -- The levels that have a seat are the support, where the table holds each level's seat in it.
 pub seated-support : (levels : ℕ) (support seats : List ℕ) → Seats support seats → idsFit levels support ≡ true → levels ≤ length seats
-    → seated seats ≡ support
-unfolding seated idsFit
+    → seatedLevels seats ≡ support
+unfolding seatedLevels idsFit
 seated-support levels support seats t h k =
     let p = both (ascending support) (lastBelow levels support) h in
     seated-from 0 levels seats support (rising 0 levels support (p .0) (p .1) (omega arith)) (omega arith)

@@ -13,7 +13,7 @@ use Rattle.variable_order.specs.Order.{isOrder}
 use Rattle.variable_order.proofs.Permutation.{order-below, level-seated}
 use Rattle.reached.specs.Walk.{isIn}
 use Rattle.heading.specs.Tables.{Seatable, Ordered}
-use Rattle.heading.specs.Heading.{idsFrom, permidsOf, variablesFrom, chosen}
+use Rattle.heading.specs.Heading.{idsFrom, permidsOf, variablesFrom, chosenNames}
 use Rattle.heading.proofs.Writing.{Writing, words, words-as}
 
 -- each level has a place in the table of seats
@@ -86,5 +86,5 @@ module _ (order vars : List ℕ) (p : isOrder (length order) order ≡ true) (se
 
 -- the names of the variables that are left, with those said otherwise
 pub names-as : {old : List ℕ} {at : ℕ} {all out : List ℕ} {next : ℕ} (names : List (List ℕ)) {vs ws : List ℕ} → vs ≡ ws
-    → Writing old at all out next (words (chosen vs names)) → Writing old at all out next (words (chosen ws names))
-names-as names e w = words-as (ap (λ vs. chosen vs names) e) w
+    → Writing old at all out next (words (chosenNames vs names)) → Writing old at all out next (words (chosenNames ws names))
+names-as names e w = words-as (ap (λ vs. chosenNames vs names) e) w

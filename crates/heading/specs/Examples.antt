@@ -7,8 +7,8 @@ use Rattle.codes.specs.Texts.{bytes}
 use Rattle.codes.specs.declared.DDDMPVersion.the-variants.{«V2_0», «V3_0»}
 use Rattle.heading.specs.Heading.{Heading}
 
-abbrev pub example : Heading
-example = record {
+abbrev pub exampleHeading : Heading
+exampleHeading = record {
   version = «V2_0»;
   ascii = true;
   dd = [];
@@ -20,8 +20,8 @@ example = record {
   rootnames = bytes "full" ∷ bytes "short" ∷ [];
 }
 
-abbrev pub exampleText : List ℕ
-exampleText =
+abbrev pub exampleHeadText : List ℕ
+exampleHeadText =
     bytes ".ver DDDMP-2.0\n.mode A\n.varinfo 4\n.nnodes 3\n.nvars 2\n.nsuppvars 2\n.suppvarnames gate dock\n.orderedvarnames gate dock\n.ids 0 1\n.permids 0 1\n.nroots 2\n.rootids 3 -3\n.rootnames full short\n.nodes\n"
 
 -- three variables, of which the second, at the level 0, has no line; variable 0 lies at the level 2
@@ -43,8 +43,8 @@ otherText =
     bytes ".ver DDDMP-3.0\n.mode B\n.varinfo 4\n.dd night round\n.nnodes 3\n.nvars 3\n.nsuppvars 2\n.varnames gate yard dock\n.suppvarnames gate dock\n.orderedvarnames yard dock gate\n.ids 0 2\n.permids 2 1\n.nroots 1\n.rootids -3\n.nodes\n"
 
 -- no variables: the name lines are there, and empty; no roots
-abbrev pub bare : Heading
-bare = record {
+abbrev pub bareHeading : Heading
+bareHeading = record {
   version = «V2_0»;
   ascii = true;
   dd = [];

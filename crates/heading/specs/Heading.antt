@@ -48,8 +48,8 @@ variablesFrom zero l order = []
 variablesFrom (suc k) l order = (seatOf l order - 1) ∷ variablesFrom k (l + 1) order
 
 -- the names of variables
-unfoldable pub chosen : List ℕ → List (List ℕ) → List (List ℕ)
-chosen vs names = map (λ v. getD names v []) vs
+unfoldable pub chosenNames : List ℕ → List (List ℕ) → List (List ℕ)
+chosenNames vs names = map (λ v. getD names v []) vs
 
 abbrev pub versionText : DDDMPVersion → List ℕ
 versionText «V2_0» = version20
@@ -73,8 +73,8 @@ unfoldable pub namedLines : DDDMPVersion → List ℕ → List ℕ → List (Lis
 namedLines version support order names =
     cond (eqb (length names) (length order))
     (varnameLines version names
-    ++ (line Suppvarnames (chosen (idsFrom support 0 order) names)
-    ∷ line Orderedvarnames (chosen (variablesFrom (length order) 0 order) names)
+    ++ (line Suppvarnames (chosenNames (idsFrom support 0 order) names)
+    ∷ line Orderedvarnames (chosenNames (variablesFrom (length order) 0 order) names)
     ∷ []))
     []
 

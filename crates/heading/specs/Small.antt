@@ -8,7 +8,7 @@ use Rattle.codes.specs.Limits.{varLimit, rootLimit, nodeLimit}
 use Rattle.variable_order.specs.Order.{isOrder}
 use Rattle.heading.specs.Heading.{Heading}
 
-pub record Small (h : Heading) : Type 0 where
+pub record SmallHeading (h : Heading) : Type 0 where
   pub order : isOrder (length (h .order)) (h .order) ≡ true
   pub few-variables : length (h .order) ≤ varLimit
   pub few-support : length (h .support) ≤ length (h .order)

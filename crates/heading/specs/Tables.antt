@@ -10,8 +10,8 @@ use Rattle.codes.specs.declared.DDDMPVersion.{DDDMPVersion}
 use Rattle.read_text.specs.Text.{Place}
 use Rattle.seats.specs.Seats.{Seats}
 use Rattle.variable_order.specs.Order.{isOrder}
-use Rattle.export_names.specs.Names.{nameAt, namesAt, fitPlace, listFits}
-use Rattle.export_nodes.specs.Tables.{numberOf, Numbered}
+use Rattle.export_names.specs.Names.{nameAt, namesAt, fitPlace, nameListFits}
+use Rattle.export_nodes.specs.Tables.{lineNumberOf, Numbered}
 use Rattle.heading.specs.Heading.{Heading}
 
 -- of the levels l, l + 1, .., those that have a seat in the support
@@ -20,8 +20,8 @@ seatedFrom l [] = []
 seatedFrom l (zero ∷ seats) = seatedFrom (l + 1) seats
 seatedFrom l (suc s ∷ seats) = l ∷ seatedFrom (l + 1) seats
 
-unfoldable pub seated : List ℕ → List ℕ
-seated seats = seatedFrom 0 seats
+unfoldable pub seatedLevels : List ℕ → List ℕ
+seatedLevels seats = seatedFrom 0 seats
 
 -- the parts that names are lent in: bytes, starts and lengths of the variables' names, starts and lengths of the roots', and the place of the
 -- diagram's
@@ -56,10 +56,10 @@ headingBy version ascii p nnodes order seats roots numbers = record {
   ascii = ascii;
   dd = nameAt (p .bytes) (p .dd);
   nnodes = nnodes;
-  support = seated seats;
+  support = seatedLevels seats;
   order = order;
   names = namesOf p;
-  rootids = map (numberOf numbers) roots;
+  rootids = map (lineNumberOf numbers) roots;
   rootnames = rootnamesOf p;
 }
 
@@ -88,6 +88,6 @@ pub record Inside (bytes starts lens : List ℕ) : Type 0 where
 
 -- what the names lean on
 pub record NamesFit (p : Lent) (variables roots : ℕ) : Type 0 where
-  pub names : listFits variables (p .bytes) (p .starts) (p .lens) ≡ true
-  pub rootnames : listFits roots (p .bytes) (p .rootstarts) (p .rootlens) ≡ true
+  pub names : nameListFits variables (p .bytes) (p .starts) (p .lens) ≡ true
+  pub rootnames : nameListFits roots (p .bytes) (p .rootstarts) (p .rootlens) ≡ true
   pub diagram : fitPlace true (p .bytes) (p .dd) ≡ true

@@ -16,15 +16,15 @@ abbrev pub levels : List ℕ
 levels = 0 ∷ 1 ∷ []
 
 -- so many lines of a text, from its top, with no extra words
-abbrev pub decoded : ℕ → List ℕ → NodeLines
-decoded k f = decodeFrom (λ seats n at. textLineAt false levels seats n f at) k [] 1 0
+abbrev pub decodedText : ℕ → List ℕ → NodeLines
+decodedText k f = decodeFrom (λ seats n at. textLineAt false levels seats n f at) k [] 1 0
 
 -- document 01's example
-abbrev pub example : List ℕ
-example = bytes "1 T 0 0\n2 1 1 -1\n3 0 2 -1\n"
+abbrev pub exampleTextNodes : List ℕ
+exampleTextNodes = bytes "1 T 0 0\n2 1 1 -1\n3 0 2 -1\n"
 
-abbrev pub exampleLines : NodeLines
-exampleLines = nodeLines (terminal ∷ inner 1 (pos 1) (negsuc 0) ∷ inner 0 (pos 2) (negsuc 0) ∷ []) (allRead 26)
+abbrev pub exampleTextLines : NodeLines
+exampleTextLines = nodeLines (terminal ∷ inner 1 (pos 1) (negsuc 0) ∷ inner 0 (pos 2) (negsuc 0) ∷ []) (allRead 26)
 
 -- a line is its own child: the line before is read
 abbrev pub own : List ℕ
@@ -41,18 +41,18 @@ abbrev pub shortLines : NodeLines
 shortLines = nodeLines (terminal ∷ []) (stopped 30 2)
 
 -- a line after lines of these seats, and what is read
-pub record Row : Type 0 where
+pub record TextRow : Type 0 where
   pub seats : List ℕ
   pub text : List ℕ
   pub answer : Step Line
 
-abbrev pub row : List ℕ → List ℕ → Step Line → Row
+abbrev pub row : List ℕ → List ℕ → Step Line → TextRow
 row seats f r = record { seats = seats; text = f; answer = r }
 
 -- each row is read so, with an extra word or with none
-abbrev pub All : Bool → List Row → Type 0
-All extra [] = Unit
-All extra (r ∷ rs) = (textLineAt extra levels (r .seats) (suc (length (r .seats))) (r .text) 0 ≡ r .answer) × All extra rs
+abbrev pub AllLines : Bool → List TextRow → Type 0
+AllLines extra [] = Unit
+AllLines extra (r ∷ rs) = (textLineAt extra levels (r .seats) (suc (length (r .seats))) (r .text) 0 ≡ r .answer) × AllLines extra rs
 
 -- a terminal line before; and one at the support position 0, too
 abbrev pub one : List ℕ
@@ -62,7 +62,7 @@ abbrev pub two : List ℕ
 two = 0 ∷ 1 ∷ []
 
 -- lines that are read
-abbrev pub accepted : List Row
+abbrev pub accepted : List TextRow
 accepted =
     row one (bytes "2 1 1 -1\n") (got (inner 1 (pos 1) (negsuc 0)) 9)
     ∷ row one (bytes "2 1 1 -1") (got (inner 1 (pos 1) (negsuc 0)) 8)
@@ -74,8 +74,8 @@ accepted =
     ∷ []
 
 -- one line at least for each refusal
-abbrev pub refusals : List Row
-refusals =
+abbrev pub textRefusals : List TextRow
+textRefusals =
     row one (bytes "\n") (fails 14)
     ∷ row one (bytes "x 0 1 -1\n") (fails 14)
     ∷ row one (bytes "2 x 1 -1\n") (fails 14)
@@ -103,7 +103,7 @@ refusals =
     ∷ []
 
 -- which refusal comes first
-abbrev pub firsts : List Row
+abbrev pub firsts : List TextRow
 firsts =
     row one (bytes "1 x 1\n") (fails 31)
     ∷ row one (bytes "2 x 1 a\n") (fails 16)  -- the child list is judged before the variable word
@@ -115,7 +115,7 @@ firsts =
     ∷ []
 
 -- lines with an extra word
-abbrev pub extras : List Row
+abbrev pub extras : List TextRow
 extras =
     row one (bytes "2 gate 1 1 -1\n") (got (inner 1 (pos 1) (negsuc 0)) 14)
     ∷ row one (bytes "2 1 T 0 0\n") (got terminal 10)

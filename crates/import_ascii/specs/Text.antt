@@ -78,12 +78,12 @@ byWord levels seats n s (got start end) = described levels seats n (part s start
 unfoldable pub textLine : Bool → List ℕ → List ℕ → ℕ → List ℕ → Read Line
 textLine extra levels seats n s = byWord levels seats n s (variableWord extra n s)
 
-abbrev pub endsAt : ℕ → Read Line → Step Line
-endsAt next (value l) = got l next
-endsAt next (refused k) = fails k
+abbrev pub lineEndsAt : ℕ → Read Line → Step Line
+lineEndsAt next (value l) = got l next
+lineEndsAt next (refused k) = fails k
 
 -- The line at a position of a file; '30° ends early' where there is none. The level list has a level for each support position; the seats
 -- are those of the lines before.
 unfoldable pub textLineAt : Bool → List ℕ → List ℕ → ℕ → List ℕ → ℕ → Step Line
 textLineAt extra levels seats n f at =
-    cond (ltb at (length f)) (endsAt (lineOf f at .next) (textLine extra levels seats n (part f at (lineOf f at .end)))) (fails 30)
+    cond (ltb at (length f)) (lineEndsAt (lineOf f at .next) (textLine extra levels seats n (part f at (lineOf f at .end)))) (fails 30)

@@ -5,9 +5,9 @@ use Rattle.read_binary.specs.Binary.{meant, byteAt, groupsFrom, numberAt}
 use Rattle.node_lines.specs.Line.{deeper}
 use Rattle.node_lines.specs.Decode.{decodeFrom}
 use Rattle.import_bin.specs.Bin.{idAt, childAt, variableAt, binLineAt}
-use Rattle.import_bin.specs.Examples.{decoded, example, exampleLines, ReadSo, readings, RefusedSo, refusals}
+use Rattle.import_bin.specs.Examples.{decodedBinary, exampleBytes, exampleBinaryLines, ReadSo, readings, RefusedSo, binaryRefusals}
 
-pub example-decodes : decoded 2 3 example ≡ exampleLines
+pub example-decodes : decodedBinary 2 3 exampleBytes ≡ exampleBinaryLines
 unfolding codeOf byteAt meant groupsFrom numberAt deeper decodeFrom idAt childAt variableAt binLineAt
 example-decodes = refl
 
@@ -17,6 +17,6 @@ unfolding codeOf byteAt meant groupsFrom numberAt deeper decodeFrom idAt childAt
 readings-hold = (refl, (refl, (refl, (refl, (refl, (refl, (refl, (refl, (refl, (refl, tt))))))))))
 
 -- every file of the table is refused so
-pub refusals-hold : RefusedSo refusals
+pub refusals-hold : RefusedSo binaryRefusals
 unfolding codeOf byteAt meant groupsFrom numberAt deeper decodeFrom idAt childAt variableAt binLineAt
 refusals-hold = (refl, (refl, (refl, (refl, (refl, (refl, (refl, (refl, (refl, (refl, (refl, (refl, (refl, (refl, (refl, (refl, (refl, (refl, (refl, (refl, (refl, (refl, (refl, (refl, (refl, (refl, (refl, (refl, (refl, (refl, (refl, (refl, (refl, tt)))))))))))))))))))))))))))))))))

@@ -22,8 +22,8 @@ use Rattle.read_edges.specs.Edges.{signed}
 use Rattle.node_lines.specs.Line.{Line, inner, deeper}
 use Rattle.import_bin.specs.declared.Read.{Read}
 use Rattle.import_bin.specs.declared.Read.the-variants as read
-use Rattle.import_bin.specs.Kinds.{ofRead}
-use Rattle.import_bin.specs.Bin.{countsFrom, countedDown, positionBy, placed, resolved}
+use Rattle.import_bin.specs.Kinds.{ofReadNumber}
+use Rattle.import_bin.specs.Bin.{countsFrom, countedDown, positionBy, placedAt, resolved}
 
 -- What a relative variable counts down from, by the seats of the children.
 
@@ -105,33 +105,33 @@ module _ (n : ℕ) (h : n < 2 ^ 15) where
 
 module _ (levels seats : List ℕ) (t e : ℕ) (els : ℤ) (next p : ℕ) where
   -- a position beyond the level list
-  pub placed-past : length levels ≤ p → placed levels seats t e els next p ≡ fails 34
+  pub placed-past : length levels ≤ p → placedAt levels seats t e els next p ≡ fails 34
   placed-past h = rw (le-ltb p (length levels))
 
   module _ (h : p < length levels) where
     -- then isn't deeper
-    pub placed-then : deeper levels seats (getD levels p 0) t ≡ false → placed levels seats t e els next p ≡ fails 36
+    pub placed-then : deeper levels seats (getD levels p 0) t ≡ false → placedAt levels seats t e els next p ≡ fails 36
     placed-then a = rw (lt-ltb p (length levels), a)
 
     module _ (a : deeper levels seats (getD levels p 0) t ≡ true) where
       -- else isn't deeper
-      pub placed-else : deeper levels seats (getD levels p 0) e ≡ false → placed levels seats t e els next p ≡ fails 36
+      pub placed-else : deeper levels seats (getD levels p 0) e ≡ false → placedAt levels seats t e els next p ≡ fails 36
       placed-else b = rw (lt-ltb p (length levels), a, b)
 
       -- both are, and the children are edges
       pub placed-fits : deeper levels seats (getD levels p 0) e ≡ true → {r : ℤ} → r ≡ signed false t → t < 2 ^ 15 → SFits w16 els
-          → placed levels seats t e els next p ≡ got (inner p (toZ w16 (ofZ w16 r)) (toZ w16 (ofZ w16 els))) next
+          → placedAt levels seats t e els next p ≡ got (inner p (toZ w16 (ofZ w16 r)) (toZ w16 (ofZ w16 els))) next
       placed-fits b k l f = rw (lt-ltb p (length levels), a, b, k, toZ-pos w16 l, toZ-ofZ f)
 
 -- A line with both children read, from what the code found: the seats of the children, what is counted down from, and the position.
 module _ (count : ℕ) (levels seats : List ℕ) (code : Code) (v : ℕ) (complement : Bool) (t e next : ℕ) {a b from : ℕ}
     (ea : a ≡ getD seats (t - 1) 0) (eb : b ≡ getD seats (e - 1) 0) (ef : from ≡ countsFrom count a b)
-    {rp : Read} (ep : ofRead rp ≡ positionBy code from v) where
+    {rp : Read} (ep : ofReadNumber rp ≡ positionBy code from v) where
   -- a position that is refused
   pub resolved-refused : {k : ℕ} → rp ≡ read.Refused k → fails k ≡ resolved count levels seats code v complement t e next
   resolved-refused ip = rw (← ea, ← eb, ← ef, ← ep, ip)
 
   -- a position at which the line is placed
   pub resolved-placed : {p m : ℕ} {els : ℤ} {r : Step Line} → rp ≡ read.Number p m → els ≡ signed complement e
-      → r ≡ placed levels seats t e els next p → r ≡ resolved count levels seats code v complement t e next
+      → r ≡ placedAt levels seats t e els next p → r ≡ resolved count levels seats code v complement t e next
   resolved-placed ip k l = rw (← ea, ← eb, ← ef, ← ep, ip, ← k) l

@@ -58,8 +58,8 @@ positionBy RelativeID from v = countedDown from v
 positionBy Relative1 from v = countedDown from v
 
 -- 'a result not below `.nsuppvars` gives 34', then '36 level not above both children's'
-abbrev pub placed : List ℕ → List ℕ → ℕ → ℕ → ℤ → ℕ → ℕ → Step Line
-placed levels seats t e els next p =
+abbrev pub placedAt : List ℕ → List ℕ → ℕ → ℕ → ℤ → ℕ → ℕ → Step Line
+placedAt levels seats t e els next p =
     cond (ltb p (length levels))
     (cond (deeper levels seats (getD levels p 0) t && deeper levels seats (getD levels p 0) e)
     (got (inner p (pos t) els) next)
@@ -70,7 +70,7 @@ placed levels seats t e els next p =
 abbrev pub resolved : ℕ → List ℕ → List ℕ → Code → ℕ → Bool → ℕ → ℕ → ℕ → Step Line
 resolved count levels seats code v complement t e next =
     then (positionBy code (countsFrom count (getD seats (t - 1) 0) (getD seats (e - 1) 0)) v)
-    (λ p _. placed levels seats t e (signed complement e) next p)
+    (λ p _. placedAt levels seats t e (signed complement e) next p)
 
 -- 'Numbers follow in that order: variable, then, else'; a child's check follows its number, so that of then comes 'before else's number is
 -- read'

@@ -9,15 +9,15 @@ use Rattle.node_lines.specs.Decode.{NodeLines, nodeLines, allRead, stopped, dec
 use Rattle.import_bin.specs.Bin.{binLineAt}
 
 -- the first lines of a file whose support positions 0 and 1 have the levels 0 and 1, by the store's level count
-abbrev pub decoded : ℕ → ℕ → List ℕ → NodeLines
-decoded count k f = decodeFrom (λ seats n at. binLineAt count (0 ∷ 1 ∷ []) seats n f at) k [] 1 0
+abbrev pub decodedBinary : ℕ → ℕ → List ℕ → NodeLines
+decodedBinary count k f = decodeFrom (λ seats n at. binLineAt count (0 ∷ 1 ∷ []) seats n f at) k [] 1 0
 
 -- starred: the nodes of document 01's example in binary
-abbrev pub example : List ℕ
-example = 0x00 ∷ 0x00 ∷ 0x24 ∷ 0x02 ∷ 0x7c ∷ []
+abbrev pub exampleBytes : List ℕ
+exampleBytes = 0x00 ∷ 0x00 ∷ 0x24 ∷ 0x02 ∷ 0x7c ∷ []
 
-abbrev pub exampleLines : NodeLines
-exampleLines = nodeLines (terminal ∷ inner 1 (pos 1) (negsuc 0) ∷ inner 0 (pos 2) (negsuc 0) ∷ []) (allRead 5)
+abbrev pub exampleBinaryLines : NodeLines
+exampleBinaryLines = nodeLines (terminal ∷ inner 1 (pos 1) (negsuc 0) ∷ inner 0 (pos 2) (negsuc 0) ∷ []) (allRead 5)
 
 -- a level count, a file, and the support position of its second line
 pub record Reading : Type 0 where
@@ -32,7 +32,7 @@ reading n f p = record { count = n; file = f; position = p }
 abbrev pub ReadSo : List Reading → Type 0
 ReadSo [] = Unit
 ReadSo (r ∷ rs) =
-    (decoded (r .count) 2 (r .file) ≡ nodeLines (terminal ∷ inner (r .position) (pos 1) (negsuc 0) ∷ []) (allRead (length (r .file)))) × ReadSo rs
+    (decodedBinary (r .count) 2 (r .file) ≡ nodeLines (terminal ∷ inner (r .position) (pos 1) (negsuc 0) ∷ []) (allRead (length (r .file)))) × ReadSo rs
 
 abbrev pub readings : List Reading
 readings =
@@ -49,21 +49,21 @@ readings =
     ∷ []
 
 -- a level count, a file, and the number and node of the refusal of one of its first four lines
-pub record Row : Type 0 where
+pub record BinaryRow : Type 0 where
   pub count : ℕ
   pub file : List ℕ
   pub number : ℕ
   pub node : ℕ
 
-abbrev pub row : ℕ → List ℕ → ℕ → ℕ → Row
+abbrev pub row : ℕ → List ℕ → ℕ → ℕ → BinaryRow
 row n f k l = record { count = n; file = f; number = k; node = l }
 
-abbrev pub RefusedSo : List Row → Type 0
+abbrev pub RefusedSo : List BinaryRow → Type 0
 RefusedSo [] = Unit
-RefusedSo (r ∷ rs) = (decoded (r .count) 4 (r .file) .end ≡ stopped (r .number) (r .node)) × RefusedSo rs
+RefusedSo (r ∷ rs) = (decodedBinary (r .count) 4 (r .file) .end ≡ stopped (r .number) (r .node)) × RefusedSo rs
 
-abbrev pub refusals : List Row
-refusals =
+abbrev pub binaryRefusals : List BinaryRow
+binaryRefusals =
     row 2 [] 30 1  -- no code byte
     ∷ row 2 (0x00 ∷ []) 30 1  -- half an escape
     ∷ row 2 (0x00 ∷ 0x00 ∷ 0x24 ∷ []) 30 2  -- no number of a variable

@@ -4,9 +4,9 @@ use Rattle.codes.specs.Answer.{Step, got, fails}
 use Rattle.import_bin.specs.declared.Read.{Read}
 use Rattle.import_bin.specs.declared.Read.the-variants as read
 
-abbrev pub ofRead : Read → Step ℕ
-ofRead (read.Number v next) = got v next
-ofRead (read.Refused n) = fails n
+abbrev pub ofReadNumber : Read → Step ℕ
+ofReadNumber (read.Number v next) = got v next
+ofReadNumber (read.Refused n) = fails n
 
 -- what callers lean on: the number of a line below line n
 abbrev pub ReadBelow : ℕ → Read → Type 0

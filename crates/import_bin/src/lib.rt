@@ -6,8 +6,8 @@ ghost use lib.IntN.{pos};
 ghost use Rattle.codes.specs.Answer.{then};
 ghost use Rattle.node_lines.specs.Kinds.{ofDecoded};
 ghost use Rattle.read_edges.specs.Edges.{signed};
-ghost use Rattle.import_bin.specs.Kinds.{ofRead, ReadBelow};
-ghost use Rattle.import_bin.specs.Bin.{idAt, below, variableAt, countsFrom, positionBy, placed, resolved, innerAt, binLineAt};
+ghost use Rattle.import_bin.specs.Kinds.{ofReadNumber, ReadBelow};
+ghost use Rattle.import_bin.specs.Bin.{idAt, below, variableAt, countsFrom, positionBy, placedAt, resolved, innerAt, binLineAt};
 use codes::Code;
 use codes::refusal;
 use edges::Edge;
@@ -36,7 +36,7 @@ fn before(node: Index, distance: u64) -> u64
 
 // The number of a child of line `node`.
 fn id_at(code: Code, node: Index, f: &[u8], at: usize) -> Read
-    ensures { λ r. ⌜ ofRead r ≡ idAt code node (now (f .entry)) at ⌝ }
+    ensures { λ r. ⌜ ofReadNumber r ≡ idAt code node (now (f .entry)) at ⌝ }
 {
     match code {
         Code::Terminal => Read::Number(1, at),
@@ -54,7 +54,7 @@ fn id_at(code: Code, node: Index, f: &[u8], at: usize) -> Read
 
 // The number of a child of line `node`, read after another number; a refusal of that one passes on.
 fn id_after(code: Code, node: Index, f: &[u8], last: Read) -> Read
-    ensures { λ r. ⌜ ofRead r ≡ then (ofRead last) (λ _ at. idAt code node (now (f .entry)) at) ⌝ }
+    ensures { λ r. ⌜ ofReadNumber r ≡ then (ofReadNumber last) (λ _ at. idAt code node (now (f .entry)) at) ⌝ }
 {
     match last {
         Read::Number(_, at) => id_at(code, node, f, at),
@@ -64,7 +64,7 @@ fn id_after(code: Code, node: Index, f: &[u8], last: Read) -> Read
 
 // The check of a child's number: it is that of a line below line `node`. A refusal of the number passes on.
 fn below(node: Index, child: Read) -> Read
-    ensures { λ r. ⌜ ofRead r ≡ then (ofRead child) (below node) ⌝ }
+    ensures { λ r. ⌜ ofReadNumber r ≡ then (ofReadNumber child) (below node) ⌝ }
     ensures { λ r. ⌜ ReadBelow node r ⌝ }
 {
     match child {
@@ -83,7 +83,7 @@ fn below(node: Index, child: Read) -> Read
 
 // The number of a variable.
 fn variable_at(code: Code, f: &[u8], at: usize) -> Read
-    ensures { λ r. ⌜ ofRead r ≡ variableAt code (now (f .entry)) at ⌝ }
+    ensures { λ r. ⌜ ofReadNumber r ≡ variableAt code (now (f .entry)) at ⌝ }
 {
     match code {
         Code::Terminal => Read::Number(0, at),
@@ -113,7 +113,7 @@ fn counts_from(count: u16, t: u16, e: u16) -> u16
 
 // The support position of a line.
 fn position_by(code: Code, from: u16, v: u64) -> Read
-    ensures { λ r. ⌜ ofRead r ≡ positionBy code from v ⌝ }
+    ensures { λ r. ⌜ ofReadNumber r ≡ positionBy code from v ⌝ }
 {
     match code {
         Code::Terminal => Read::Refused(refusal::BAD_VARIABLE),
@@ -147,7 +147,7 @@ fn placed(
     p: u64,
 ) -> Decoded
     requires { ⌜ (1 ≤ t) × (1 ≤ e) × (t < 2 ^ 15) × (length (now levels) < 2 ^ 16) ⌝ }
-    ensures { λ r. ⌜ ofDecoded r ≡ placed (now (levels .entry)) (now (seats .entry)) t e els next p ⌝ }
+    ensures { λ r. ⌜ ofDecoded r ≡ placedAt (now (levels .entry)) (now (seats .entry)) t e els next p ⌝ }
 {
     if (levels.len() as u64) <= p {
         return Decoded::Refused(refusal::BAD_VARIABLE);

@@ -21,10 +21,10 @@ use Rattle.store.specs.Make.{Made, make, Makes}
 use Rattle.store.specs.Growth.{EdgeOf, Grows}
 use Rattle.store.proofs.Growth.{grows-refl, grow-edge, grow-depth}
 use Rattle.store.proofs.Makes.{make-gives}
-use Rattle.node_lines.specs.Line.{Line, terminal, inner, seatOf, seatDeeper, deeper}
-use Rattle.node_lines.specs.Decode.{NodeLines, nodeLines, End, allRead, stopped, more, decodeFrom}
-use Rattle.imported.specs.Build.{edgeFor, addLine, Built, built, buildOn, build, LevelsOf, Edges, Child, Inner}
-use Rattle.imported.specs.Import.{Setup, lineAt, linesIn, Answer, nodes, refusal, lineFor, answerBy, builtFrom, linesAnswer, Laid}
+use Rattle.node_lines.specs.Line.{Line, terminal, inner, seatOfLine, seatDeeper, deeper}
+use Rattle.node_lines.specs.Decode.{NodeLines, nodeLines, DecodeEnd, allRead, stopped, moreLines, decodeFrom}
+use Rattle.imported.specs.Build.{edgeFor, addLine, Built, built, buildOn, build, LevelsOf, AllEdges, ChildBelow, Inner}
+use Rattle.imported.specs.Import.{Setup, lineAt, linesIn, NodesAnswer, nodes, refusal, lineFor, answerBy, builtFrom, linesAnswer, Laid}
 use Rattle.imported.proofs.Building.{turned-abs, turned-edge}
 
 -- The edge a of a line of this seat: it is one of the store, and lies as deep as the line or deeper.
@@ -53,7 +53,7 @@ pub record Progress (u : Setup) (σ : Store) (f : List ℕ) (from e s : ℕ) (τ
 
 -- a line that is read, and one that is refused
 decode-got : (read : List ℕ → ℕ → ℕ → Step Line) (k : ℕ) (seats : List ℕ) (n at : ℕ) (l : Line) (next : ℕ) → read seats n at ≡ got l next
-    → decodeFrom read (suc k) seats n at ≡ more l (decodeFrom read k (seats ++ (seatOf l ∷ [])) (n + 1) next)
+    → decodeFrom read (suc k) seats n at ≡ moreLines l (decodeFrom read k (seats ++ (seatOfLine l ∷ [])) (n + 1) next)
 unfolding decodeFrom
 decode-got read k seats n at l next q = rw (decodeFrom, q)
 
@@ -108,11 +108,11 @@ module _ (u : Setup) (σ : Store) (f : List ℕ) (from : ℕ) where
   }
 
   -- what the code leaves
-  abbrev pub Ends : Answer → Store → List ℤ → Type 0
+  abbrev pub Ends : NodesAnswer → Store → List ℤ → Type 0
   Ends a τ edges = (a ≡ linesAnswer u σ f from) × ((τ ≡ builtFrom u σ f from .after) × Laid (builtFrom u σ f from .answer) edges)
 
   -- by what was made and how reading ended
-  ends-by : (b : Built) (e : End) (edges : List ℤ) → builtFrom u σ f from ≡ b → linesIn u f from .end ≡ e → Laid (b .answer) edges
+  ends-by : (b : Built) (e : DecodeEnd) (edges : List ℤ) → builtFrom u σ f from ≡ b → linesIn u f from .end ≡ e → Laid (b .answer) edges
       → Ends (answerBy u e (b .answer)) (b .after) edges
   unfolding linesAnswer
   ends-by b e edges p q d = rw (p, q) (refl, (refl, d))
@@ -152,7 +152,7 @@ module _ (u : Setup) (σ : Store) (f : List ℕ) (from : ℕ) where
     seats-slot h = omega (arith, P .seats-long, P .seats-same)
 
     -- each is an edge
-    pub progress-edges : Edges (take n edges)
+    pub progress-edges : AllEdges (take n edges)
     progress-edges i = go (decLt i n)
       where
         go : Dec (i < n) → natAbs (getD (take n edges) i (pos 1)) < 2 ^ 15
@@ -187,27 +187,27 @@ module _ (u : Setup) (σ : Store) (f : List ℕ) (from : ℕ) where
       module _ (l : Line) (next : ℕ) (q : got l next ≡ lineAt u f (take n seats) (n + 1) at) where
         -- the lines left after it
         abbrev after : NodeLines
-        after = decodeFrom (lineAt u f) (u .nnodes - (n + 1)) (take n seats ++ (seatOf l ∷ [])) (n + 1 + 1) next
+        after = decodeFrom (lineAt u f) (u .nnodes - (n + 1)) (take n seats ++ (seatOfLine l ∷ [])) (n + 1 + 1) next
 
-        line-left : rest u f (take n seats) n at ≡ more l after
+        line-left : rest u f (take n seats) n at ≡ moreLines l after
         line-left = rw left (decode-got (lineAt u f) (u .nnodes - (n + 1)) (take n seats) (n + 1) at l next (sym q))
 
         -- the next line is made
         progress-more : (υ : Store) (a : ℤ) → addLine limits (u .list) τ (take n edges) l .answer ≡ value a
             → υ ≡ addLine limits (u .list) τ (take n edges) l .after → Rules limits υ → Grows τ υ → length (υ .level) ≡ length (τ .level)
-            → Lies (u .list) υ (seatOf l) a → Progress u σ f from e s υ (set edges n a) (set seats n (seatOf l)) (n + 1) next
+            → Lies (u .list) υ (seatOfLine l) a → Progress u σ f from e s υ (set edges n a) (set seats n (seatOfLine l)) (n + 1) next
         progress-more υ a x y R G long L =
             let z : n + 1 ≡ suc n = omega arith in
             let es : take (n + 1) (set edges n a) ≡ take n edges ++ (a ∷ []) =
             rw z (take-suc-set edges n a (omega (arith, P .edges-long, P .edges-same))) in
-            let ss : take (n + 1) (set seats n (seatOf l)) ≡ take n seats ++ (seatOf l ∷ []) =
-            rw z (take-suc-set seats n (seatOf l) (omega (arith, P .seats-long, P .seats-same))) in
+            let ss : take (n + 1) (set seats n (seatOfLine l)) ≡ take n seats ++ (seatOfLine l ∷ []) =
+            rw z (take-suc-set seats n (seatOfLine l) (omega (arith, P .seats-long, P .seats-same))) in
             record {
               rules = R;
               low = λ p v. rw (G .levels) (P .low p v);
               slots = long ∙ P .slots;
               edges-same = length-set edges n a ∙ P .edges-same;
-              seats-same = length-set seats n (seatOf l) ∙ P .seats-same;
+              seats-same = length-set seats n (seatOfLine l) ∙ P .seats-same;
               edges-long = P .edges-long;
               seats-long = P .seats-long;
               within = omega (arith, h);
@@ -219,11 +219,11 @@ module _ (u : Setup) (σ : Store) (f : List ℕ) (from : ℕ) where
             }
           where
             each-more : (i : ℕ) → i < n + 1 → Dec (i < n)
-                → Lies (u .list) υ (getD (take n seats ++ (seatOf l ∷ [])) i 0) (getD (take n edges ++ (a ∷ [])) i (pos 1))
+                → Lies (u .list) υ (getD (take n seats ++ (seatOfLine l ∷ [])) i 0) (getD (take n edges ++ (a ∷ [])) i (pos 1))
             each-more i v (yes k) =
                 let K = P .each i k in
                 rw (
-                  List·getD-append (take n seats) (seatOf l ∷ []) 0 i (omega (arith, seats-length)),
+                  List·getD-append (take n seats) (seatOfLine l ∷ []) 0 i (omega (arith, seats-length)),
                   List·getD-append (take n edges) (a ∷ []) (pos 1) i (omega (arith, edges-length)),
                 ) (record {
                   edge = grow-edge G _ (K .edge);
@@ -231,7 +231,7 @@ module _ (u : Setup) (σ : Store) (f : List ℕ) (from : ℕ) where
                 })
             each-more i v (no k) =
                 let o : i ≡ n = omega arith in
-                rw (o, getD-at (take n seats) (seatOf l) [] 0 n seats-length, getD-at (take n edges) a [] (pos 1) n edges-length) L
+                rw (o, getD-at (take n seats) (seatOfLine l) [] 0 n seats-length, getD-at (take n edges) a [] (pos 1) n edges-length) L
 
       -- 'A terminal line' is node 1
       pub progress-terminal : (next : ℕ) → got terminal next ≡ lineAt u f (take n seats) (n + 1) at
@@ -241,21 +241,21 @@ module _ (u : Setup) (σ : Store) (f : List ℕ) (from : ℕ) where
           (record { edge = record { some = omega arith; there = P .rules .sizes .count-some }; deep = λ l v d. v })
 
       -- the line of a child
-      child-lies : (c : ℤ) (l : ℕ) → Child (u .list) (take n seats) (n + 1) l c
+      child-lies : (c : ℤ) (l : ℕ) → ChildBelow (u .list) (take n seats) (n + 1) l c
           → Lies (u .list) τ (getD (take n seats) (natAbs c - 1) 0) (getD (take n edges) (natAbs c - 1) (pos 1))
       child-lies c l C = P .each (natAbs c - 1) (omega (arith, C .some, C .below))
 
-      child-edge : (c : ℤ) (l : ℕ) → Child (u .list) (take n seats) (n + 1) l c → EdgeOf τ (edgeFor (take n edges) c)
+      child-edge : (c : ℤ) (l : ℕ) → ChildBelow (u .list) (take n seats) (n + 1) l c → EdgeOf τ (edgeFor (take n edges) c)
       unfolding edgeFor
       child-edge c l C = turned-edge τ c (getD (take n edges) (natAbs c - 1) (pos 1)) (child-lies c l C .edge)
 
-      child-deep : (c : ℤ) (l : ℕ) → l < τ .levels → Child (u .list) (take n seats) (n + 1) l c → l < depth τ (natAbs (edgeFor (take n edges) c))
+      child-deep : (c : ℤ) (l : ℕ) → l < τ .levels → ChildBelow (u .list) (take n seats) (n + 1) l c → l < depth τ (natAbs (edgeFor (take n edges) c))
       unfolding edgeFor deeper
       child-deep c l v C =
           rw (turned-abs c (getD (take n edges) (natAbs c - 1) (pos 1))) (child-lies c l C .deep l v (C .deep))
 
       -- its edge, as the code reads it
-      pub child-back : (c : ℤ) (l : ℕ) → Child (u .list) (take n seats) (n + 1) l c → SFits w16 c → (a : ℤ)
+      pub child-back : (c : ℤ) (l : ℕ) → ChildBelow (u .list) (take n seats) (n + 1) l c → SFits w16 c → (a : ℤ)
           → a ≡ edgeFor (take n edges) (toZ w16 (ofZ w16 c)) → toZ w16 (ofZ w16 a) ≡ edgeFor (take n edges) c
       child-back c l C v a q =
           let z : a ≡ edgeFor (take n edges) c = q ∙ ap (edgeFor (take n edges)) (toZ-ofZ w16 c v) in

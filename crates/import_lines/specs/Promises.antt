@@ -9,7 +9,7 @@ use Rattle.store.specs.Store.{Store}
 use Rattle.store.specs.Rules.{Rules, limits}
 use Rattle.codes.specs.Lent.{Part, old, new}
 use Rattle.store.specs.Lent.{storeNow, oldStore, newStore}
-use Rattle.nodes.specs.Known.{Known}
+use Rattle.nodes.specs.Known.{KnownNodes}
 use Rattle.import_steps.specs.declared.Imported.{Imported}
 use Rattle.import_steps.specs.declared.Setup.{Setup}
 use Rattle.import_steps.specs.Kinds.{ofImported, ofSetup}
@@ -33,7 +33,7 @@ module _ (setup : Setup) (list : RefT (List ℕ)) (levels : ℕ) (count : RefT �
     pub rules : Rules limits σ
     pub levels-fit : LevelsOf σ (now list)
     pub bounds : Bounded (ofSetup setup (now list) levels) (length (now edges)) (length (now seats))
-    pub known : Known width σ (now index)
+    pub known : KnownNodes width σ (now index)
 
 module _ (f : Part (List ℕ)) (from : ℕ) (setup : Setup) (list : Part (List ℕ)) (levels : ℕ) (count : Part ℕ)
     (level : Part (List ℕ)) (then els : Part (List ℤ)) (next heads : Part (List ℕ)) (edges : Part (List ℤ)) where

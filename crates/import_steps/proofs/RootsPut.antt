@@ -11,7 +11,7 @@ use mir.Syntax.{w16}
 use mir.Val.{SFits, toZ, ofZ}
 use mir.ValLaws.{toZ-ofZ}
 use Rattle.edges.proofs.Signed.{edge-back}
-use Rattle.imported.specs.Build.{edgeFor, Edges}
+use Rattle.imported.specs.Build.{edgeFor, AllEdges}
 use Rattle.imported.specs.Import.{rootEdge, rootsBy, EdgesIf}
 use Rattle.imported.proofs.ChildEdge.{edge-for-edge}
 use Rattle.import_steps.proofs.Mapped.{Mapped, mapped-start, mapped-more, mapped-kept, mapped-end}
@@ -41,7 +41,7 @@ none (pos (suc n)) h = absurd (omega arith)
 none (negsuc n) h = absurd (omega arith)
 
 -- where the nodes are read the entries are edges
-pub edges-so : (ok : Bool) (edges : List ℤ) → EdgesIf ok edges → ok ≡ true → Edges edges
+pub edges-so : (ok : Bool) (edges : List ℤ) → EdgesIf ok edges → ok ≡ true → AllEdges edges
 edges-so true edges E q = E
 edges-so false edges E q = let z : _≡_ {A = ℕ} 0 1 = cc in absurd (omega arith)
 
@@ -60,7 +60,7 @@ module _ (ok : Bool) (edges old roots : List ℤ) (i : ℕ) (p : Put ok edges ol
     root-some n = omega (arith, k, n)
 
     -- its edge
-    pub put-edge : Edges edges → (m ≡ 0 → ⊥) → (a : ℤ) → a ≡ edgeFor edges (toZ w16 (ofZ w16 (getD roots i (pos 0))))
+    pub put-edge : AllEdges edges → (m ≡ 0 → ⊥) → (a : ℤ) → a ≡ edgeFor edges (toZ w16 (ofZ w16 (getD roots i (pos 0))))
         → Put ok edges old (set roots i (toZ w16 (ofZ w16 a))) (i + 1)
     put-edge E n a e =
         let d = ne-eqb (natAbs (getD old i (pos 0))) 0 (λ z. n (k ∙ ap natAbs read-back ∙ z)) in

@@ -2,12 +2,12 @@
 use Prim.Native.Nat.{ℕ}
 use mathlib.Core.List.{List}
 use Rattle.imported.specs.Import as meant
-use Rattle.imported.specs.Import.{Answer, nodes, refusal}
+use Rattle.imported.specs.Import.{NodesAnswer, nodes, refusal}
 use Rattle.import_steps.specs.declared.Setup.{Setup}
 use Rattle.import_steps.specs.declared.Imported.{Imported}
 use Rattle.import_steps.specs.declared.Imported.the-variants as imported
 
-abbrev pub ofImported : Imported → Answer
+abbrev pub ofImported : Imported → NodesAnswer
 ofImported (imported.Nodes at) = nodes at
 ofImported (imported.Refused k line) = refusal k line
 

@@ -5,7 +5,7 @@ ghost use Prim.Native.Nat.{_≤_, _<_, _^_};
 ghost use lib.IntN.{natAbs};
 ghost use lib.ListN.{length, drop};
 ghost use Rattle.node_lines.specs.Kinds.{ofDecoded};
-ghost use Rattle.imported.specs.Build.{edgeFor, Edges};
+ghost use Rattle.imported.specs.Build.{edgeFor, AllEdges};
 ghost use Rattle.imported.specs.Import.{lineBy, lineFor, blankAll, endsWell, withEnd, isRead, rootsBy, EdgesIf};
 ghost use Rattle.import_steps.specs.Kinds.{ofImported};
 use codes::refusal;
@@ -49,7 +49,7 @@ pub fn line_at(
 
 // The edge of a root or child, by the edges of the lines.
 pub fn edge_for(edges: &[Edge], c: Edge) -> Edge
-    requires { ⌜ Edges (now edges) × (1 ≤ natAbs c) ⌝ }
+    requires { ⌜ AllEdges (now edges) × (1 ≤ natAbs c) ⌝ }
     ensures { λ r. ⌜ r ≡ edgeFor (now (edges .entry)) c ⌝ }
 {
     let i = edges::magnitude(c) as usize - 1;

@@ -15,12 +15,12 @@ use Rattle.codes.specs.Limits.{nodeLimit}
 use Rattle.store.specs.Store.{Store}
 use Rattle.store.specs.Rules.{limits, Rules}
 use Rattle.store.specs.Growth.{Grows}
-use Rattle.node_lines.specs.Decode.{End, allRead, stopped}
+use Rattle.node_lines.specs.Decode.{DecodeEnd, allRead, stopped}
 use Rattle.import_bin.specs.Bin.{binLineAt}
 use Rattle.imported.specs.Build.{LevelsOf, edgeFor, countNeeded}
-use Rattle.imported.specs.Import.{Setup, lineBy, lineAt, linesIn, Answer, nodes, refusal, lineFor, answerBy, builtFrom, linesAnswer}
+use Rattle.imported.specs.Import.{Setup, lineBy, lineAt, linesIn, NodesAnswer, nodes, refusal, lineFor, answerBy, builtFrom, linesAnswer}
 use Rattle.imported.specs.Import.{endsWell, withEnd, edgesOf, rootEdge, rootsBy, isRead, Imported, importOf}
-use Rattle.imported.specs.Acceptance.{Room, Crowded, Accepts, Leaves}
+use Rattle.imported.specs.Acceptance.{StoreRoom, Crowded, NodesAccepted, NodesLeft}
 use Rattle.imported.proofs.Building.{build-40}
 use Rattle.imported.proofs.Room.{build-room, build-count}
 use Rattle.imported.proofs.Refusals.{bin-refusal, decoded-stopped}
@@ -73,21 +73,21 @@ module _ (u : Setup) (σ : Store) (f : List ℕ) (at : ℕ) (ids : List ℤ) (R 
   all-accepted next A = all-answer u f (linesIn u f at .end) (builtFrom u σ f at .answer) next A
 
   -- lines that have room are made
-  room-made : Room (u .list) σ (linesIn u f at .lines) → (edges : List ℤ) × (builtFrom u σ f at .answer ≡ value edges)
+  room-made : StoreRoom (u .list) σ (linesIn u f at .lines) → (edges : List ℤ) × (builtFrom u σ f at .answer ≡ value edges)
   room-made r = build-room limits (u .list) σ (linesIn u f at .lines) (R .sizes) .1 (r .slots, r .limit)
 
-  made-room : (edges : List ℤ) → builtFrom u σ f at .answer ≡ value edges → Room (u .list) σ (linesIn u f at .lines)
+  made-room : (edges : List ℤ) → builtFrom u σ f at .answer ≡ value edges → StoreRoom (u .list) σ (linesIn u f at .lines)
   made-room edges q =
       let w = build-room limits (u .list) σ (linesIn u f at .lines) (R .sizes) .0 (edges, q) in record { slots = w .0; limit = w .1 }
 
   -- Where the conditions hold the nodes are read, up to their position.
-  pub accepted-next : (A : Accepts u σ f at) → importOf u σ f at ids .answer ≡ nodes (A .next)
+  pub accepted-next : (A : NodesAccepted u σ f at) → importOf u σ f at ids .answer ≡ nodes (A .next)
   accepted-next A =
       let w = room-made (A .room) in
       all-accepted (A .next) (record { edges = w .0; made = w .1; lines = A .lines; end = A .end })
 
   -- The nodes of a file are read exactly where its lines can be read, the file ends well and the store has room.
-  pub accepted : ((next : ℕ) × (importOf u σ f at ids .answer ≡ nodes next)) ↔ Accepts u σ f at
+  pub accepted : ((next : ℕ) × (importOf u σ f at ids .answer ≡ nodes next)) ↔ NodesAccepted u σ f at
   accepted = (
     λ p. let A = accepted-all (p .0) (p .1) in
         record { next = p .0; lines = A .lines; end = A .end; room = made-room (A .edges) (A .made) },
@@ -97,13 +97,13 @@ module _ (u : Setup) (σ : Store) (f : List ℕ) (at : ℕ) (ids : List ℤ) (R 
   -- what is left where the nodes are read
   read-after : (next : ℕ) → importOf u σ f at ids .answer ≡ nodes next → importOf u σ f at ids .after ≡ builtFrom u σ f at .after
   unfolding importOf
-  read-after next q = ap (λ (a : Answer). cond (isRead a) (builtFrom u σ f at .after) σ) q
+  read-after next q = ap (λ (a : NodesAnswer). cond (isRead a) (builtFrom u σ f at .after) σ) q
 
   read-roots : (next : ℕ) (edges : List ℤ) → importOf u σ f at ids .answer ≡ nodes next → builtFrom u σ f at .answer ≡ value edges
       → importOf u σ f at ids .roots ≡ map (rootEdge edges) ids
   unfolding importOf
   read-roots next edges q e =
-      ap (λ (a : Answer). rootsBy (isRead a) (edgesOf (builtFrom u σ f at .answer)) ids) q
+      ap (λ (a : NodesAnswer). rootsBy (isRead a) (edgesOf (builtFrom u σ f at .answer)) ids) q
       ∙ ap (λ (x : Read (List ℤ)). map (rootEdge (edgesOf x)) ids) e
 
   -- an entry of the roots
@@ -119,7 +119,7 @@ module _ (u : Setup) (σ : Store) (f : List ℕ) (at : ℕ) (ids : List ℤ) (R 
 
   -- what the lines made leave
   made-leaves : (edges : List ℤ) (r : Imported) → builtFrom u σ f at .answer ≡ value edges → length (linesIn u f at .lines) ≡ u .nnodes
-      → r .after ≡ builtFrom u σ f at .after → r .roots ≡ map (rootEdge edges) ids → Leaves u σ f at ids r
+      → r .after ≡ builtFrom u σ f at .after → r .roots ≡ map (rootEdge edges) ids → NodesLeft u σ f at ids r
   made-leaves edges r m n a q =
       let B = lines-built u σ f at R W in
       let T = B .roots edges m in
@@ -138,14 +138,14 @@ module _ (u : Setup) (σ : Store) (f : List ℕ) (at : ℕ) (ids : List ℤ) (R 
       }
 
   -- Where they are read each root answers what the file's own lines say, and the store keeps the rules and has only grown.
-  pub roots-say : (next : ℕ) → importOf u σ f at ids .answer ≡ nodes next → Leaves u σ f at ids (importOf u σ f at ids)
+  pub roots-say : (next : ℕ) → importOf u σ f at ids .answer ≡ nodes next → NodesLeft u σ f at ids (importOf u σ f at ids)
   roots-say next q =
       let A = accepted-all next q in
       made-leaves (A .edges) (importOf u σ f at ids) (A .made) (lines-count u f at next (A .lines)) (read-after next q)
       (read-roots next (A .edges) q (A .made))
 
   -- an answer of 40 is the store's own
-  forty-built : (x : Read (List ℤ)) (e : End) → linesIn u f at .end ≡ e → withEnd f (answerBy u e x) ≡ refusal 40 0
+  forty-built : (x : Read (List ℤ)) (e : DecodeEnd) → linesIn u f at .end ≡ e → withEnd f (answerBy u e x) ≡ refusal 40 0
       → (k : ℕ) × (x ≡ refused k)
   forty-built (refused k) e p q = (k, refl)
   forty-built (value edges) (stopped k n) p q = let w = lines-stopped u f at k n p in absurd (stopped-40 u k n (w .0) (w .1) q)
@@ -171,7 +171,7 @@ module _ (u : Setup) (σ : Store) (f : List ℕ) (at : ℕ) (ids : List ℤ) (R 
   crowded-refused c (refused k) q = (k, refl)
   crowded-refused c (value edges) q = absurd (go (made-room edges q) c)
     where
-      go : Room (u .list) σ (linesIn u f at .lines) → Crowded (u .list) σ (linesIn u f at .lines) → ⊥
+      go : StoreRoom (u .list) σ (linesIn u f at .lines) → Crowded (u .list) σ (linesIn u f at .lines) → ⊥
       go r (inl h) = omega (arith, r .slots)
       go r (inr h) = omega (arith, r .limit)
 

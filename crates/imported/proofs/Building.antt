@@ -21,22 +21,22 @@ use Rattle.store.specs.Growth.{EdgeOf, Grows}
 use Rattle.store.proofs.Meaning.{node-one, opposite-edge, answer-opposite}
 use Rattle.store.proofs.Growth.{grows-refl, grows-trans, grow-edge, grow-depth, grow-answer}
 use Rattle.store.proofs.Makes.{Edged, make-gives, make-kept}
-use Rattle.node_lines.specs.Line.{Line, terminal, inner, seatOf, seatDeeper, deeper}
+use Rattle.node_lines.specs.Line.{Line, terminal, inner, seatOfLine, seatDeeper, deeper}
 use Rattle.node_lines.specs.Says.{saysBy, says}
-use Rattle.imported.specs.Build.{turned, edgeFor, addLine, Built, built, onwards, buildOn, build}
-use Rattle.imported.specs.Build.{LevelsOf, Child, Inner, Judged, AllJudged, none, one}
+use Rattle.imported.specs.Build.{turnedOver, edgeFor, addLine, Built, built, onwards, buildOn, build}
+use Rattle.imported.specs.Build.{LevelsOf, ChildBelow, Inner, Judged, AllJudged, none, one}
 use Rattle.imported.proofs.SaysAs.{Falls, judged-falls, terminal-says, inner-says}
 
 -- an edge turned over under a minus names the same node, and its answer is turned over
-pub turned-abs : (c a : ℤ) → natAbs (turned c a) ≡ natAbs a
+pub turned-abs : (c a : ℤ) → natAbs (turnedOver c a) ≡ natAbs a
 turned-abs (pos n) a = refl
 turned-abs (negsuc n) a = abs-neg a
 
-pub turned-edge : (τ : Store) (c a : ℤ) → EdgeOf τ a → EdgeOf τ (turned c a)
+pub turned-edge : (τ : Store) (c a : ℤ) → EdgeOf τ a → EdgeOf τ (turnedOver c a)
 turned-edge τ (pos n) a E = E
 turned-edge τ (negsuc n) a E = opposite-edge τ a E
 
-turned-answer : (τ : Store) (s : Setting) (c a : ℤ) → 1 ≤ natAbs a → answer τ s (turned c a) ≡ turn c (answer τ s a)
+turned-answer : (τ : Store) (s : Setting) (c a : ℤ) → 1 ≤ natAbs a → answer τ s (turnedOver c a) ≡ turn c (answer τ s a)
 unfolding turn
 turned-answer τ s (pos n) a h = refl
 turned-answer τ s (negsuc n) a h = answer-opposite τ s a h
@@ -101,7 +101,7 @@ module _ (levels : List ℕ) (ls : List Line) (τ : Store) (seats : List ℕ) (e
       record { edge = turned-edge τ c a (S .edge); agrees = λ s. turned-answer τ s c a (S .edge .some) ∙ ap (turn c) (S .agrees s) }
 
   -- a child of the next line, which lies deeper than level l
-  child-deep : (n l : ℕ) (c : ℤ) → n ≡ length seats + 1 → l < τ .levels → Child levels seats n l c → l < depth τ (natAbs (edgeFor edges c))
+  child-deep : (n l : ℕ) (c : ℤ) → n ≡ length seats + 1 → l < τ .levels → ChildBelow levels seats n l c → l < depth τ (natAbs (edgeFor edges c))
   unfolding edgeFor deeper
   child-deep n l c q h C =
       let S = line-stands c (C .some) (omega (arith, C .below, L .even)) in
@@ -164,7 +164,7 @@ module _ (m : Limits) (levels : List ℕ) (ls : List Line) (F : Falls ls) (τ : 
 
   -- the next line
   line-adds : LevelsOf τ levels → (l : Line) → Judged levels seats (length seats + 1) l → getD ls (length edges) terminal ≡ l
-      → Adds m levels ls τ (length edges + 1) (seatOf l) (addLine m levels τ edges l)
+      → Adds m levels ls τ (length edges + 1) (seatOfLine l) (addLine m levels τ edges l)
   unfolding addLine
   line-adds W terminal j q = record {
     rules = R;
@@ -236,7 +236,7 @@ module _ (m : Limits) (levels : List ℕ) (σ : Store) (ls : List Line) where
       (λ a x. on-built js F W (done ++ (l ∷ [])) (edges ++ (a ∷ [])) (addLine m levels τ edges l .after)
       (q ∙ sym (append-snoc done l rest)) (omega (arith, length-append done (l ∷ []), length-append edges (a ∷ [])))
       (A .rules) (grows-trans G (A .grows)) (A .long ∙ long)
-      (lined-more levels ls τ (addLine m levels τ edges l .after) seats edges (seatOf l) a L (A .grows) (R .nodes) (A .stands a x)))
+      (lined-more levels ls τ (addLine m levels τ edges l .after) seats edges (seatOfLine l) a L (A .grows) (R .nodes) (A .stands a x)))
 
   -- Node lines that their checks have let pass, made into a store that keeps the rules.
   pub build-gives : Rules m σ → LevelsOf σ levels → AllJudged levels [] ls → Builds m levels σ ls (build m levels σ ls)

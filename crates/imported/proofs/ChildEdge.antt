@@ -12,7 +12,7 @@ use mir.ValLaws.{toZ-ofZ}
 use Rattle.edges.specs.Edge.{IsEdge, minus}
 use Rattle.edges.proofs.Edge.{edge-neg}
 use Rattle.edges.proofs.Signed.{abs-back, edge-back}
-use Rattle.imported.specs.Build.{turned, edgeFor, Edges}
+use Rattle.imported.specs.Build.{turnedOver, edgeFor, AllEdges}
 
 -- inside a list an entry is the same with any default
 pub within : {A : Type 0} (l : List A) (i : ℕ) (d z : A) → i < length l → getD l i d ≡ getD l i z
@@ -21,22 +21,22 @@ within (x ∷ l) zero d z h = refl
 within (x ∷ l) (suc i) d z h = within l i d z (omega arith)
 
 -- an edge by the sign of its root or child
-turned-plain : (c e : ℤ) → minus c ≡ false → e ≡ turned c e
+turned-plain : (c e : ℤ) → minus c ≡ false → e ≡ turnedOver c e
 unfolding minus
 turned-plain (pos n) e h = refl
 turned-plain (negsuc n) e h = absurd (true≢false h)
 
-turned-minus : (c e : ℤ) → minus c ≡ true → negℤ e ≡ turned c e
+turned-minus : (c e : ℤ) → minus c ≡ true → negℤ e ≡ turnedOver c e
 unfolding minus
 turned-minus (pos n) e h = absurd (true≢false (sym h))
 turned-minus (negsuc n) e h = refl
 
 -- the edge of a root or child is one
-turned-edge : (c e : ℤ) → IsEdge e → IsEdge (turned c e)
+turned-edge : (c e : ℤ) → IsEdge e → IsEdge (turnedOver c e)
 turned-edge (pos n) e h = h
 turned-edge (negsuc n) e h = edge-neg e h
 
-pub edge-for-edge : (edges : List ℤ) (c : ℤ) → Edges edges → IsEdge (edgeFor edges c)
+pub edge-for-edge : (edges : List ℤ) (c : ℤ) → AllEdges edges → IsEdge (edgeFor edges c)
 unfolding edgeFor
 edge-for-edge edges c E = turned-edge c _ (E (natAbs c - 1))
 
@@ -55,7 +55,7 @@ module _ (edges : List ℤ) (c : ℤ) (f : SFits w16 c) where
     number-some h = omega (arith, number-is)
 
     -- its edge is read from the list
-    pub found-there : {e : ℕ} → Edges edges → m - 1 < length edges → e ≡ ofZ w16 (getD edges (m - 1) (pos 0)) → Found edges c e
+    pub found-there : {e : ℕ} → AllEdges edges → m - 1 < length edges → e ≡ ofZ w16 (getD edges (m - 1) (pos 0)) → Found edges c e
     found-there E h q =
         let k : natAbs c - 1 < length edges = omega (arith, number-is) in
         rw (q, number-is, within edges (natAbs c - 1) (pos 0) (pos 1) k) (edge-back w16 (getD edges (natAbs c - 1) (pos 1)) (E (natAbs c - 1)))
@@ -66,7 +66,7 @@ module _ (edges : List ℤ) (c : ℤ) (f : SFits w16 c) where
         let k : length edges ≤ natAbs c - 1 = omega (arith, number-is) in
         rw (q, List·getD-eq-default edges (pos 1) k)
 
-  module _ (e : ℕ) (E : Edges edges) (x : Found edges c e) where
+  module _ (e : ℕ) (E : AllEdges edges) (x : Found edges c e) where
     -- it has an opposite
     pub found-edge : natAbs (toZ w16 e) < 2 ^ 15
     found-edge = rw x (E (natAbs c - 1))

@@ -6,8 +6,8 @@ use Prim.Native.Nat.{ℕ, zero, suc, _+_}
 use native.Mathlib.Omega.{arith}
 use lib.ListN.{length, length-append}
 use Rattle.codes.specs.Answer.{Step, got, fails}
-use Rattle.node_lines.specs.Line.{Line, seatOf}
-use Rattle.node_lines.specs.Decode.{NodeLines, nodeLines, stopped, more, decodeFrom}
+use Rattle.node_lines.specs.Line.{Line, seatOfLine}
+use Rattle.node_lines.specs.Decode.{NodeLines, nodeLines, stopped, moreLines, decodeFrom}
 use Rattle.imported.specs.Build.{Judged, AllJudged, none, one}
 
 module _ (levels : List ℕ) (read : List ℕ → ℕ → ℕ → Step Line)
@@ -17,14 +17,14 @@ module _ (levels : List ℕ) (read : List ℕ → ℕ → ℕ → Step Line)
   unfolding decodeFrom
   from-judged zero seats n at q = none
   from-judged (suc k) seats n at q =
-      go (read seats n at) refl (λ l next. from-judged k (seats ++ (seatOf l ∷ [])) (n + 1) next (omega (arith, length-append seats (seatOf l ∷ []))))
+      go (read seats n at) refl (λ l next. from-judged k (seats ++ (seatOfLine l ∷ [])) (n + 1) next (omega (arith, length-append seats (seatOfLine l ∷ []))))
     where
       after : Step Line → NodeLines
-      after (got l next) = more l (decodeFrom read k (seats ++ (seatOf l ∷ [])) (n + 1) next)
+      after (got l next) = moreLines l (decodeFrom read k (seats ++ (seatOfLine l ∷ [])) (n + 1) next)
       after (fails r) = nodeLines [] (stopped r n)
 
       go : (x : Step Line) → read seats n at ≡ x
-          → ((l : Line) (next : ℕ) → AllJudged levels (seats ++ (seatOf l ∷ [])) (decodeFrom read k (seats ++ (seatOf l ∷ [])) (n + 1) next .lines))
+          → ((l : Line) (next : ℕ) → AllJudged levels (seats ++ (seatOfLine l ∷ [])) (decodeFrom read k (seats ++ (seatOfLine l ∷ [])) (n + 1) next .lines))
           → AllJudged levels seats (after x .lines)
       go (got l next) e ih = one (subst (λ (i : ℕ). Judged levels seats i l) q (J seats n at l next q e)) (ih l next)
       go (fails r) e ih = none

@@ -21,9 +21,9 @@ use Rattle.read_numbers.specs.Number.{single}
 use Rattle.read_text.specs.Alike.{alike}
 use Rattle.header_lines.specs.Sweep.{part}
 use Rattle.node_lines.specs.Line.{Line, terminal, inner, deeper, childFault}
-use Rattle.import_ascii.specs.Text.{variableWord, describedT, faultless, variable, described, byWord, textLine, endsAt, textLineAt}
-use Rattle.import_bin.specs.Bin.{idAt, below, childAt, variableAt, countsFrom, positionBy, placed, resolved, innerAt, byCode, binLineAt}
-use Rattle.imported.specs.Build.{Child, Judged}
+use Rattle.import_ascii.specs.Text.{variableWord, describedT, faultless, variable, described, byWord, textLine, lineEndsAt, textLineAt}
+use Rattle.import_bin.specs.Bin.{idAt, below, childAt, variableAt, countsFrom, positionBy, placedAt, resolved, innerAt, byCode, binLineAt}
+use Rattle.imported.specs.Build.{ChildBelow, Judged}
 use Rattle.imported.specs.Import.{lineBy}
 use Rattle.imported.proofs.Modes.{text-line, bin-line}
 
@@ -38,11 +38,11 @@ module _ (levels seats : List ℕ) (n : ℕ) where
   WellStep (fails k) = Unit
 
   -- a child with no fault
-  child-judged : (l : ℕ) (c : ℤ) → 1 ≤ natAbs c → childFault levels seats n l c ≡ 0 → Child levels seats n l c
+  child-judged : (l : ℕ) (c : ℤ) → 1 ≤ natAbs c → childFault levels seats n l c ≡ 0 → ChildBelow levels seats n l c
   unfolding childFault
   child-judged l c h = go (leb n (natAbs c)) (deeper levels seats l (natAbs c)) refl refl
     where
-      go : (a b : Bool) → leb n (natAbs c) ≡ a → deeper levels seats l (natAbs c) ≡ b → _≡_ {A = ℕ} (cond a 35 (cond b 0 36)) 0 → Child levels seats n l c
+      go : (a b : Bool) → leb n (natAbs c) ≡ a → deeper levels seats l (natAbs c) ≡ b → _≡_ {A = ℕ} (cond a 35 (cond b 0 36)) 0 → ChildBelow levels seats n l c
       go true b p q z = absurd (omega arith)
       go false true p q z = record { some = h; below = leb-false n (natAbs c) p; deep = q }
       go false false p q z = absurd (omega arith)
@@ -101,7 +101,7 @@ module _ (levels seats : List ℕ) (n : ℕ) where
   word-well s (got start end) = described-well (part s start end) (children (drop end s))
 
   -- a line with the position after it
-  end-well : (next : ℕ) (r : Read Line) → Well r → WellStep (endsAt next r)
+  end-well : (next : ℕ) (r : Read Line) → Well r → WellStep (lineEndsAt next r)
   end-well next (value l) j = j
   end-well next (refused k) j = tt
 
@@ -113,7 +113,7 @@ module _ (levels seats : List ℕ) (n : ℕ) where
       s : List ℕ
       s = part f at (lineOf f at .end)
 
-      go : (b : Bool) → WellStep (cond b (endsAt (lineOf f at .next) (byWord levels seats n s (variableWord extra n s))) (fails 30))
+      go : (b : Bool) → WellStep (cond b (lineEndsAt (lineOf f at .next) (byWord levels seats n s (variableWord extra n s))) (fails 30))
       go true = end-well (lineOf f at .next) (byWord levels seats n s (variableWord extra n s)) (word-well s (variableWord extra n s))
       go false = tt
 
@@ -159,11 +159,11 @@ module _ (levels seats : List ℕ) (n : ℕ) where
   abs-signed false v = refl
 
   -- a child below line n that lies deeper
-  signed-child : (b : Bool) (l v : ℕ) → Low v → deeper levels seats l v ≡ true → Child levels seats n l (signed b v)
+  signed-child : (b : Bool) (l v : ℕ) → Low v → deeper levels seats l v ≡ true → ChildBelow levels seats n l (signed b v)
   signed-child b l v h d = record { some = rw (abs-signed b v) (h .0); below = rw (abs-signed b v) (h .1); deep = rw (abs-signed b v) d }
 
   -- a line with both children read
-  placed-well : (b : Bool) (t e next p : ℕ) → Low t → Low e → WellStep (placed levels seats t e (signed b e) next p)
+  placed-well : (b : Bool) (t e next p : ℕ) → Low t → Low e → WellStep (placedAt levels seats t e (signed b e) next p)
   placed-well b t e next p h k = go (ltb p (length levels)) refl
     where
       l : ℕ
@@ -186,7 +186,7 @@ module _ (levels seats : List ℕ) (n : ℕ) where
       → WellStep (resolved count levels seats code v b t e next)
   resolved-well count code v b t e next h k =
       then-well (positionBy code (countsFrom count (getD seats (t - 1) 0) (getD seats (e - 1) 0)) v)
-      (λ p _. placed levels seats t e (signed b e) next p) (λ p x q. placed-well b t e next p h k)
+      (λ p _. placedAt levels seats t e (signed b e) next p) (λ p x q. placed-well b t e next p h k)
 
   -- a line with its variable read
   inner-well : (count : ℕ) (f : List ℕ) (b : ℕ) (code : Code) (at : ℕ) → WellStep (innerAt count levels seats n f b code at)

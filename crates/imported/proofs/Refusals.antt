@@ -14,9 +14,9 @@ use Rattle.codes.specs.declared.Code.{Code}
 use Rattle.codes.specs.declared.Code.the-variants.{Terminal, AbsoluteID, RelativeID, Relative1}
 use Rattle.read_binary.specs.Binary.{meant, byteAt, grouped, groupsFrom, numberAt}
 use Rattle.read_edges.specs.Edges.{signed}
-use Rattle.node_lines.specs.Line.{Line, seatOf, deeper}
-use Rattle.node_lines.specs.Decode.{NodeLines, nodeLines, stopped, more, decodeFrom}
-use Rattle.import_bin.specs.Bin.{idAt, below, childAt, variableAt, countsFrom, positionBy, placed, resolved, innerAt, byCode, binLineAt}
+use Rattle.node_lines.specs.Line.{Line, seatOfLine, deeper}
+use Rattle.node_lines.specs.Decode.{NodeLines, nodeLines, stopped, moreLines, decodeFrom}
+use Rattle.import_bin.specs.Bin.{idAt, below, childAt, variableAt, countsFrom, positionBy, placedAt, resolved, innerAt, byCode, binLineAt}
 
 -- no refusal from 40 on
 abbrev Under : {A : Type 0} → Step A → Type 0
@@ -87,7 +87,7 @@ position-under RelativeID from v = cond-under (ltb from v) _ _ (omega arith) tt
 position-under Relative1 from v = cond-under (ltb from v) _ _ (omega arith) tt
 
 module _ (count : ℕ) (levels seats : List ℕ) where
-  placed-under : (t e : ℕ) (els : ℤ) (next p : ℕ) → Under (placed levels seats t e els next p)
+  placed-under : (t e : ℕ) (els : ℤ) (next p : ℕ) → Under (placedAt levels seats t e els next p)
   placed-under t e els next p =
       cond-under (ltb p (length levels)) _ _
       (cond-under (deeper levels seats (getD levels p 0) t && deeper levels seats (getD levels p 0) e) _ _ tt (omega arith)) (omega arith)
@@ -126,14 +126,14 @@ pub decoded-stopped : (read : List ℕ → ℕ → ℕ → Step Line) (P : ℕ �
 unfolding decodeFrom
 decoded-stopped read P h zero seats n at r i q = let z : _≡_ {A = ℕ} 0 1 = cc in absurd (omega arith)
 decoded-stopped read P h (suc k) seats n at r i q =
-    go (read seats n at) refl (λ l next. decoded-stopped read P h k (seats ++ (seatOf l ∷ [])) (n + 1) next r i) q
+    go (read seats n at) refl (λ l next. decoded-stopped read P h k (seats ++ (seatOfLine l ∷ [])) (n + 1) next r i) q
   where
     left : Step Line → NodeLines
-    left (got l next) = more l (decodeFrom read k (seats ++ (seatOf l ∷ [])) (n + 1) next)
+    left (got l next) = moreLines l (decodeFrom read k (seats ++ (seatOfLine l ∷ [])) (n + 1) next)
     left (fails m) = nodeLines [] (stopped m n)
 
     go : (x : Step Line) → read seats n at ≡ x
-        → ((l : Line) (next : ℕ) → decodeFrom read k (seats ++ (seatOf l ∷ [])) (n + 1) next .end ≡ stopped r i → P r × (n + 1 ≤ i))
+        → ((l : Line) (next : ℕ) → decodeFrom read k (seats ++ (seatOfLine l ∷ [])) (n + 1) next .end ≡ stopped r i → P r × (n + 1 ≤ i))
         → left x .end ≡ stopped r i → P r × (n ≤ i)
     go (got l next) e ih q = let w = ih l next q in (w .0, omega (arith, w .1))
     go (fails m) e ih q =

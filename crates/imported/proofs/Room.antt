@@ -16,7 +16,7 @@ use Rattle.codes.specs.Answer.{Read, value, refused}
 use Rattle.edges.specs.Edge.{minus, eqZ}
 use Rattle.store.specs.Store.{Store, levelAt, thenAt, elseAt}
 use Rattle.store.specs.Rules.{Limits, Sizes}
-use Rattle.store.specs.Make.{findUpTo, find, added, Made, made, full, roomFor, placed, insert, negated, turned, make}
+use Rattle.store.specs.Make.{findUpTo, find, added, Made, made, full, roomFor, placedNode, insert, negated, turned, make}
 use Rattle.store.specs.Growth.{Grows}
 use Rattle.store.proofs.Added.{added-grows, added-holds, added-count, added-length, added-sizes}
 use Rattle.store.proofs.Makes.{room-true, room-false}
@@ -144,7 +144,7 @@ module _ (m w : Limits) (σ τ : Store) (l : ℕ) (t e : ℤ) (k : ℕ) (B : Bes
           no-room x (inl z) = omega (arith, x .0, B .count, added-count w τ l t e (B .roomy) (roomy-slots m w σ τ l t e k B))
           no-room x (inr z) = omega (arith, x .1, B .count, added-count w τ l t e (B .roomy) (roomy-slots m w σ τ l t e k B))
 
-      go : (n : ℕ) → Pair m w k σ (placed m σ l t e n) (placed w τ l t e n)
+      go : (n : ℕ) → Pair m w k σ (placedNode m σ l t e n) (placedNode w τ l t e n)
       go zero = rw (roomy-room m w σ τ l t e k B) (new (roomFor m σ) refl)
       go (suc n) = both (pos (suc n)) refl refl refl (beside-less k B)
 
@@ -182,7 +182,7 @@ module _ (m : Limits) (σ : Store) where
       new true = omega arith
       new false = le-refl (σ .count)
 
-      go : (n : ℕ) → σ .count ≤ placed m σ l t e n .after .count
+      go : (n : ℕ) → σ .count ≤ placedNode m σ l t e n .after .count
       go zero = new (roomFor m σ)
       go (suc n) = le-refl (σ .count)
 

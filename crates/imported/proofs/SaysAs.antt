@@ -9,7 +9,7 @@ use native.Mathlib.Nat.{le-refl}
 use lib.ListN.{length, getD, length-append}
 use lib.IntN.{ℤ, natAbs}
 use Rattle.edges.specs.Edge.{turn}
-use Rattle.node_lines.specs.Line.{Line, terminal, inner, seatOf}
+use Rattle.node_lines.specs.Line.{Line, terminal, inner, seatOfLine}
 use Rattle.node_lines.specs.Says.{lineSays, saysBy, says}
 use Rattle.imported.specs.Build.{Judged, AllJudged, none, one}
 
@@ -41,7 +41,7 @@ all-low {levels} (one {seats} {l} {ls} j js) zero =
     let q : length seats + 1 + 0 ≡ length seats + 1 = omega arith in
     rw q (judged-low levels seats (length seats + 1) l j)
 all-low {levels} (one {seats} {l} {ls} j js) (suc i) =
-    let q : length (seats ++ (seatOf l ∷ [])) + 1 + i ≡ length seats + 1 + suc i = omega (arith, length-append seats (seatOf l ∷ [])) in
+    let q : length (seats ++ (seatOfLine l ∷ [])) + 1 + i ≡ length seats + 1 + suc i = omega (arith, length-append seats (seatOfLine l ∷ [])) in
     subst (λ (k : ℕ). Low k (getD ls i terminal)) q (all-low js i)
 
 -- so it is of judged lines

@@ -13,10 +13,10 @@ use Rattle.store.specs.Store.{Store}
 use Rattle.store.specs.Rules.{limits, Rules}
 use Rattle.store.specs.Make.{back}
 use Rattle.store.proofs.Back.{back-exact}
-use Rattle.node_lines.specs.Line.{Line, seatOf}
-use Rattle.node_lines.specs.Decode.{NodeLines, nodeLines, End, allRead, stopped, more, decodeFrom}
-use Rattle.imported.specs.Build.{edgeFor, Edges, LevelsOf, AllJudged}
-use Rattle.imported.specs.Import.{Setup, lineAt, linesIn, Answer, nodes, refusal, answerBy, ended, builtFrom, linesAnswer}
+use Rattle.node_lines.specs.Line.{Line, seatOfLine}
+use Rattle.node_lines.specs.Decode.{NodeLines, nodeLines, DecodeEnd, allRead, stopped, moreLines, decodeFrom}
+use Rattle.imported.specs.Build.{edgeFor, AllEdges, LevelsOf, AllJudged}
+use Rattle.imported.specs.Import.{Setup, lineAt, linesIn, NodesAnswer, nodes, refusal, answerBy, endedLines, builtFrom, linesAnswer}
 use Rattle.imported.specs.Import.{endsWell, withEnd, edgesOf, isRead, rootsBy, importOf, Laid, EdgesIf}
 use Rattle.imported.proofs.Building.{Builds, Roots, build-gives}
 use Rattle.imported.proofs.Decoded.{decoded-judged}
@@ -29,15 +29,15 @@ module _ (read : List ℕ → ℕ → ℕ → Step Line) where
   unfolding decodeFrom
   decoded-count zero seats n at next q = refl
   decoded-count (suc k) seats n at next q =
-      go (read seats n at) (λ l after. decoded-count k (seats ++ (seatOf l ∷ [])) (n + 1) after next) q
+      go (read seats n at) (λ l after. decoded-count k (seats ++ (seatOfLine l ∷ [])) (n + 1) after next) q
     where
       left : Step Line → NodeLines
-      left (got l after) = more l (decodeFrom read k (seats ++ (seatOf l ∷ [])) (n + 1) after)
+      left (got l after) = moreLines l (decodeFrom read k (seats ++ (seatOfLine l ∷ [])) (n + 1) after)
       left (fails r) = nodeLines [] (stopped r n)
 
       go : (x : Step Line)
-          → ((l : Line) (after : ℕ) → decodeFrom read k (seats ++ (seatOf l ∷ [])) (n + 1) after .end ≡ allRead next
-          → length (decodeFrom read k (seats ++ (seatOf l ∷ [])) (n + 1) after .lines) ≡ k)
+          → ((l : Line) (after : ℕ) → decodeFrom read k (seats ++ (seatOfLine l ∷ [])) (n + 1) after .end ≡ allRead next
+          → length (decodeFrom read k (seats ++ (seatOfLine l ∷ [])) (n + 1) after .lines) ≡ k)
           → left x .end ≡ allRead next → length (left x .lines) ≡ suc k
       go (got l after) ih q = ap suc (ih l after q)
       go (fails r) ih q = let z : _≡_ {A = ℕ} 0 1 = cc in absurd (omega arith)
@@ -48,14 +48,14 @@ unfolding linesIn
 lines-count u f at next q = decoded-count _ (u .nnodes) [] 1 at next q
 
 -- What an answer that the nodes are read stands for: all lines could be read and were made, and the file ends well.
-pub record AllIn (f : List ℕ) (e : End) (x : Read (List ℤ)) (next : ℕ) : Type 0 where
+pub record AllIn (f : List ℕ) (e : DecodeEnd) (x : Read (List ℤ)) (next : ℕ) : Type 0 where
   pub edges : List ℤ
   pub made : x ≡ value edges
   pub lines : e ≡ allRead next
   pub end : endsWell f next ≡ true
 
 -- the answer of lines that end so, by the end of the file
-ended-all : (u : Setup) (f : List ℕ) (edges : List ℤ) (e : End) (next : ℕ) → withEnd f (ended u e) ≡ nodes next
+ended-all : (u : Setup) (f : List ℕ) (edges : List ℤ) (e : DecodeEnd) (next : ℕ) → withEnd f (endedLines u e) ≡ nodes next
     → AllIn f e (value edges) next
 ended-all u f edges (stopped k n) next q = let z : _≡_ {A = ℕ} 0 1 = cc in absurd (omega arith)
 ended-all u f edges (allRead at) next q = go (endsWell f at) refl q
@@ -66,20 +66,20 @@ ended-all u f edges (allRead at) next q = go (endsWell f at) refl q
         record { edges = edges; made = refl; lines = ap allRead y; end = subst (λ (n : ℕ). endsWell f n ≡ true) y w }
     go false w p = let z : _≡_ {A = ℕ} 0 1 = cc in absurd (omega arith)
 
-pub answer-all : (u : Setup) (f : List ℕ) (e : End) (x : Read (List ℤ)) (next : ℕ) → withEnd f (answerBy u e x) ≡ nodes next
+pub answer-all : (u : Setup) (f : List ℕ) (e : DecodeEnd) (x : Read (List ℤ)) (next : ℕ) → withEnd f (answerBy u e x) ≡ nodes next
     → AllIn f e x next
 answer-all u f e (value edges) next q = ended-all u f edges e next q
 answer-all u f e (refused k) next q = let z : _≡_ {A = ℕ} 0 1 = cc in absurd (omega arith)
 
 -- and the other way
-pub all-answer : (u : Setup) (f : List ℕ) (e : End) (x : Read (List ℤ)) (next : ℕ) → AllIn f e x next
+pub all-answer : (u : Setup) (f : List ℕ) (e : DecodeEnd) (x : Read (List ℤ)) (next : ℕ) → AllIn f e x next
     → withEnd f (answerBy u e x) ≡ nodes next
 all-answer u f e x next A =
-    ap (λ y. withEnd f (answerBy u e y)) (A .made) ∙ ap (λ y. withEnd f (ended u y)) (A .lines)
+    ap (λ y. withEnd f (answerBy u e y)) (A .made) ∙ ap (λ y. withEnd f (endedLines u y)) (A .lines)
     ∙ ap (λ b. cond b (nodes next) (refusal 39 0)) (A .end)
 
 -- nodes that are read end at a position
-read-position : (a : Answer) → isRead a ≡ true → (next : ℕ) × (a ≡ nodes next)
+read-position : (a : NodesAnswer) → isRead a ≡ true → (next : ℕ) × (a ≡ nodes next)
 read-position (nodes at) q = (at, refl)
 read-position (refusal k line) q = let z : _≡_ {A = ℕ} 0 1 = cc in absurd (omega arith)
 
@@ -111,7 +111,7 @@ module _ (u : Setup) (σ : Store) (f : List ℕ) (at : ℕ) (R : Rules limits σ
   lines-built = build-gives limits (u .list) σ (linesIn u f at .lines) R W (lines-judged u f at)
 
   -- each entry of the edges of all lines is an edge
-  built-edges : (edges : List ℤ) → builtFrom u σ f at .answer ≡ value edges → Edges edges
+  built-edges : (edges : List ℤ) → builtFrom u σ f at .answer ≡ value edges → AllEdges edges
   unfolding edgeFor
   built-edges edges q i = go (decLt i (length edges))
     where
@@ -128,17 +128,17 @@ module _ (u : Setup) (σ : Store) (f : List ℕ) (at : ℕ) (R : Rules limits σ
 
   -- where the nodes are read, the front of the scratch is the edges of all lines
   read-front : (l : List ℤ) → Laid (builtFrom u σ f at .answer) l → isRead (withEnd f (linesAnswer u σ f at)) ≡ true
-      → (take (u .nnodes) l ≡ edgesOf (builtFrom u σ f at .answer)) × Edges (take (u .nnodes) l)
+      → (take (u .nnodes) l ≡ edgesOf (builtFrom u σ f at .answer)) × AllEdges (take (u .nnodes) l)
   unfolding linesAnswer
   read-front l h q =
       let p = read-position (withEnd f (linesAnswer u σ f at)) q in
       let A = answer-all u f (linesIn u f at .end) (builtFrom u σ f at .answer) (p .0) (p .1) in
       let k = lines-built .roots (A .edges) (A .made) .lines ∙ lines-count u f at (p .0) (A .lines) in
       let t = laid-front (builtFrom u σ f at .answer) (A .edges) l (u .nnodes) (A .made) k h in
-      (t, subst Edges (sym (t ∙ ap edgesOf (A .made))) (built-edges (A .edges) (A .made)))
+      (t, subst AllEdges (sym (t ∙ ap edgesOf (A .made))) (built-edges (A .edges) (A .made)))
 
   -- what the roots lean on
-  pub front-edges : (l : List ℤ) (ok : Bool) {read answer : Answer}
+  pub front-edges : (l : List ℤ) (ok : Bool) {read answer : NodesAnswer}
       → read ≡ linesAnswer u σ f at → answer ≡ withEnd f read → ok ≡ isRead answer
       → Laid (builtFrom u σ f at .answer) l → EdgesIf ok (take (u .nnodes) l)
   front-edges l true e1 e2 e3 h = read-front l h (sym (e3 ∙ ap isRead (e2 ∙ ap (withEnd f) e1))) .1
@@ -168,7 +168,7 @@ module _ (u : Setup) (σ : Store) (f : List ℕ) (at : ℕ) (R : Rules limits σ
       (S, (omega (arith, R .sizes .count-some, q), omega (arith, q, lines-built .grows .count, ap (λ (s : Store). s .count) e)))
 
   -- All that is left: the answer, the store, the roots, and the scratch, which ends as zeros.
-  pub import-leaves : (ids l : List ℤ) {read answer : Answer} {ok : Bool} {to : ℕ} {τ υ : Store} {roots cleared : List ℤ}
+  pub import-leaves : (ids l : List ℤ) {read answer : NodesAnswer} {ok : Bool} {to : ℕ} {τ υ : Store} {roots cleared : List ℤ}
       {seats : List ℕ} {n m k : ℕ}
       → read ≡ linesAnswer u σ f at → τ ≡ builtFrom u σ f at .after → Laid (builtFrom u σ f at .answer) l
       → answer ≡ withEnd f read → ok ≡ isRead answer → roots ≡ rootsBy ok (take (u .nnodes) l) ids

@@ -18,7 +18,7 @@ use Rattle.imported.specs.Build.{countNeeded}
 use Rattle.imported.specs.Import.{Setup, linesIn, endsWell, Imported}
 
 -- the nodes that the lines need have a slot each, and are no more than 32,767
-pub record Room (levels : List ℕ) (σ : Store) (ls : List Line) : Type 0 where
+pub record StoreRoom (levels : List ℕ) (σ : Store) (ls : List Line) : Type 0 where
   pub slots : countNeeded levels σ ls ≤ length (σ .level)
   pub limit : countNeeded levels σ ls ≤ nodeLimit
 
@@ -27,11 +27,11 @@ abbrev pub Crowded : List ℕ → Store → List Line → Type 0
 Crowded levels σ ls = (length (σ .level) < countNeeded levels σ ls) ⊎ (nodeLimit < countNeeded levels σ ls)
 
 -- All lines can be read, up to a position, the file ends well there, and the store has room.
-pub record Accepts (u : Setup) (σ : Store) (f : List ℕ) (at : ℕ) : Type 0 where
+pub record NodesAccepted (u : Setup) (σ : Store) (f : List ℕ) (at : ℕ) : Type 0 where
   pub next : ℕ
   pub lines : linesIn u f at .end ≡ allRead next
   pub end : endsWell f next ≡ true
-  pub room : Room (u .list) σ (linesIn u f at .lines)
+  pub room : StoreRoom (u .list) σ (linesIn u f at .lines)
 
 -- A root of the file by its edge a: it is an edge of the store, and answers what the file's own lines say.
 pub record RootSays (levels : List ℕ) (ls : List Line) (τ : Store) (c a : ℤ) : Type 0 where
@@ -39,7 +39,7 @@ pub record RootSays (levels : List ℕ) (ls : List Line) (τ : Store) (c a : ℤ
   pub agrees : (s : Setting) → answer τ s a ≡ says levels ls s c
 
 -- What accepted nodes leave: a store that keeps the rules and has only grown, by the nodes that the lines need; and each root.
-pub record Leaves (u : Setup) (σ : Store) (f : List ℕ) (at : ℕ) (ids : List ℤ) (r : Imported) : Type 0 where
+pub record NodesLeft (u : Setup) (σ : Store) (f : List ℕ) (at : ℕ) (ids : List ℤ) (r : Imported) : Type 0 where
   pub rules : Rules limits (r .after)
   pub grows : Grows σ (r .after)
   pub slots : length (r .after .level) ≡ length (σ .level)

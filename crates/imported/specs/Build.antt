@@ -10,20 +10,20 @@ use Rattle.codes.specs.Answer.{Read, value, refused}
 use Rattle.store.specs.Store.{Store}
 use Rattle.store.specs.Rules.{Limits}
 use Rattle.store.specs.Make.{Made, made, make}
-use Rattle.node_lines.specs.Line.{Line, terminal, inner, seatOf, deeper}
+use Rattle.node_lines.specs.Line.{Line, terminal, inner, seatOfLine, deeper}
 
 -- 'turned over under a minus'
-abbrev pub turned : ℤ → ℤ → ℤ
-turned (pos n) e = e
-turned (negsuc n) e = negℤ e
+abbrev pub turnedOver : ℤ → ℤ → ℤ
+turnedOver (pos n) e = e
+turnedOver (negsuc n) e = negℤ e
 
 -- the edge of a root or child, by the edges of the lines, which count from 1
 unfoldable pub edgeFor : List ℤ → ℤ → ℤ
-edgeFor edges c = turned c (getD edges (natAbs c - 1) (pos 1))
+edgeFor edges c = turnedOver c (getD edges (natAbs c - 1) (pos 1))
 
 -- each is an edge
-abbrev pub Edges : List ℤ → Type 0
-Edges edges = (i : ℕ) → natAbs (getD edges i (pos 1)) < 2 ^ 15
+abbrev pub AllEdges : List ℤ → Type 0
+AllEdges edges = (i : ℕ) → natAbs (getD edges i (pos 1)) < 2 ^ 15
 
 -- One line made into the store, after lines of these edges: a terminal line is node 1.
 unfoldable pub addLine : Limits → List ℕ → Store → List ℤ → Line → Made
@@ -54,15 +54,15 @@ abbrev pub LevelsOf : Store → List ℕ → Type 0
 LevelsOf σ levels = (p : ℕ) → p < length levels → getD levels p 0 < σ .levels
 
 -- what a line's checks leave: a support position, and children below the line that lie deeper than it
-pub record Child (levels seats : List ℕ) (n l : ℕ) (c : ℤ) : Type 0 where
+pub record ChildBelow (levels seats : List ℕ) (n l : ℕ) (c : ℤ) : Type 0 where
   pub some : 1 ≤ natAbs c
   pub below : natAbs c < n
   pub deep : deeper levels seats l (natAbs c) ≡ true
 
 pub record Inner (levels seats : List ℕ) (n p : ℕ) (t e : ℤ) : Type 0 where
   pub position : p < length levels
-  pub then : Child levels seats n (getD levels p 0) t
-  pub els : Child levels seats n (getD levels p 0) e
+  pub then : ChildBelow levels seats n (getD levels p 0) t
+  pub els : ChildBelow levels seats n (getD levels p 0) e
 
 abbrev pub Judged : List ℕ → List ℕ → ℕ → Line → Type 0
 Judged levels seats n terminal = Unit
@@ -71,7 +71,7 @@ Judged levels seats n (inner p t e) = Inner levels seats n p t e
 -- each line is so, by the seats of the lines before it
 pub data AllJudged (levels : List ℕ) : List ℕ → List Line → Type 0 where
   none : {seats : List ℕ} → AllJudged levels seats []
-  one : {seats : List ℕ} {l : Line} {ls : List Line} → Judged levels seats (length seats + 1) l → AllJudged levels (seats ++ (seatOf l ∷ [])) ls
+  one : {seats : List ℕ} {l : Line} {ls : List Line} → Judged levels seats (length seats + 1) l → AllJudged levels (seats ++ (seatOfLine l ∷ [])) ls
       → AllJudged levels seats (l ∷ ls)
 
 -- a store with k slots more: what making lines with no limit needs

@@ -13,10 +13,10 @@ use Rattle.read_text.specs.Alike.{alike}
 use Rattle.store.specs.Store.{Store}
 use Rattle.store.specs.Rules.{limits}
 use Rattle.node_lines.specs.Line.{Line}
-use Rattle.node_lines.specs.Decode.{NodeLines, End, allRead, stopped, decodeFrom}
+use Rattle.node_lines.specs.Decode.{NodeLines, DecodeEnd, allRead, stopped, decodeFrom}
 use Rattle.import_ascii.specs.Text.{textLineAt}
 use Rattle.import_bin.specs.Bin.{binLineAt}
-use Rattle.imported.specs.Build.{edgeFor, Edges, Built, build}
+use Rattle.imported.specs.Build.{edgeFor, AllEdges, Built, build}
 
 -- what the nodes of a file are read by, beside its bytes: mode A or not; whether lines have an extra word; how many lines there are; how
 -- many lines the header has; the level list; the store's level count
@@ -50,28 +50,28 @@ unfoldable pub linesIn : Setup → List ℕ → ℕ → NodeLines
 linesIn u f at = decodeFrom (lineAt u f) (u .nnodes) [] 1 at
 
 -- the nodes are read, up to a position; or a refusal and its line
-pub data Answer : Type 0 where
-  nodes : ℕ → Answer
-  refusal : ℕ → ℕ → Answer
+pub data NodesAnswer : Type 0 where
+  nodes : ℕ → NodesAnswer
+  refusal : ℕ → ℕ → NodesAnswer
 
 -- 'ASCII node lines carry theirs, but for 30 and 40', and binary ones have line 0
 abbrev pub lineFor : Bool → ℕ → ℕ → ℕ
 lineFor ascii line k = cond (ascii && not (eqb k 30)) line 0
 
-abbrev pub ended : Setup → End → Answer
-ended u (allRead at) = nodes at
-ended u (stopped k n) = refusal k (lineFor (u .ascii) (u .lines + n) k)
+abbrev pub endedLines : Setup → DecodeEnd → NodesAnswer
+endedLines u (allRead at) = nodes at
+endedLines u (stopped k n) = refusal k (lineFor (u .ascii) (u .lines + n) k)
 
 -- A line that finds no room comes before any later line's own fault: '40°'.
-abbrev pub answerBy : Setup → End → Read (List ℤ) → Answer
-answerBy u e (value edges) = ended u e
+abbrev pub answerBy : Setup → DecodeEnd → Read (List ℤ) → NodesAnswer
+answerBy u e (value edges) = endedLines u e
 answerBy u e (refused k) = refusal k 0
 
 -- the lines made into the store
 abbrev pub builtFrom : Setup → Store → List ℕ → ℕ → Built
 builtFrom u σ f at = build limits (u .list) σ (linesIn u f at .lines)
 
-unfoldable pub linesAnswer : Setup → Store → List ℕ → ℕ → Answer
+unfoldable pub linesAnswer : Setup → Store → List ℕ → ℕ → NodesAnswer
 linesAnswer u σ f at = answerBy u (linesIn u f at .end) (builtFrom u σ f at .answer)
 
 -- 'After `.end` only space, tab, LF, FF, CR, else 39'
@@ -86,7 +86,7 @@ unfoldable pub endsWell : List ℕ → ℕ → Bool
 endsWell f at = alike (take 4 (drop at f)) endWord && blankAll (drop (at + 4) f)
 
 -- '39° no `.end`', after the last line
-abbrev pub withEnd : List ℕ → Answer → Answer
+abbrev pub withEnd : List ℕ → NodesAnswer → NodesAnswer
 withEnd f (nodes at) = cond (endsWell f at) (nodes at) (refusal 39 0)
 withEnd f (refusal k line) = refusal k line
 
@@ -100,7 +100,7 @@ abbrev pub rootEdge : List ℤ → ℤ → ℤ
 rootEdge edges r = cond (eqb (natAbs r) 0) (pos 0) (edgeFor edges r)
 
 -- are the nodes read?
-abbrev pub isRead : Answer → Bool
+abbrev pub isRead : NodesAnswer → Bool
 isRead (nodes at) = true
 isRead (refusal k line) = false
 
@@ -112,11 +112,11 @@ rootsBy false edges ids = map (λ r. pos 0) ids
 -- What the nodes leave: the answer, the store, and the roots in place of their numbers. 'On any refusal outputs are all zeros and the
 -- store is unchanged.'
 pub record Imported : Type 0 where
-  pub answer : Answer
+  pub answer : NodesAnswer
   pub after : Store
   pub roots : List ℤ
 
-abbrev pub importedBy : List ℤ → Store → Built → Answer → Imported
+abbrev pub importedBy : List ℤ → Store → Built → NodesAnswer → Imported
 importedBy ids σ b a = record { answer = a; after = cond (isRead a) (b .after) σ; roots = rootsBy (isRead a) (edgesOf (b .answer)) ids }
 
 unfoldable pub importOf : Setup → Store → List ℕ → ℕ → List ℤ → Imported
@@ -129,7 +129,7 @@ Laid (refused k) l = Unit
 
 -- where the nodes are read each entry is an edge
 abbrev pub EdgesIf : Bool → List ℤ → Type 0
-EdgesIf true edges = Edges edges
+EdgesIf true edges = AllEdges edges
 EdgesIf false edges = Unit
 
 -- what the calls lean on: limits that were judged before

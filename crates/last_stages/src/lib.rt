@@ -8,7 +8,7 @@ ghost use Rattle.store.specs.Lent.{storeNow};
 ghost use Rattle.header_values.specs.Kinds.{ofVarInfo};
 ghost use Rattle.header.specs.Kinds.{ofHeader, ofLoaded};
 ghost use Rattle.import_steps.specs.Kinds.{ofImported};
-ghost use Rattle.stages.specs.Stages.{Readable, withNodes, isRefusal, clearedIf};
+ghost use Rattle.stages.specs.Stages.{Readable, answerWithNodes, isRefusal, clearedIf};
 ghost use Rattle.last_stages.specs.Promises.{LoadNodesPromise, FinishPromise};
 use codes::VarInfo;
 use edges::Edge;
@@ -33,7 +33,7 @@ fn has_extra(v: VarInfo) -> bool
 
 // The header, where its nodes are read.
 fn with_nodes(h: DumpHeader, nodes: Imported) -> Loaded
-    ensures { λ r. ⌜ ofLoaded r ≡ withNodes (ofHeader h) (ofImported nodes) ⌝ }
+    ensures { λ r. ⌜ ofLoaded r ≡ answerWithNodes (ofHeader h) (ofImported nodes) ⌝ }
 {
     match nodes {
         Imported::Nodes(_) => Loaded::Header(h),

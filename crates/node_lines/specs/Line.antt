@@ -12,9 +12,9 @@ pub data Line : Type 0 where
   inner : ℕ → ℤ → ℤ → Line
 
 -- the seat of a line: its support position, counted from 1, and 0 of a terminal line
-abbrev pub seatOf : Line → ℕ
-seatOf terminal = 0
-seatOf (inner p t e) = suc p
+abbrev pub seatOfLine : Line → ℕ
+seatOfLine terminal = 0
+seatOfLine (inner p t e) = suc p
 
 -- 'The level of a line is that of its own variable': whether a line of this seat lies deeper than a level. A terminal is 'deeper than
 -- every level'.

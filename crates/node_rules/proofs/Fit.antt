@@ -12,7 +12,7 @@ use Rattle.edges.proofs.Edge.{plain-is, eqZ-false}
 use Rattle.store.specs.Store.{Store, levelAt}
 use Rattle.store.specs.Rules.{depth, Fits}
 use Rattle.store.specs.Keeps.{Decides}
-use Rattle.node_rules.specs.Check.{Child}
+use Rattle.node_rules.specs.Check.{ChildFits}
 
 -- how deep a node lies
 pub depth-top : (σ : Store) (n : ℕ) → n ≡ 1 → σ .levels ≡ depth σ n
@@ -46,7 +46,7 @@ module _ (σ τ : Store) (p : σ .levels ≡ τ .levels) (q : σ .level ≡ τ .
 -- the test of a child
 module _ (σ : Store) (n l : ℕ) (e : ℤ) where
   -- A number m that is the child's, and how deep that lies.
-  pub child-deep : (m d : ℕ) → m ≡ natAbs e → 1 ≤ m → m < n → d ≡ depth σ m → Decides (ltb l d) (Child σ n l e)
+  pub child-deep : (m d : ℕ) → m ≡ natAbs e → 1 ≤ m → m < n → d ≡ depth σ m → Decides (ltb l d) (ChildFits σ n l e)
   child-deep m d q h k x = record {
     yes = λ y. record { some = omega arith; low = omega arith; deep = rw q at (rw x at (ltb-true l d y)) };
     no = λ y w. let z = w .deep in let u = ltb-false l d y in let v : d ≡ depth σ (natAbs e) = x ∙ ap (depth σ) q in omega arith;
@@ -62,14 +62,14 @@ module _ (σ : Store) (n l : ℕ) (t e : ℤ) where
       go (pos k) h p = true≢false (sym h)
       go (negsuc k) h p = let z : _≡_ {A = ℕ} 0 1 = cc in omega arith
 
-  pub fits-then : Fits σ n l t e → Child σ n l t
+  pub fits-then : Fits σ n l t e → ChildFits σ n l t
   fits-then F = record { some = F .then-some; low = F .then-low; deep = F .then-deep }
 
-  pub fits-else : Fits σ n l t e → Child σ n l e
+  pub fits-else : Fits σ n l t e → ChildFits σ n l e
   fits-else F = record { some = F .else-some; low = F .else-low; deep = F .else-deep }
 
   -- where all else holds, the test of the else child decides
-  pub fits-last : l < σ .levels → minus t ≡ false → eqZ t e ≡ false → Child σ n l t → {r : Bool} → Decides r (Child σ n l e) → Decides r (Fits σ n l t e)
+  pub fits-last : l < σ .levels → minus t ≡ false → eqZ t e ≡ false → ChildFits σ n l t → {r : Bool} → Decides r (ChildFits σ n l e) → Decides r (Fits σ n l t e)
   fits-last k h x c d = record {
     yes = λ q. let w = d .yes q in record {
       positive = plain-is t h;

@@ -5,7 +5,7 @@ use Rattle.store.specs.Store.{Store, levelAt, thenAt, elseAt}
 use Rattle.store.specs.Rules.{depth, Fits}
 
 -- an edge that may be a child of node n at level l: 'children are lower numbers, never 0, at deeper levels'
-pub record Child (σ : Store) (n l : ℕ) (e : ℤ) : Type 0 where
+pub record ChildFits (σ : Store) (n l : ℕ) (e : ℤ) : Type 0 where
   pub some : 1 ≤ natAbs e
   pub low : natAbs e < n
   pub deep : l < depth σ (natAbs e)

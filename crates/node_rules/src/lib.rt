@@ -6,7 +6,7 @@ ghost use Rattle.store.specs.Lent.{oldStore};
 ghost use Rattle.store.specs.Store.{store, slots};
 ghost use Rattle.store.specs.Rules.{limits, Sizes, Fits};
 ghost use Rattle.store.specs.Keeps.{Decides};
-ghost use Rattle.node_rules.specs.Check.{Child, AllFit};
+ghost use Rattle.node_rules.specs.Check.{ChildFits, AllFit};
 use codes::limits;
 use edges::Edge;
 use edges::Index;
@@ -58,7 +58,7 @@ pub fn sizes_kept(
 // May node n at level l have this child?
 pub fn child_fits(levels: u16, level: &[u16], n: Index, l: u16, e: Edge) -> bool
     requires { ⌜ n ≤ length (now level) ⌝ }
-    ensures { λ r. ⌜ Decides r (Child (store levels 0 (now (level .entry)) [] [] [] []) n l e) ⌝ }
+    ensures { λ r. ⌜ Decides r (ChildFits (store levels 0 (now (level .entry)) [] [] [] []) n l e) ⌝ }
 {
     let m = edges::magnitude(e);
     if m == 0 {

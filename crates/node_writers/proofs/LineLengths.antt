@@ -13,7 +13,7 @@ use Rattle.codes.specs.Limits.{varLimit, nodeLimit}
 use Rattle.codes.specs.declared.Code.{Code}
 use Rattle.codes.specs.declared.Code.the-variants.{Terminal, AbsoluteID, RelativeID, Relative1}
 use Rattle.edges.specs.Edge.{minus}
-use Rattle.node_lines.specs.Line.{Line, terminal, inner, seatOf}
+use Rattle.node_lines.specs.Line.{Line, terminal, inner, seatOfLine}
 use Rattle.writers.proofs.Decimal.{decimal-short, edge-short}
 use Rattle.writers.proofs.Escaped.{escaped-short}
 use Rattle.writers.proofs.SevenBit.{seven-bit-short}
@@ -94,15 +94,15 @@ encode-short write n (l ∷ ls) h =
 pub nodes-short : (ascii : Bool) (ls : List Line) → length ls ≤ nodeLimit → ((i : ℕ) → i < length ls → Small (getD ls i terminal))
     → length (nodeBytes ascii ls) ≤ 32 * length ls
 unfolding nodeBytes
-nodes-short ascii ls few small = encode-short (lineBytes ascii (map seatOf ls)) 1 ls (λ i h. line-short ascii (map seatOf ls) (1 + i) (getD ls i terminal) low (omega arith) (small i h))
+nodes-short ascii ls few small = encode-short (lineBytes ascii (map seatOfLine ls)) 1 ls (λ i h. line-short ascii (map seatOfLine ls) (1 + i) (getD ls i terminal) low (omega arith) (small i h))
   where
-    seat-low : (l : Line) → Small l → seatOf l ≤ varLimit
+    seat-low : (l : Line) → Small l → seatOfLine l ≤ varLimit
     seat-low terminal s = omega arith
     seat-low (inner p t e) s = omega arith
 
-    low : (i : ℕ) → getD (map seatOf ls) i 0 ≤ varLimit
-    low i = rw (List·getD-map seatOf ls i terminal) (go (decLt i (length ls)))
+    low : (i : ℕ) → getD (map seatOfLine ls) i 0 ≤ varLimit
+    low i = rw (List·getD-map seatOfLine ls i terminal) (go (decLt i (length ls)))
       where
-        go : Dec (i < length ls) → seatOf (getD ls i terminal) ≤ varLimit
+        go : Dec (i < length ls) → seatOfLine (getD ls i terminal) ≤ varLimit
         go (yes h) = seat-low (getD ls i terminal) (small i h)
         go (no f) = let e = List·getD-eq-default ls terminal {n = i} (omega (arith, f)) in rw e (omega arith)

@@ -9,7 +9,7 @@ use Rattle.codes.specs.Texts.{bytes}
 use Rattle.codes.specs.declared.Code.{Code}
 use Rattle.codes.specs.declared.Code.the-variants.{Terminal, AbsoluteID, RelativeID, Relative1}
 use Rattle.edges.specs.Edge.{minus}
-use Rattle.node_lines.specs.Line.{Line, terminal, inner, seatOf}
+use Rattle.node_lines.specs.Line.{Line, terminal, inner, seatOfLine}
 use Rattle.writers.specs.Decimal.{decimal, edgeText}
 use Rattle.writers.specs.Words.{spaced}
 use Rattle.writers.specs.Binary.{escaped, sevenBit}
@@ -81,7 +81,7 @@ lineBytes false seats n l = binBytes seats n l
 
 -- all node lines of a file
 unfoldable pub nodeBytes : Bool → List Line → List ℕ
-nodeBytes ascii ls = encodeFrom (lineBytes ascii (map seatOf ls)) 1 ls
+nodeBytes ascii ls = encodeFrom (lineBytes ascii (map seatOfLine ls)) 1 ls
 
 -- what follows the nodes
 abbrev pub endText : List ℕ

@@ -16,13 +16,13 @@ use Rattle.store.specs.Keeps.{Decides}
 use Rattle.unique_table.specs.Index.{Indexed, Sought, AllAlone}
 use Rattle.unique_table.proofs.More.{indexed-same, indexed-more}
 use Rattle.unique_table.proofs.Seeking.{sought-find}
-use Rattle.nodes.specs.Known.{Known}
+use Rattle.nodes.specs.Known.{KnownNodes}
 
 -- the index looks at three lists only
-pub known-bare : (width : ℕ) (σ : Store) (ix : List ℕ) → Known width σ ix → Indexed width (slots (σ .level) (σ .then) (σ .els)) (σ .count) ix
+pub known-bare : (width : ℕ) (σ : Store) (ix : List ℕ) → KnownNodes width σ ix → Indexed width (slots (σ .level) (σ .then) (σ .els)) (σ .count) ix
 known-bare width σ ix K = indexed-same width σ _ (σ .count) ix (K .indexed) (record { level = λ n p h. refl; then = λ n p h. refl; els = λ n p h. refl })
 
-module _ (width : ℕ) (σ : Store) (ix : List ℕ) (K : Known width σ ix) (R : Rules limits σ) (l : ℕ) (t e : ℤ) (at : ℕ)
+module _ (width : ℕ) (σ : Store) (ix : List ℕ) (K : KnownNodes width σ ix) (R : Rules limits σ) (l : ℕ) (t e : ℤ) (at : ℕ)
     (s : Sought width (slots (σ .level) (σ .then) (σ .els)) (σ .count) ix l t e at) where
   -- a search gives what the definition's search gives
   pub known-find : getD ix at 0 ≡ find σ l t e
@@ -30,7 +30,7 @@ module _ (width : ℕ) (σ : Store) (ix : List ℕ) (K : Known width σ ix) (R :
 
   -- a node that is made is put where its search ended
   pub known-more : getD ix at 0 ≡ 0 → σ .count < length (σ .level) → σ .count < nodeLimit → (τ : Store) → τ ≡ added σ l t e
-      → Known width τ (set ix at (σ .count + 1))
+      → KnownNodes width τ (set ix at (σ .count + 1))
   unfolding added
   known-more z h k τ y =
       let A = added-agree limits σ l t e (R .sizes) h in
@@ -45,7 +45,7 @@ module _ (width : ℕ) (σ : Store) (ix : List ℕ) (K : Known width σ ix) (R :
 -- no two nodes of a store are alike, so the index that is made of them knows each
 pub known-start : (width : ℕ) (σ : Store) (ix : List ℕ) → Rules limits σ → (r : Bool) → Decides r (AllAlone (slots (σ .level) (σ .then) (σ .els)) (σ .count))
     → (r ≡ true → Indexed width (slots (σ .level) (σ .then) (σ .els)) (σ .count) ix)
-    → ((n : ℕ) → n ≤ length (σ .level) → n ≤ nodeLimit → width + 2 * n + 2 ≤ length ix) → Known width σ ix
+    → ((n : ℕ) → n ≤ length (σ .level) → n ≤ nodeLimit → width + 2 * n + 2 ≤ length ix) → KnownNodes width σ ix
 known-start width σ ix R true D I room = record {
   indexed = indexed-same width _ σ (σ .count) ix (I refl) (record { level = λ n p h. refl; then = λ n p h. refl; els = λ n p h. refl });
   room = room;

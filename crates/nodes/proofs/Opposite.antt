@@ -16,7 +16,7 @@ use Rattle.nodes.specs.declared.Making.the-variants as making
 use Rattle.nodes.specs.Kinds.{ofMaking, Turns}
 use Rattle.store.specs.Store.{Store}
 use Rattle.store.specs.Rules.{Limits, Sizes, limits}
-use Rattle.store.specs.Make.{roomFor, find, added, placed, insert, negated, turned, make, made, full}
+use Rattle.store.specs.Make.{roomFor, find, added, placedNode, insert, negated, turned, make, made, full}
 use Rattle.slots.proofs.Placed.{found-edge, new-edge}
 
 -- an edge, or its opposite under a minus
@@ -70,7 +70,7 @@ insert-turnable σ l t e z = go (find σ l t e) refl
     new true p = new-edge σ true p refl
     new false p = tt
 
-    go : (n : ℕ) → n ≡ find σ l t e → Turnable (placed limits σ l t e n .answer)
+    go : (n : ℕ) → n ≡ find σ l t e → Turnable (placedNode limits σ l t e n .answer)
     go zero q = new (roomFor limits σ) refl
     go (suc n) q = found-edge σ l t e (suc n) z q (λ f. omega arith)
 

@@ -7,6 +7,6 @@ use Rattle.store.specs.Store.{Store}
 use Rattle.unique_table.specs.Index.{Indexed}
 
 -- It knows every node, and has entries for all that may come.
-pub record Known (width : ℕ) (σ : Store) (ix : List ℕ) : Type 0 where
+pub record KnownNodes (width : ℕ) (σ : Store) (ix : List ℕ) : Type 0 where
   pub indexed : Indexed width σ (σ .count) ix
   pub room : (n : ℕ) → n ≤ length (σ .level) → n ≤ nodeLimit → width + 2 * n + 2 ≤ length ix

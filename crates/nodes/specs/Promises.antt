@@ -11,7 +11,7 @@ use Rattle.store.specs.Lent.{storeNow, oldStore, newStore}
 use Rattle.store.specs.Make as nodes
 use Rattle.nodes.specs.declared.Making.{Making}
 use Rattle.nodes.specs.Kinds.{ofMaking}
-use Rattle.nodes.specs.Known.{Known}
+use Rattle.nodes.specs.Known.{KnownNodes}
 
 module _ (levels : ℕ) (count : RefT ℕ) (level : RefT (List ℕ)) (then els : RefT (List ℤ)) (next heads : RefT (List ℕ)) where
   abbrev σ : Store
@@ -21,7 +21,7 @@ module _ (levels : ℕ) (count : RefT ℕ) (level : RefT (List ℕ)) (then els :
   pub record MakeAsks (index : RefT (List ℕ)) (width l : ℕ) (t e : ℤ) : Type 0 where
     pub rules : Rules limits σ
     pub children : nodes.Makes σ l t e
-    pub known : Known width σ (now index)
+    pub known : KnownNodes width σ (now index)
 
   -- a store that keeps its rules, and one of its nodes
   pub record TakeBackAsks (to : ℕ) : Type 0 where
@@ -41,13 +41,13 @@ module _ (levels : ℕ) (count : Part ℕ) (level : Part (List ℕ)) (then els :
   pub record InsertPromise (index : Part (List ℕ)) (width l : ℕ) (t e : ℤ) (r : Making) : Type 0 where
     pub answer : ofMaking r ≡ nodes.insert limits before l t e .answer
     pub store : after ≡ nodes.insert limits before l t e .after
-    pub known : Known width after (new index)
+    pub known : KnownNodes width after (new index)
 
   -- 'Equal children give that child; a minus on then moves to both the else and the result.'
   pub record MakePromise (index : Part (List ℕ)) (width l : ℕ) (t e : ℤ) (r : Making) : Type 0 where
     pub answer : ofMaking r ≡ nodes.make limits before l t e .answer
     pub store : after ≡ nodes.make limits before l t e .after
-    pub known : Known width after (new index)
+    pub known : KnownNodes width after (new index)
 
   -- the nodes above number `to` are taken back, newest first
   pub record TakeBackPromise (to : ℕ) : Type 0 where

@@ -8,7 +8,7 @@ ghost use Rattle.edges.specs.Edge.{IsEdge};
 ghost use Rattle.store.specs.Lent.{storeNow};
 ghost use Rattle.store.specs.Rules.{Rules, limits};
 ghost use Rattle.nodes.specs.Kinds.{ofMaking, Turns};
-ghost use Rattle.nodes.specs.Known.{Known};
+ghost use Rattle.nodes.specs.Known.{KnownNodes};
 ghost use Rattle.nodes.specs.Promises.{InsertPromise, MakeAsks, MakePromise, TakeBackAsks, TakeBackPromise};
 ghost use Rattle.store.specs.Make as nodes;
 use edges::Edge;
@@ -36,7 +36,7 @@ fn insert(
     e: Edge,
 ) -> Making
     requires { ⌜ Rules limits (storeNow levels (now count) level then els next heads) ⌝ }
-    requires { ⌜ Known width (storeNow levels (now count) level then els next heads) (now index) ⌝ }
+    requires { ⌜ KnownNodes width (storeNow levels (now count) level then els next heads) (now index) ⌝ }
     ensures { λ r. ⌜ InsertPromise levels count level then els next heads index width l t e r ⌝ }
 {
     let c = *count;

@@ -11,7 +11,7 @@ use lib.IntN.{natAbs}
 use Rattle.codes.specs.Lent.{laid}
 use Rattle.codes.proofs.Lent.{length-laid, laid-more}
 use Rattle.store.specs.Store.{Store, thenAt, elseAt}
-use Rattle.reached.specs.Walk.{isIn, meet, Descends, Below, Seen, Meets, Listed}
+use Rattle.reached.specs.Walk.{isIn, meet, Descends, Below, Seen, Meets, ListedNodes}
 use Rattle.reached.proofs.Members.{Among, each-none, each-cons, each-more, once-more}
 use Rattle.reached.proofs.Few.{few}
 use Rattle.reached.proofs.Marks.{marks-in, marks-out, marks-more}
@@ -19,13 +19,13 @@ use Rattle.reached.proofs.Laid.{take-laid, laid-front, laid-over}
 use Rattle.reached.proofs.Run.{Run, end, run-once, run-among, meet-run, meet-longer, meet-old, meet-last, meet-inner}
 
 -- nodes that are listed after others, over which they lie
-pub listed-over : {nodes more old met met' marks marks' : List ℕ} {r r' : ℕ} → Listed nodes old r met marks → length nodes ≤ length more
-    → Listed more met r' met' marks' → Listed more old r' met' marks'
+pub listed-over : {nodes more old met met' marks marks' : List ℕ} {r r' : ℕ} → ListedNodes nodes old r met marks → length nodes ≤ length more
+    → ListedNodes more met r' met' marks' → ListedNodes more old r' met' marks'
 listed-over {nodes} {more} {old} a h b =
     record { many = b .many; lies = b .lies ∙ ap (laid more) (a .lies) ∙ laid-over nodes more old h; marked = b .marked }
 
 -- they are the list's front, where there is room for them
-pub listed-front : {nodes old met marks : List ℕ} {r : ℕ} → Listed nodes old r met marks → length nodes ≤ length old → take r met ≡ nodes
+pub listed-front : {nodes old met marks : List ℕ} {r : ℕ} → ListedNodes nodes old r met marks → length nodes ≤ length old → take r met ≡ nodes
 listed-front {nodes} {old} a h = rw (a .many, a .lies) (take-laid nodes old h)
 
 -- The nodes are those of a store whose children are lower.
@@ -52,7 +52,7 @@ module _ {σ : Store} {room many : ℕ} (b : Below σ room many) where
 
   -- After a walk on to node n ..
   module _ {seen marks : List ℕ} {n : ℕ} (s : Seen (b .count) seen marks) (a : Among (b .count) n)
-      {met met' marks' : List ℕ} {r : ℕ} (l : Listed (meet σ seen n) met r met' marks') (h : b .count ≤ length met) where
+      {met met' marks' : List ℕ} {r : ℕ} (l : ListedNodes (meet σ seen n) met r met' marks') (h : b .count ≤ length met) where
     -- .. which is a walk to this node alone ..
     run : Run σ (meet σ seen n) seen (n ∷ [])
     run = meet-run σ (b .count) (b .descends) seen n (a .0) (a .1) [] end
@@ -91,7 +91,7 @@ module _ {σ : Store} {met marks : List ℕ} {at n : ℕ} (m : Meets σ met mark
   seen-long = length-take-le at met (m .within)
 
   -- a node with a mark is passed over
-  pub passed : (getD marks (n - 1) 0 ≡ 0 → ⊥) → Listed (meet σ (take at met) n) met at met marks
+  pub passed : (getD marks (n - 1) 0 ≡ 0 → ⊥) → ListedNodes (meet σ (take at met) n) met at met marks
   passed z =
       let b = m .below in
       let h = marks-in (take at met) marks n (m .seen .marked) (m .some) marks-long z in
@@ -126,7 +126,7 @@ module _ {σ : Store} {met marks : List ℕ} {at n : ℕ} (m : Meets σ met mark
     stored-front = rw add-one (take-suc-set met at n stored-room)
 
     -- and marked
-    stored : Listed (take at met ++ (n ∷ [])) met (at + 1) (set met at n) (set marks (n - 1) 1)
+    stored : ListedNodes (take at met ++ (n ∷ [])) met (at + 1) (set met at n) (set marks (n - 1) 1)
     stored =
         record {
           many = sym more-long;
@@ -135,7 +135,7 @@ module _ {σ : Store} {met marks : List ℕ} {at n : ℕ} (m : Meets σ met mark
         }
 
     -- that is all for the terminal
-    pub stored-last : n ≡ 1 → Listed (meet σ (take at met) n) met (at + 1) (set met at n) (set marks (n - 1) 1)
+    pub stored-last : n ≡ 1 → ListedNodes (meet σ (take at met) n) met (at + 1) (set met at n) (set marks (n - 1) 1)
     stored-last e = let b = m .below in rw (meet-last σ (b .count) (b .descends) (take at met) n (m .some) (m .there) new e) stored
 
     -- Any other node has children, which are lower.
@@ -169,9 +169,9 @@ module _ {σ : Store} {met marks : List ℕ} {at n : ℕ} (m : Meets σ met mark
 
       -- which leaves r nodes in all
       module _ {k r : ℕ} {met' marks' : List ℕ} (q : k ≡ natAbs (thenAt σ n))
-          (l : Listed (meet σ (take (at + 1) (set met at n)) k) (set met at n) r met' marks') where
+          (l : ListedNodes (meet σ (take (at + 1) (set met at n)) k) (set met at n) r met' marks') where
         -- in terms of what was met before
-        under-then : Listed (meet σ (take at met ++ (n ∷ [])) (natAbs (thenAt σ n))) (set met at n) r met' marks'
+        under-then : ListedNodes (meet σ (take at met ++ (n ∷ [])) (natAbs (thenAt σ n))) (set met at n) r met' marks'
         under-then = rw (stored-front, q) at l
 
         -- and then to its else
@@ -182,7 +182,7 @@ module _ {σ : Store} {met marks : List ℕ} {at n : ℕ} (m : Meets σ met mark
 
         -- which is the end
         pub else-last : {j s : ℕ} {out out-marks : List ℕ} → j ≡ natAbs (elseAt σ n)
-            → Listed (meet σ (take r met') j) met' s out out-marks → Listed (meet σ (take at met) n) met s out out-marks
+            → ListedNodes (meet σ (take r met') j) met' s out out-marks → ListedNodes (meet σ (take at met) n) met s out out-marks
         else-last p k =
             let b = m .below in
             let t = meet-longer σ (b .count) (b .descends) (take at met ++ (n ∷ [])) _ (then-among .0) (then-among .1) in

@@ -9,7 +9,7 @@ use lib.Seq.{take-suc, take-all, getD-take, length-take-le}
 use lib.IntN.{ℤ, pos, natAbs}
 use Rattle.codes.proofs.Lent.{laid-none, length-laid}
 use Rattle.store.specs.Store.{Store}
-use Rattle.reached.specs.Walk.{meet, meetAll, Seen, Meets, Listed, Walks}
+use Rattle.reached.specs.Walk.{meet, meetAll, Seen, Meets, ListedNodes, Walks}
 use Rattle.reached.proofs.Marks.{marks-none}
 use Rattle.reached.proofs.Run.{meet-longer}
 use Rattle.reached.proofs.Meeting.{met-distinct, met-known, met-few}
@@ -18,7 +18,7 @@ use Rattle.reached.proofs.NodeWalk.{listed-over, listed-front, meets}
 -- the nodes of the first i roots lie there
 pub record RootsMet (σ : Store) (roots : List ℤ) (old met marks : List ℕ) (at i : ℕ) : Type 0 where
   pub within : i ≤ length roots
-  pub listed : Listed (meetAll σ [] (take i roots)) old at met marks
+  pub listed : ListedNodes (meetAll σ [] (take i roots)) old at met marks
 
 -- none yet
 pub roots-start : (σ : Store) (roots : List ℤ) (old marks : List ℕ) → marks ≡ replicate (length marks) 0 → RootsMet σ roots old old marks 0 0
@@ -38,7 +38,7 @@ module _ {σ : Store} {roots : List ℤ} {old met marks : List ℕ} {at i : ℕ}
   roots-length = ap length (s .listed .lies) ∙ length-laid _ old
 
   -- in the end all of them lie there
-  pub roots-end : length roots ≤ i → Listed (meetAll σ [] roots) old at met marks
+  pub roots-end : length roots ≤ i → ListedNodes (meetAll σ [] roots) old at met marks
   roots-end h = rw (take-all i roots h) at (s .listed)
 
   module _ {many : ℕ} (w : Walks σ roots (length old) many) (h : i < length roots) where
@@ -78,7 +78,7 @@ module _ {σ : Store} {roots : List ℤ} {old met marks : List ℕ} {at i : ℕ}
           meets b (omega arith) (omega arith) (omega (arith, s .listed .many, few-met)) (rw front seen) (omega arith)
 
       -- and then its nodes lie there too
-      pub roots-more : {r : ℕ} {met' marks' : List ℕ} → Listed (meet σ (take at met) k) met r met' marks' → RootsMet σ roots old met' marks' r (i + 1)
+      pub roots-more : {r : ℕ} {met' marks' : List ℕ} → ListedNodes (meet σ (take at met) k) met r met' marks' → RootsMet σ roots old met' marks' r (i + 1)
       roots-more l =
           let b = w .below in
           let p = w .roots-there i h in

@@ -80,7 +80,7 @@ pub record Meets (σ : Store) (met marks : List ℕ) (at n : ℕ) : Type 0 where
   pub seen : Seen (below .count) (take at met) marks
 
 -- nodes that lie over the front of a lent list, and are marked
-pub record Listed (nodes old : List ℕ) (r : ℕ) (met marks : List ℕ) : Type 0 where
+pub record ListedNodes (nodes old : List ℕ) (r : ℕ) (met marks : List ℕ) : Type 0 where
   pub many : r ≡ length nodes
   pub lies : met ≡ laid nodes old
   pub marked : Marks nodes marks

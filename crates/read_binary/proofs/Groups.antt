@@ -12,12 +12,12 @@ use borrow.Author.Tests.{ltb-true, ltb-false, eqb-true, eqb-false}
 use Rattle.codes.specs.Answer.{Step, got, fails, then}
 use Rattle.read_binary.specs.Binary.{byteAt, grouped, groupsFrom, numberAt}
 use Rattle.read_numbers.specs.Value.{valueFrom, valueOf}
-use Rattle.read_binary.specs.Groups.{Bytes, none, byte, More, more, group, numberOf, Leads, Stands, Passes, Breaks, Answers, reads, over, ends}
+use Rattle.read_binary.specs.Groups.{Bytes, none, byte, More, more, group, groupsNumber, LeadingGroups, Stands, PassesGroups, Breaks, GroupAnswers, reads, over, ends}
 use Rattle.read_numbers.proofs.Value.{value-grows, value-last}
 use Rattle.read_binary.proofs.Decoded.{byte-past, byte-within, byte-refused, Going, number-going, going-refused, going-over, going-last, going-more}
 
 -- The number of bytes and one more.
-number-last : (bs : List ℕ) (b : ℕ) → numberOf (bs ++ (b ∷ [])) ≡ numberOf bs * 128 + b / 2
+number-last : (bs : List ℕ) (b : ℕ) → groupsNumber (bs ++ (b ∷ [])) ≡ groupsNumber bs * 128 + b / 2
 number-last bs b = rw (map-append group bs (b ∷ [])) (value-last 128 (map group bs) (b / 2))
 
 module _ {f : List ℕ} where
@@ -46,7 +46,7 @@ module _ {f : List ℕ} {at : ℕ} where
   going-on {v} g (byte {b = b} {bs = bs} e h) (more z k) s =
       let l = value-grows 128 (v * 128 + b / 2) (map group bs) (omega arith) in going-on (going-more g e (omega arith) (λ y. omega arith)) h k s
 
-  leads-going : {bs : List ℕ} {i : ℕ} → Leads f at bs i → Going f at (numberOf bs) i
+  leads-going : {bs : List ℕ} {i : ℕ} → LeadingGroups f at bs i → Going f at (groupsNumber bs) i
   unfolding valueOf
   leads-going l = going-on (number-going f at) (l .stand) (l .more) (l .small)
 
@@ -55,11 +55,11 @@ module _ {f : List ℕ} {at : ℕ} where
   number-reads {v} {next} s =
       let i = bytes-split (s .bytes) (s .stand) in
       let e = number-last (s .bytes) (s .last) in
-      let w : numberOf (s .bytes) * 128 + s .last / 2 ≡ v = sym e ∙ s .value in
+      let w : groupsNumber (s .bytes) * 128 + s .last / 2 ≡ v = sym e ∙ s .value in
       going-last (leads-going (record { stand = i .1; more = s .more; small = omega (arith, s .small) })) (i .2) (omega (arith, s .small)) (s .end) ∙ rw w
 
   -- '38 comes at the group that passes 64 bits.'
-  pub number-over : Passes f at → numberAt f at ≡ fails 38
+  pub number-over : PassesGroups f at → numberAt f at ≡ fails 38
   number-over p =
       let i = bytes-split (p .bytes) (p .stand) in
       going-over (leads-going (record { stand = i .1; more = p .more; small = p .small })) (i .2) (omega (arith, p .over, number-last (p .bytes) (p .last)))
@@ -69,7 +69,7 @@ module _ {f : List ℕ} {at : ℕ} where
   number-ends b = going-refused (leads-going (b .leads)) (b .refused)
 
   -- What the bytes say is what is answered.
-  pub answers-number : {s : Step ℕ} → Answers f at s → numberAt f at ≡ s
+  pub answers-number : {s : Step ℕ} → GroupAnswers f at s → numberAt f at ≡ s
   answers-number (reads s) = number-reads s
   answers-number (over p) = number-over p
   answers-number (ends b) = number-ends b
@@ -77,10 +77,10 @@ module _ {f : List ℕ} {at : ℕ} where
 -- The other way: every position has one of these answers, so each comes from such bytes and from no others.
 module _ (f : List ℕ) (at : ℕ) where
   -- the next group after bytes that lead to it, where every group that may follow it has such an answer
-  module _ {bs : List ℕ} {i : ℕ} (l : Leads f at bs i) (k : ℕ → ℕ → Step ℕ)
-      (on : (b m : ℕ) → i < m → Leads f at (bs ++ (b ∷ [])) m → Answers f at (k (numberOf bs * 128 + b / 2) m)) where
-    grouped-answers : (b m : ℕ) → byteAt f i ≡ got b m → (small last : Bool) → ltb (numberOf bs * 128 + b / 2) (2 ^ 64) ≡ small → eqb (b % 2) 0 ≡ last
-        → Answers f at (cond small (cond last (got (numberOf bs * 128 + b / 2) m) (k (numberOf bs * 128 + b / 2) m)) (fails 38))
+  module _ {bs : List ℕ} {i : ℕ} (l : LeadingGroups f at bs i) (k : ℕ → ℕ → Step ℕ)
+      (on : (b m : ℕ) → i < m → LeadingGroups f at (bs ++ (b ∷ [])) m → GroupAnswers f at (k (groupsNumber bs * 128 + b / 2) m)) where
+    grouped-answers : (b m : ℕ) → byteAt f i ≡ got b m → (small last : Bool) → ltb (groupsNumber bs * 128 + b / 2) (2 ^ 64) ≡ small → eqb (b % 2) 0 ≡ last
+        → GroupAnswers f at (cond small (cond last (got (groupsNumber bs * 128 + b / 2) m) (k (groupsNumber bs * 128 + b / 2) m)) (fails 38))
     grouped-answers b m e true true p q =
         reads
         (record {
@@ -112,17 +112,17 @@ module _ (f : List ℕ) (at : ℕ) where
           over = omega (arith, ltb-false, number-last bs b);
         })
 
-    then-answers : (s : Step ℕ) → byteAt f i ≡ s → Answers f at (then s (λ b next. grouped (numberOf bs) b next k))
-    then-answers (got b m) e = grouped-answers b m e (ltb (numberOf bs * 128 + b / 2) (2 ^ 64)) (eqb (b % 2) 0) refl refl
+    then-answers : (s : Step ℕ) → byteAt f i ≡ s → GroupAnswers f at (then s (λ b next. grouped (groupsNumber bs) b next k))
+    then-answers (got b m) e = grouped-answers b m e (ltb (groupsNumber bs * 128 + b / 2) (2 ^ 64)) (eqb (b % 2) 0) refl refl
     then-answers (fails n) e = ends (record { bytes = bs; place = i; leads = l; refused = e })
 
-  groups-answers : (fuel : ℕ) {bs : List ℕ} {i : ℕ} → length f ≤ i + fuel → Leads f at bs i → Answers f at (groupsFrom fuel f (numberOf bs) i)
+  groups-answers : (fuel : ℕ) {bs : List ℕ} {i : ℕ} → length f ≤ i + fuel → LeadingGroups f at bs i → GroupAnswers f at (groupsFrom fuel f (groupsNumber bs) i)
   unfolding groupsFrom
   groups-answers zero {bs} {i} h l = ends (record { bytes = bs; place = i; leads = l; refused = byte-past f i (omega arith) })
   groups-answers (suc fuel) {bs} {i} h l =
       then-answers l (groupsFrom fuel f) (λ b m a k. rw (← number-last bs b) (groups-answers fuel (omega arith) k)) (byteAt f i) refl
 
-  pub number-answers : Answers f at (numberAt f at)
+  pub number-answers : GroupAnswers f at (numberAt f at)
   unfolding numberAt valueFrom valueOf
   number-answers = groups-answers (length f) {bs = []} (omega arith) (record { stand = none; more = none; small = omega arith })
 
@@ -130,14 +130,14 @@ module _ (f : List ℕ) (at : ℕ) where
   pub number-exact : {v next : ℕ} → numberAt f at ≡ got v next → Stands f at v next
   number-exact e = of (rw e at number-answers)
     where
-      of : {v next : ℕ} → Answers f at (got v next) → Stands f at v next
+      of : {v next : ℕ} → GroupAnswers f at (got v next) → Stands f at v next
       of (reads s) = s
 
   -- 38 comes nowhere else.
-  pub number-over-exact : numberAt f at ≡ fails 38 → Passes f at
+  pub number-over-exact : numberAt f at ≡ fails 38 → PassesGroups f at
   number-over-exact e = of (rw e at number-answers) refl
     where
-      of : {n : ℕ} → Answers f at (fails n) → n ≡ 38 → Passes f at
+      of : {n : ℕ} → GroupAnswers f at (fails n) → n ≡ 38 → PassesGroups f at
       of (over p) z = p
       of (ends b) z = absurd (⊎-elim (λ k. omega arith) (λ k. omega arith) (byte-refused f (b .place) (b .refused)))
 
@@ -145,7 +145,7 @@ module _ (f : List ℕ) (at : ℕ) where
   pub number-ends-exact : {n : ℕ} → (n ≡ 30) ⊎ (n ≡ 37) → numberAt f at ≡ fails n → Breaks f at n
   number-ends-exact w e = of (rw e at number-answers) w
     where
-      of : {n : ℕ} → Answers f at (fails n) → (n ≡ 30) ⊎ (n ≡ 37) → Breaks f at n
+      of : {n : ℕ} → GroupAnswers f at (fails n) → (n ≡ 30) ⊎ (n ≡ 37) → Breaks f at n
       of (over p) z = absurd (⊎-elim (λ k. omega arith) (λ k. omega arith) z)
       of (ends b) z = b
 
@@ -167,10 +167,10 @@ pub number-zero : (f : List ℕ) (at : ℕ) {m : ℕ} → byteAt f at ≡ got 1 
 unfolding valueFrom valueOf
 number-zero f at {m} e = answers-number (of (number-answers f m))
   where
-    led : {bs : List ℕ} {i : ℕ} → Leads f m bs i → Leads f at (1 ∷ bs) i
+    led : {bs : List ℕ} {i : ℕ} → LeadingGroups f m bs i → LeadingGroups f at (1 ∷ bs) i
     led l = record { stand = byte e (l .stand); more = more refl (l .more); small = l .small }
 
-    of : {s : Step ℕ} → Answers f m s → Answers f at s
+    of : {s : Step ℕ} → GroupAnswers f m s → GroupAnswers f at s
     of (reads s) =
         reads
         (record {

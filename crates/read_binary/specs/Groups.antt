@@ -21,14 +21,14 @@ abbrev pub group : ℕ → ℕ
 group b = b / 2
 
 -- 'highest first': the number of the groups of some bytes
-abbrev pub numberOf : List ℕ → ℕ
-numberOf bs = valueOf 128 (map group bs)
+abbrev pub groupsNumber : List ℕ → ℕ
+groupsNumber bs = valueOf 128 (map group bs)
 
 -- Bytes that each mean more, and whose number 64 bits hold, lead from a position to another.
-pub record Leads (f : List ℕ) (at : ℕ) (bs : List ℕ) (i : ℕ) : Type 0 where
+pub record LeadingGroups (f : List ℕ) (at : ℕ) (bs : List ℕ) (i : ℕ) : Type 0 where
   pub stand : Bytes f at bs i
   pub more : More bs
-  pub small : numberOf bs < 2 ^ 64
+  pub small : groupsNumber bs < 2 ^ 64
 
 -- A number stands at a position: bytes that mean more, and a last one that does not.
 pub record Stands (f : List ℕ) (at v next : ℕ) : Type 0 where
@@ -37,28 +37,28 @@ pub record Stands (f : List ℕ) (at v next : ℕ) : Type 0 where
   pub stand : Bytes f at (bytes ++ (last ∷ [])) next
   pub more : More bytes
   pub end : last % 2 ≡ 0
-  pub value : numberOf (bytes ++ (last ∷ [])) ≡ v
+  pub value : groupsNumber (bytes ++ (last ∷ [])) ≡ v
   pub small : v < 2 ^ 64
 
 -- 'the group that passes 64 bits'
-pub record Passes (f : List ℕ) (at : ℕ) : Type 0 where
+pub record PassesGroups (f : List ℕ) (at : ℕ) : Type 0 where
   pub bytes : List ℕ
   pub last : ℕ
   pub next : ℕ
   pub stand : Bytes f at (bytes ++ (last ∷ [])) next
   pub more : More bytes
-  pub small : numberOf bytes < 2 ^ 64
-  pub over : 2 ^ 64 ≤ numberOf (bytes ++ (last ∷ []))
+  pub small : groupsNumber bytes < 2 ^ 64
+  pub over : 2 ^ 64 ≤ groupsNumber (bytes ++ (last ∷ []))
 
 -- A byte is refused where a group should stand.
 pub record Breaks (f : List ℕ) (at n : ℕ) : Type 0 where
   pub bytes : List ℕ
   pub place : ℕ
-  pub leads : Leads f at bytes place
+  pub leads : LeadingGroups f at bytes place
   pub refused : byteAt f place ≡ fails n
 
 -- What a number's answer can be, and of which bytes.
-pub data Answers (f : List ℕ) (at : ℕ) : Step ℕ → Type 0 where
-  reads : {v next : ℕ} → Stands f at v next → Answers f at (got v next)
-  over : Passes f at → Answers f at (fails 38)
-  ends : {n : ℕ} → Breaks f at n → Answers f at (fails n)
+pub data GroupAnswers (f : List ℕ) (at : ℕ) : Step ℕ → Type 0 where
+  reads : {v next : ℕ} → Stands f at v next → GroupAnswers f at (got v next)
+  over : PassesGroups f at → GroupAnswers f at (fails 38)
+  ends : {n : ℕ} → Breaks f at n → GroupAnswers f at (fails n)

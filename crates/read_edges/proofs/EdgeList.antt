@@ -22,7 +22,7 @@ use Rattle.read_edges.specs.declared.Entry.the-variants.{Fresh, Minus, D
 use Rattle.read_edges.specs.declared.EntryStep.{EntryStep}
 use Rattle.read_edges.specs.declared.EntryStep.the-variants.{More, Ends, Refused}
 use Rattle.read_lists.specs.Lists.{listed}
-use Rattle.read_edges.specs.Edges.{signed, grown, onDigit, onMinus, onBlank, entryStep, edges, edgeAt, edgeEnd, edgeList, pair, children, Small}
+use Rattle.read_edges.specs.Edges.{signed, grown, onDigit, onMinus, onBlank, entryStep, edges, edgeAt, edgeEnd, edgeList, pair, children, SmallEntry}
 use Rattle.read_lists.proofs.Another.{another-more, another-full}
 
 -- A magnitude below 2 ^ 63 is a signed number of 64 bits, and so is its negation, which the code takes from 0.
@@ -44,12 +44,12 @@ module _ (minus : Bool) (v d : ℕ) where
   pub grown-fits : v * 10 + d < 2 ^ 63 → grown minus v d ≡ More (Digits minus (v * 10 + d))
   grown-fits h = rw (lt-ltb (v * 10 + d) (2 ^ 63) h)
 
-pub small-digits : {e : Entry} {minus : Bool} {v : ℕ} → e ≡ Digits minus v → Small e → v < 2 ^ 63
+pub small-digits : {e : Entry} {minus : Bool} {v : ℕ} → e ≡ Digits minus v → SmallEntry e → v < 2 ^ 63
 small-digits k h = rw k at h
 
 -- What a step leaves to go on with is small too, and an entry that ends is a signed number of 64 bits.
 abbrev SmallStep : EntryStep → Type 0
-SmallStep (More e) = Small e
+SmallStep (More e) = SmallEntry e
 SmallStep (Ends a) = SFits w64 a
 SmallStep (Refused n) = Unit
 
@@ -71,18 +71,18 @@ minus-small Fresh = tt
 minus-small Minus = tt
 minus-small (Digits minus v) = tt
 
-blank-small : (e : Entry) → Small e → SmallStep (onBlank e)
+blank-small : (e : Entry) → SmallEntry e → SmallStep (onBlank e)
 blank-small Fresh h = tt
 blank-small Minus h = tt
 blank-small (Digits minus v) h = signed-fits minus v h
 
-step-small-by : (e : Entry) (d : ℕ) (a b c : Bool) → Small e → SmallStep (cond a (onDigit e d) (cond b (onMinus e) (cond c (onBlank e) (Refused 16))))
+step-small-by : (e : Entry) (d : ℕ) (a b c : Bool) → SmallEntry e → SmallStep (cond a (onDigit e d) (cond b (onMinus e) (cond c (onBlank e) (Refused 16))))
 step-small-by e d true b c h = digit-small e d
 step-small-by e d false true c h = minus-small e
 step-small-by e d false false true h = blank-small e h
 step-small-by e d false false false h = tt
 
-step-small : (e : Entry) (x : ℕ) → Small e → SmallStep (entryStep e x)
+step-small : (e : Entry) (x : ℕ) → SmallEntry e → SmallStep (entryStep e x)
 unfolding entryStep
 step-small e x h = step-small-by e (x - 48) (isDigit x) (eqb x 45) (isBlank x) h
 
@@ -90,7 +90,7 @@ step-small e x h = step-small-by e (x - 48) (isDigit x) (eqb x 45) (isBlank x) h
 pub record Edging (max : ℕ) (s : List ℕ) (old dst : List ℤ) (e : Entry) (n i : ℕ) : Type 0 where
   pub entries : List ℤ
   pub within : i ≤ length s
-  pub small : Small e
+  pub small : SmallEntry e
   pub count : n ≡ length entries
   pub lies : dst ≡ laid entries old
   pub rest : edgeList max s ≡ run (edgeAt max) (edgeEnd max) (edges e entries) (drop i s)

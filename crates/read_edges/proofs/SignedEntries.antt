@@ -21,7 +21,7 @@ use Rattle.read_lists.specs.Lists.{Listed, listed}
 use Rattle.read_edges.specs.Edges.{signed, grown, onMinus, entryStep, Edges, edges, edgeAt, edgeEnd, edgeList, pairOf, children}
 use Rattle.read_lines.specs.Each.{Each, each}
 use Rattle.read_lines.specs.Each
-use Rattle.read_numbers.specs.Digits.{digitOf, decimal, Says, Passes}
+use Rattle.read_numbers.specs.Digits.{digitOf, decimalValue, Says, PassesLimit}
 use Rattle.read_numbers.specs.Digits as digits
 use Rattle.read_lines.specs.Spaced.{Blanks}
 use Rattle.read_edges.specs.Signed.{Sign, plain, minus, Begun, Signed, Entries, none, more, EdgeAnswers, whole, last, over, strange, second, inside, full, full-last}
@@ -57,7 +57,7 @@ last-some : (l : List ℕ) (x : ℕ) → l ++ (x ∷ []) ≡ [] → ⊥
 last-some l x e = omega (arith, length-append l (x ∷ []), ap length e)
 
 module _ {q : List ℕ} {negative : Bool} {v : ℕ} (b : Begun q negative v) (x : ℕ) (d : isDigit x ≡ true) where
-  grown-is : decimal (b .digits ++ (x ∷ [])) ≡ v * 10 + (x - 48)
+  grown-is : decimalValue (b .digits ++ (x ∷ [])) ≡ v * 10 + (x - 48)
   grown-is = decimal-last (b .digits) x ∙ rw (b .says .value)
 
   begun-digit : v * 10 + (x - 48) < 2 ^ 63 → Signed (q ++ (x ∷ [])) negative (v * 10 + (x - 48))
@@ -73,7 +73,7 @@ module _ {q : List ℕ} {negative : Bool} {v : ℕ} (b : Begun q negative v) (x 
         some = last-some (b .digits) x;
       }
 
-  begun-over : (r : List ℕ) → 2 ^ 63 ≤ v * 10 + (x - 48) → Passes (2 ^ 63) (b .digits ++ (x ∷ r))
+  begun-over : (r : List ℕ) → 2 ^ 63 ≤ v * 10 + (x - 48) → PassesLimit (2 ^ 63) (b .digits ++ (x ∷ r))
   begun-over r h =
       record {
         front = b .digits;
@@ -226,7 +226,7 @@ module _ (max : ℕ) (s : List ℕ) where
   unfolding edgeList
   edge-answers = ends-answers (run-ends (edgeAt max) (edgeEnd max) (edges Fresh []) s)
 
-no-digits : decimal [] ≡ 0
+no-digits : decimalValue [] ≡ 0
 unfolding valueOf valueFrom
 no-digits = refl
 
@@ -272,7 +272,7 @@ module _ (max : ℕ) where
     says-led n [] a h = absurd (h refl)
     says-led n (x ∷ d) a h = of (a .digits) (a .value) (a .small)
       where
-        of : {v : ℕ} → digits.Digits (x ∷ d) → decimal (x ∷ d) ≡ v → v < 2 ^ 63 → Led max (edges (signSeen n) es) (x ∷ d) (edges (Digits n v) es)
+        of : {v : ℕ} → digits.Digits (x ∷ d) → decimalValue (x ∷ d) ≡ v → v < 2 ^ 63 → Led max (edges (signSeen n) es) (x ∷ d) (edges (Digits n v) es)
         of (each e k) z l =
             let g = value-grows 10 (0 * 10 + (x - 48)) (map digitOf d) (omega arith) in
             rw (← z)
@@ -332,12 +332,12 @@ module _ (max : ℕ) where
         subst Ended (end-entry max es n v h) (all (rw i (led-then (entries-led k (omega arith)) (signed-led es t))))
     answers-ends (over {p = p} {f = f} {es = es} {negative = n} k h g a i) =
         let d = digits-split (a .front) (a .last) (a .digits) in
-        let b : Begun (f ++ a .front) n (decimal (a .front)) =
+        let b : Begun (f ++ a .front) n (decimalValue (a .front)) =
         record { front = f; digits = a .front; is = refl; sign = g; says = record { digits = d .0; value = refl; small = a .small } } in
         let l = begun-led es b in
-        let z : 2 ^ 63 ≤ decimal (a .front) * 10 + (a .last - 48) = rw decimal-last at (a .over) in
+        let z : 2 ^ 63 ≤ decimalValue (a .front) * 10 + (a .last - 48) = rw decimal-last at (a .over) in
         ends-at (a .last) (a .rest) k h (l .1) (i ∙ ap (λ m. p ++ m) (rw (a .is, append-assoc)))
-        (edge-refused max (l .0) es (a .last) 15 (l .2 (a .last) (d .1) ∙ grown-over n (decimal (a .front)) (a .last - 48) z))
+        (edge-refused max (l .0) es (a .last) 15 (l .2 (a .last) (d .1) ∙ grown-over n (decimalValue (a .front)) (a .last - 48) z))
     answers-ends (strange {es = es} x m k h b d y w i) =
         let l = begun-led es b in ends-at x m k h (l .1) i (edge-refused max (l .0) es x 16 (entry-foreign (l .0) x d y w))
     answers-ends (second {es = es} m k h g i) = ends-at 45 m k h (sign-led es g) i (edge-refused max Minus es 45 17 (entry-minus Minus 45 refl))

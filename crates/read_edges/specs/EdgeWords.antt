@@ -9,7 +9,7 @@ use Rattle.codes.specs.Answer.{Read, value, refused}
 use Rattle.read_lines.specs.Words.{Word}
 use Rattle.read_numbers.specs.Number.{number}
 use Rattle.read_edges.specs.Edges.{signed}
-use Rattle.read_numbers.specs.Digits.{Digits, decimal}
+use Rattle.read_numbers.specs.Digits.{Digits, decimalValue}
 
 -- A word that is an entry by itself: a minus or none, and then digits, at least one, for a magnitude below 2 ^ 63.
 pub record Lone (w : Word) : Type 0 where
@@ -18,12 +18,12 @@ pub record Lone (w : Word) : Type 0 where
   pub is : w .bytes ≡ cond negative (45 ∷ digits) digits
   pub some : digits ≡ [] → ⊥
   pub all : Digits digits
-  pub small : decimal digits < 2 ^ 63
+  pub small : decimalValue digits < 2 ^ 63
 
 -- such words, and their numbers
 pub data Lones : List Word → List ℤ → Type 0 where
   none : Lones [] []
-  more : {w : Word} {ws : List Word} {es : List ℤ} (l : Lone w) → Lones ws es → Lones (w ∷ ws) (signed (l .negative) (decimal (l .digits)) ∷ es)
+  more : {w : Word} {ws : List Word} {es : List ℤ} (l : Lone w) → Lones ws es → Lones (w ∷ ws) (signed (l .negative) (decimalValue (l .digits)) ∷ es)
 
 -- a word, read as such an entry
 abbrev pub withSign : Bool → Read ℕ → Read ℤ
@@ -34,5 +34,5 @@ abbrev pub edgeBytes : List ℕ → Read ℤ
 edgeBytes [] = refused 16
 edgeBytes (x ∷ d) = cond (eqb x 45) (withSign true (number 16 (2 ^ 63) d)) (withSign false (number 16 (2 ^ 63) (x ∷ d)))
 
-unfoldable pub edgeOf : Word → Read ℤ
-edgeOf w = edgeBytes (w .bytes)
+unfoldable pub edgeOfWord : Word → Read ℤ
+edgeOfWord w = edgeBytes (w .bytes)

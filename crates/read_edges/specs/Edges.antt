@@ -95,7 +95,7 @@ unfoldable pub children : List ℕ → Read Pair
 children s = pairOf (edgeList (length s) s .entries) (edgeList (length s) s .answer)
 
 -- the magnitude of an entry that is being read is at most 9223372036854775807
-abbrev pub Small : Entry → Type 0
-Small Fresh = Unit
-Small Minus = Unit
-Small (Digits minus v) = v < 2 ^ 63
+abbrev pub SmallEntry : Entry → Type 0
+SmallEntry Fresh = Unit
+SmallEntry Minus = Unit
+SmallEntry (Digits minus v) = v < 2 ^ 63

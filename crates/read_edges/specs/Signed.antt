@@ -10,7 +10,7 @@ use Rattle.codes.specs.Answer.{value, refused}
 use Rattle.codes.specs.Bytes.{isBlank, isDigit}
 use Rattle.read_lists.specs.Lists.{Listed, listed}
 use Rattle.read_edges.specs.Edges.{signed}
-use Rattle.read_numbers.specs.Digits.{Says, Passes}
+use Rattle.read_numbers.specs.Digits.{Says, PassesLimit}
 use Rattle.read_lines.specs.Spaced.{Blanks}
 
 -- What stands before the digits of an entry, and whether a minus is there: blanks, which may surround the minus. '`- 5 7` reads -5, 7.'
@@ -46,7 +46,7 @@ pub data EdgeAnswers (max : ℕ) (s : List ℕ) : Listed ℤ → Type 0 where
   last : {p q : List ℕ} {es : List ℤ} {negative : Bool} {v : ℕ} → Entries p es → length es < max → Signed q negative v → s ≡ p ++ q
       → EdgeAnswers max s (listed (value (length (es ++ (signed negative v ∷ [])))) (es ++ (signed negative v ∷ [])))
   -- '15 a number is too large': the digit that takes a magnitude to 2 ^ 63
-  over : {p f t : List ℕ} {es : List ℤ} {negative : Bool} → Entries p es → length es ≤ max → Sign negative f → Passes (2 ^ 63) t
+  over : {p f t : List ℕ} {es : List ℤ} {negative : Bool} → Entries p es → length es ≤ max → Sign negative f → PassesLimit (2 ^ 63) t
       → s ≡ p ++ (f ++ t) → EdgeAnswers max s (listed (refused 15) es)
   -- '16 a list has a foreign character': no digit, no minus, no blank
   strange : {p q : List ℕ} {es : List ℤ} {negative : Bool} {v : ℕ} (x : ℕ) (r : List ℕ) → Entries p es → length es ≤ max → Begun q negative v

@@ -3,7 +3,7 @@ ghost use mathlib.Core.Path.{_≡_};
 ghost use Prim.Native.Nat.{_<_, _^_};
 ghost use lib.ListN.{set};
 ghost use Rattle.codes.specs.Lent.{laid};
-ghost use Rattle.read_edges.specs.Edges.{signed, grown, onDigit, onMinus, onBlank, entryStep, edgeList, children, Small};
+ghost use Rattle.read_edges.specs.Edges.{signed, grown, onDigit, onMinus, onBlank, entryStep, edgeList, children, SmallEntry};
 ghost use Rattle.read_lists.specs.Kinds.{ofCount};
 ghost use Rattle.read_edges.specs.Kinds.{ofChildren};
 use codes::refusal;
@@ -73,7 +73,7 @@ fn on_minus(e: Entry) -> EntryStep
 }
 
 fn on_blank(e: Entry) -> EntryStep
-    requires { ⌜ Small e ⌝ }
+    requires { ⌜ SmallEntry e ⌝ }
     ensures { λ r. ⌜ r ≡ onBlank e ⌝ }
 {
     match e {
@@ -84,7 +84,7 @@ fn on_blank(e: Entry) -> EntryStep
 }
 
 fn entry_step(e: Entry, b: u8) -> EntryStep
-    requires { ⌜ Small e ⌝ }
+    requires { ⌜ SmallEntry e ⌝ }
     ensures { λ r. ⌜ r ≡ entryStep e b ⌝ }
 {
     if codes::is_digit(b) {

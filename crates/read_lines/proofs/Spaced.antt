@@ -6,13 +6,13 @@ use Prim.Native.Nat.{ℕ, suc, _+_, _-_}
 use native.Mathlib.Omega.{arith}
 use lib.ListN.{length, length-append}
 use Rattle.codes.specs.Bytes.{isBlank}
-use Rattle.read_lines.specs.Words.{Word, word, ended, wordsFrom, words}
+use Rattle.read_lines.specs.Words.{Word, word, endedWord, wordsFrom, words}
 use Rattle.read_lines.specs.Each.{Each, none, each}
 use Rattle.read_lines.specs.Spaced.{Blanks, Free, Text, Spaced, blanks, last, next}
 
 -- one byte more
 module _ (at : ℕ) (w : List ℕ) (x : ℕ) (s : List ℕ) where
-  at-blank : isBlank x ≡ true → wordsFrom at w (x ∷ s) ≡ ended at w (wordsFrom (at + 1) [] s)
+  at-blank : isBlank x ≡ true → wordsFrom at w (x ∷ s) ≡ endedWord at w (wordsFrom (at + 1) [] s)
   unfolding wordsFrom
   at-blank e = rw (e, wordsFrom)
 
@@ -34,7 +34,7 @@ over-text at w s (each {a = x} {l = v} e h) =
     at-text at w x (v ++ s) e ∙ over-text (at + 1) (w ++ (x ∷ [])) s h ∙ rw (k, append-assoc)
 
 -- a word's end
-ended-text : (at : ℕ) (w : List ℕ) (ws : List Word) → (w ≡ [] → ⊥) → ended (at + length w) w ws ≡ word at w ∷ ws
+ended-text : (at : ℕ) (w : List ℕ) (ws : List Word) → (w ≡ [] → ⊥) → endedWord (at + length w) w ws ≡ word at w ∷ ws
 ended-text at [] ws h = absurd (h refl)
 ended-text at (x ∷ w) ws h = let k : at + suc (length w) - suc (length w) ≡ at = omega arith in rw k
 
@@ -78,13 +78,13 @@ module _ (at : ℕ) (w : List ℕ) (t : Text w) where
 
 -- where the bytes w of a word stand before a blank, or before the end
 ended-next : (at : ℕ) (w : List ℕ) {x : ℕ} {s : List ℕ} {ws : List Word} → Free w → isBlank x ≡ true
-    → Spaced (at + length w) (x ∷ s) ws → Spaced at (w ++ (x ∷ s)) (ended (at + length w) w ws)
+    → Spaced (at + length w) (x ∷ s) ws → Spaced at (w ++ (x ∷ s)) (endedWord (at + length w) w ws)
 ended-next at [] f e k = let z : at + 0 ≡ at = omega arith in rw z at k
 ended-next at (y ∷ w) {ws = ws} f e k =
     let some : (y ∷ w) ≡ [] → ⊥ = λ z. let q : _≡_ {A = ℕ} 0 1 = cc in omega arith in
     rw (ended-text at (y ∷ w) ws some) (spaced-next at (y ∷ w) (record { some = some; free = f }) e k)
 
-ended-last : (at : ℕ) (w : List ℕ) → Free w → Spaced at (w ++ []) (ended (at + length w) w [])
+ended-last : (at : ℕ) (w : List ℕ) → Free w → Spaced at (w ++ []) (endedWord (at + length w) w [])
 ended-last at [] f = blanks none
 ended-last at (y ∷ w) f =
     let some : (y ∷ w) ≡ [] → ⊥ = λ z. let q : _≡_ {A = ℕ} 0 1 = cc in omega arith in

@@ -14,16 +14,16 @@ abbrev pub word : ℕ → List ℕ → Word
 word at w = record { start = at; bytes = w }
 
 -- before a blank or the end at a position: the word that ends there, if there is one, and then the later words
-abbrev pub ended : ℕ → List ℕ → List Word → List Word
-ended at [] ws = ws
-ended at (b ∷ bs) ws = word (at - length (b ∷ bs)) (b ∷ bs) ∷ ws
+abbrev pub endedWord : ℕ → List ℕ → List Word → List Word
+endedWord at [] ws = ws
+endedWord at (b ∷ bs) ws = word (at - length (b ∷ bs)) (b ∷ bs) ∷ ws
 
 -- the words from a position on, where the bytes w of a word stand just before it
 unfoldable pub wordsFrom : ℕ → List ℕ → List ℕ → List Word
-wordsFrom at w [] = ended at w []
+wordsFrom at w [] = endedWord at w []
 wordsFrom at w (x ∷ s) =
     elim (isBlank x) [
-      | true ↦ ended at w (wordsFrom (at + 1) [] s)
+      | true ↦ endedWord at w (wordsFrom (at + 1) [] s)
       | false ↦ wordsFrom (at + 1) (w ++ (x ∷ [])) s
     ]
 

@@ -12,7 +12,7 @@ use Rattle.read_lines.specs.Words.{Word, words}
 use Rattle.read_lists.specs.Lists.{Listed, listed, judged, judge, u32Of, u32List}
 use Rattle.read_lines.specs.Each.{Each, each}
 use Rattle.read_lines.specs.Each
-use Rattle.read_numbers.specs.Digits.{Answers}
+use Rattle.read_numbers.specs.Digits.{DigitAnswers}
 use Rattle.read_numbers.specs.Digits
 use Rattle.read_lists.specs.Judged.{Reads, none, more, Judged, whole, fault, full, Numeral, numeral, Numerals, over, strange}
 use Rattle.read_lists.specs.Judged as said
@@ -103,7 +103,7 @@ module _ (max : ℕ) where
 
   -- a word with a fault of its own
   module _ {ws front : List Word} (w : Word) (rest : List Word) (i : ws ≡ front ++ (w ∷ rest)) (k : Each Numeral front) (h : length front ≤ max) where
-    fault-numerals : {n : ℕ} → Answers 16 (2 ^ 32) (w .bytes) (refused n) → Numerals max ws (listed (refused n) (map numeral front))
+    fault-numerals : {n : ℕ} → DigitAnswers 16 (2 ^ 32) (w .bytes) (refused n) → Numerals max ws (listed (refused n) (map numeral front))
     fault-numerals (Digits.over p) = over front w rest i k h p
     fault-numerals (Digits.strange p) = strange front w rest i k h p
 

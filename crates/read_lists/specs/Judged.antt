@@ -8,7 +8,7 @@ use Rattle.codes.specs.Answer.{Read, value, refused}
 use Rattle.read_lines.specs.Words.{Word}
 use Rattle.read_lists.specs.Lists.{Listed, listed}
 use Rattle.read_lines.specs.Each.{Each}
-use Rattle.read_numbers.specs.Digits.{Digits, decimal, Passes, Foreign}
+use Rattle.read_numbers.specs.Digits.{Digits, decimalValue, PassesLimit, Foreign}
 
 -- each word reads as the entry in its place
 pub data Reads {A : Type 0} (read : Word → Read A) : List Word → List A → Type 0 where
@@ -29,17 +29,17 @@ pub data Judged {A : Type 0} (read : Word → Read A) (max : ℕ) (es : List A) 
 -- A word that is a number of 32 bits, and that number.
 pub record Numeral (w : Word) : Type 0 where
   pub digits : Digits (w .bytes)
-  pub small : decimal (w .bytes) < 2 ^ 32
+  pub small : decimalValue (w .bytes) < 2 ^ 32
 
 abbrev pub numeral : Word → ℕ
-numeral w = decimal (w .bytes)
+numeral w = decimalValue (w .bytes)
 
 -- What the words of a list of unsigned numbers are judged as, at most max.
 pub data Numerals (max : ℕ) (ws : List Word) : Listed ℕ → Type 0 where
   whole : Each Numeral ws → length ws ≤ max → Numerals max ws (listed (value (length ws)) (map numeral ws))
   -- '15 a number is too large .. over 32 in other unsigned ones'
   over : (front : List Word) (w : Word) (rest : List Word) → ws ≡ front ++ (w ∷ rest) → Each Numeral front → length front ≤ max
-      → Passes (2 ^ 32) (w .bytes) → Numerals max ws (listed (refused 15) (map numeral front))
+      → PassesLimit (2 ^ 32) (w .bytes) → Numerals max ws (listed (refused 15) (map numeral front))
   -- '16 a list has a foreign character'
   strange : (front : List Word) (w : Word) (rest : List Word) → ws ≡ front ++ (w ∷ rest) → Each Numeral front → length front ≤ max
       → Foreign (2 ^ 32) (w .bytes) → Numerals max ws (listed (refused 16) (map numeral front))

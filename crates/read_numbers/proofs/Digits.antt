@@ -11,13 +11,13 @@ use Rattle.codes.specs.Bytes.{isDigit}
 use Rattle.read_numbers.specs.Value.{valueFrom, valueOf}
 use Rattle.read_numbers.specs.Number.{digit, number, single}
 use Rattle.read_lines.specs.Each.{none, each}
-use Rattle.read_numbers.specs.Digits.{Digits, digitOf, decimal, Says, Passes, Foreign, Answers, reads, over, strange, SingleAnswers, empty, some}
+use Rattle.read_numbers.specs.Digits.{Digits, digitOf, decimalValue, Says, PassesLimit, Foreign, DigitAnswers, reads, over, strange, SingleAnswers, empty, some}
 use Rattle.read_numbers.proofs.Value.{value-grows, value-last}
 use Rattle.read_numbers.proofs.Number.{digit-more, digit-over, digit-foreign, went, Stopped, stopped}
 use Rattle.read_numbers.proofs.Number
 
 -- The number of digits and one more.
-pub decimal-last : (p : List ℕ) (x : ℕ) → decimal (p ++ (x ∷ [])) ≡ decimal p * 10 + (x - 48)
+pub decimal-last : (p : List ℕ) (x : ℕ) → decimalValue (p ++ (x ∷ [])) ≡ decimalValue p * 10 + (x - 48)
 decimal-last p x = rw (map-append digitOf p (x ∷ [])) (value-last 10 (map digitOf p) (x - 48))
 
 pub digits-last : {p : List ℕ} (x : ℕ) → Digits p → isDigit x ≡ true → Digits (p ++ (x ∷ []))
@@ -38,7 +38,7 @@ module _ (foreign lim : ℕ) where
       let g = value-grows 10 (v * 10 + (x - 48)) (map digitOf p) (omega arith) in
       on (digit-more foreign lim v x d (omega arith)) (digits-on (v * 10 + (x - 48)) k h)
 
-  pub digits-lead : {p : List ℕ} → Digits p → decimal p < lim → Leads (digit foreign lim) value 0 p (decimal p)
+  pub digits-lead : {p : List ℕ} → Digits p → decimalValue p < lim → Leads (digit foreign lim) value 0 p (decimalValue p)
   unfolding valueOf
   digits-lead d h = digits-on 0 d h
 
@@ -56,7 +56,7 @@ module _ (foreign lim : ℕ) where
 
   module _ (s : List ℕ) where
     -- What the bytes say is what is answered.
-    answers-ends : {r : Read ℕ} → Answers foreign lim s r → Ends (digit foreign lim) value 0 s r
+    answers-ends : {r : Read ℕ} → DigitAnswers foreign lim s r → Ends (digit foreign lim) value 0 s r
     answers-ends (reads a) = rw (← a .value) (all (digits-lead (a .digits) (rw (a .value) (a .small))))
     answers-ends (over a) =
         let d = digits-split (a .front) (a .last) (a .digits) in
@@ -65,13 +65,13 @@ module _ (foreign lim : ℕ) where
     answers-ends (strange a) =
         at (a .front) (a .byte) (a .rest) (a .is) (digits-lead (a .digits) (a .small)) (digit-foreign foreign lim _ (a .byte) (a .foreign))
 
-    pub answers-number : {r : Read ℕ} → Answers foreign lim s r → number foreign lim s ≡ r
+    pub answers-number : {r : Read ℕ} → DigitAnswers foreign lim s r → number foreign lim s ≡ r
     unfolding number
     answers-number a = ends-run (digit foreign lim) value (answers-ends a)
 
     -- The other way: every list of bytes has one of these answers, so each comes from such bytes and from no others.
     module _ (h : 0 < lim) where
-      stopped-answers : {v : ℕ} {r : Read ℕ} (p : List ℕ) (x : ℕ) (m : List ℕ) → s ≡ p ++ (x ∷ m) → Says lim p v → Stopped foreign lim v x r → Answers foreign lim s r
+      stopped-answers : {v : ℕ} {r : Read ℕ} (p : List ℕ) (x : ℕ) (m : List ℕ) → s ≡ p ++ (x ∷ m) → Says lim p v → Stopped foreign lim v x r → DigitAnswers foreign lim s r
       stopped-answers p x m k a (Number.over d q) =
           let e = decimal-last p x in
           over
@@ -88,11 +88,11 @@ module _ (foreign lim : ℕ) where
           strange
           (record { front = p; byte = x; rest = m; is = k; digits = a .digits; small = rw (a .value) (a .small); foreign = d })
 
-      ends-answers : {r : Read ℕ} → Ends (digit foreign lim) value 0 s r → Answers foreign lim s r
+      ends-answers : {r : Read ℕ} → Ends (digit foreign lim) value 0 s r → DigitAnswers foreign lim s r
       ends-answers (all l) = reads (lead-digits h l)
       ends-answers (at {t = t} p x m k l f) = stopped-answers p x m k (lead-digits h l) (stopped foreign lim t x f)
 
-      pub number-answers : Answers foreign lim s (number foreign lim s)
+      pub number-answers : DigitAnswers foreign lim s (number foreign lim s)
       unfolding number
       number-answers = ends-answers (run-ends (digit foreign lim) value 0 s)
 
@@ -100,14 +100,14 @@ module _ (foreign lim : ℕ) where
       pub number-exact : {v : ℕ} → number foreign lim s ≡ value v → Says lim s v
       number-exact e = of (rw e at number-answers)
         where
-          of : {v : ℕ} → Answers foreign lim s (value v) → Says lim s v
+          of : {v : ℕ} → DigitAnswers foreign lim s (value v) → Says lim s v
           of (reads a) = a
 
       -- 15 comes at a digit that takes the number to the limit, and nowhere else.
-      pub number-over-exact : (foreign ≡ 15 → ⊥) → number foreign lim s ≡ refused 15 → Passes lim s
+      pub number-over-exact : (foreign ≡ 15 → ⊥) → number foreign lim s ≡ refused 15 → PassesLimit lim s
       number-over-exact q e = of (rw e at number-answers) refl
         where
-          of : {n : ℕ} → Answers foreign lim s (refused n) → n ≡ 15 → Passes lim s
+          of : {n : ℕ} → DigitAnswers foreign lim s (refused n) → n ≡ 15 → PassesLimit lim s
           of (over a) z = a
           of (strange a) z = absurd (q z)
 
@@ -115,7 +115,7 @@ module _ (foreign lim : ℕ) where
       pub number-strange-exact : (foreign ≡ 15 → ⊥) → number foreign lim s ≡ refused foreign → Foreign lim s
       number-strange-exact q e = of (rw e at number-answers) refl
         where
-          of : {n : ℕ} → Answers foreign lim s (refused n) → n ≡ foreign → Foreign lim s
+          of : {n : ℕ} → DigitAnswers foreign lim s (refused n) → n ≡ foreign → Foreign lim s
           of (over a) z = absurd (q (sym z))
           of (strange a) z = a
 
@@ -123,7 +123,7 @@ module _ (foreign lim : ℕ) where
       pub number-refused : {n : ℕ} → number foreign lim s ≡ refused n → (n ≡ 15) ⊎ (n ≡ foreign)
       number-refused e = of (rw e at number-answers)
         where
-          of : {n : ℕ} → Answers foreign lim s (refused n) → (n ≡ 15) ⊎ (n ≡ foreign)
+          of : {n : ℕ} → DigitAnswers foreign lim s (refused n) → (n ≡ 15) ⊎ (n ≡ foreign)
           of (over a) = inl refl
           of (strange a) = inr refl
 
@@ -149,10 +149,10 @@ module _ (lim : ℕ) where
           of (some (reads a)) = (a, λ z. let y : _≡_ {A = ℕ} 0 1 = cc in omega arith)
 
       -- too large at the digit that takes it to the limit,
-      pub single-over-exact : single lim s ≡ refused 15 → Passes lim s
+      pub single-over-exact : single lim s ≡ refused 15 → PassesLimit lim s
       single-over-exact e = of (rw e at (single-answers s)) refl
         where
-          of : {m : List ℕ} {n : ℕ} → SingleAnswers lim m (refused n) → n ≡ 15 → Passes lim m
+          of : {m : List ℕ} {n : ℕ} → SingleAnswers lim m (refused n) → n ≡ 15 → PassesLimit lim m
           of empty z = absurd (omega arith)
           of (some (over a)) z = a
           of (some (strange a)) z = absurd (omega arith)

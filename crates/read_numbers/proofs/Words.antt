@@ -10,7 +10,7 @@ use lib.Seq.{drop-cons, take-suc, getD-drop}
 use borrow.Author.Tests.{not-true}
 use Rattle.codes.specs.Bytes.{isBlank}
 use Rattle.read_lines.specs.declared.Class.the-variants.{Blank, NonBlank}
-use Rattle.read_lines.specs.Words.{Word, word, ended, wordsFrom, words}
+use Rattle.read_lines.specs.Words.{Word, word, endedWord, wordsFrom, words}
 use Rattle.read_lines.specs.Line.{isOf, seek}
 use Rattle.read_numbers.specs.Number.{single, endsAt, first}
 use Rattle.read_lines.proofs.Searches.{split, seek-past, seek-end, seek-low, seek-has, found}
@@ -24,7 +24,7 @@ module _ (base : ℕ) (s : List ℕ) where
 
   -- one byte more
   module _ (i : ℕ) (w : List ℕ) where
-    from-blank : i < length s → isBlank (getD s i 0) ≡ true → from i w ≡ ended (base + i) w (from (i + 1) [])
+    from-blank : i < length s → isBlank (getD s i 0) ≡ true → from i w ≡ endedWord (base + i) w (from (i + 1) [])
     unfolding wordsFrom
     from-blank h e = let k : base + (i + 1) ≡ base + i + 1 = omega arith in rw (drop-cons s i 0, k, add-one, e, wordsFrom)
 
@@ -32,7 +32,7 @@ module _ (base : ℕ) (s : List ℕ) where
     unfolding wordsFrom
     from-text h e = let k : base + (i + 1) ≡ base + i + 1 = omega arith in rw (drop-cons s i 0, k, add-one, e, wordsFrom)
 
-    from-end : length s ≤ i → from i w ≡ ended (base + i) w []
+    from-end : length s ≤ i → from i w ≡ endedWord (base + i) w []
     unfolding wordsFrom
     from-end h = rw (drop-of-length-le s h)
 
@@ -58,7 +58,7 @@ module _ (base : ℕ) (s : List ℕ) where
   pub part-length : (a i : ℕ) → a ≤ i → i ≤ length s → length (take (i - a) (drop a s)) ≡ i - a
   part-length a i h b = simp (length-take, length-drop) (omega arith)
 
-  ended-some : (a i : ℕ) (w : List ℕ) (ws : List Word) → a < i → length w ≡ i - a → ended (base + i) w ws ≡ word (base + a) w ∷ ws
+  ended-some : (a i : ℕ) (w : List ℕ) (ws : List Word) → a < i → length w ≡ i - a → endedWord (base + i) w ws ≡ word (base + a) w ∷ ws
   ended-some a i [] ws h k = absurd (omega arith)
   ended-some a i (x ∷ w) ws h k = let m : base + i - suc (length w) ≡ base + a = omega arith in rw m
 

@@ -17,24 +17,24 @@ abbrev pub digitOf : ℕ → ℕ
 digitOf x = x - 48
 
 -- the number that digits stand for, in base ten, highest first
-abbrev pub decimal : List ℕ → ℕ
-decimal s = valueOf 10 (map digitOf s)
+abbrev pub decimalValue : List ℕ → ℕ
+decimalValue s = valueOf 10 (map digitOf s)
 
 -- digits throughout, for a number below the limit
 pub record Says (lim : ℕ) (s : List ℕ) (v : ℕ) : Type 0 where
   pub digits : Digits s
-  pub value : decimal s ≡ v
+  pub value : decimalValue s ≡ v
   pub small : v < lim
 
 -- '15 a number is too large': the digit that takes it to the limit. What follows doesn't matter.
-pub record Passes (lim : ℕ) (s : List ℕ) : Type 0 where
+pub record PassesLimit (lim : ℕ) (s : List ℕ) : Type 0 where
   pub front : List ℕ
   pub last : ℕ
   pub rest : List ℕ
   pub is : s ≡ front ++ (last ∷ rest)
   pub digits : Digits (front ++ (last ∷ []))
-  pub small : decimal front < lim
-  pub over : lim ≤ decimal (front ++ (last ∷ []))
+  pub small : decimalValue front < lim
+  pub over : lim ≤ decimalValue (front ++ (last ∷ []))
 
 -- 'a foreign character', after digits for a number that is not too large
 pub record Foreign (lim : ℕ) (s : List ℕ) : Type 0 where
@@ -43,16 +43,16 @@ pub record Foreign (lim : ℕ) (s : List ℕ) : Type 0 where
   pub rest : List ℕ
   pub is : s ≡ front ++ (byte ∷ rest)
   pub digits : Digits front
-  pub small : decimal front < lim
+  pub small : decimalValue front < lim
   pub foreign : isDigit byte ≡ false
 
 -- What the answer to a number can be, and of which bytes; `foreign` is the refusal of a foreign character.
-pub data Answers (foreign lim : ℕ) (s : List ℕ) : Read ℕ → Type 0 where
-  reads : {v : ℕ} → Says lim s v → Answers foreign lim s (value v)
-  over : Passes lim s → Answers foreign lim s (refused 15)
-  strange : Foreign lim s → Answers foreign lim s (refused foreign)
+pub data DigitAnswers (foreign lim : ℕ) (s : List ℕ) : Read ℕ → Type 0 where
+  reads : {v : ℕ} → Says lim s v → DigitAnswers foreign lim s (value v)
+  over : PassesLimit lim s → DigitAnswers foreign lim s (refused 15)
+  strange : Foreign lim s → DigitAnswers foreign lim s (refused foreign)
 
 -- What the answer to a single number can be: '14 .. a foreign character or no digit'.
 pub data SingleAnswers (lim : ℕ) : List ℕ → Read ℕ → Type 0 where
   empty : SingleAnswers lim [] (refused 14)
-  some : {x : ℕ} {s : List ℕ} {r : Read ℕ} → Answers 14 lim (x ∷ s) r → SingleAnswers lim (x ∷ s) r
+  some : {x : ℕ} {s : List ℕ} {r : Read ℕ} → DigitAnswers 14 lim (x ∷ s) r → SingleAnswers lim (x ∷ s) r

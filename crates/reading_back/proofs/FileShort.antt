@@ -10,7 +10,7 @@ use lib.IntN.{ℤ}
 use Rattle.codes.specs.Limits.{inputLimit}
 use Rattle.read_lines.specs.Each.{Each, none, each}
 use Rattle.store.specs.Store.{Store}
-use Rattle.export_names.specs.Names.{nameAt, fitName, listFits}
+use Rattle.export_names.specs.Names.{nameAt, fitName, nameListFits}
 use Rattle.export_size.specs.Size.{sum, exportSize}
 use Rattle.export_names.proofs.FitNames.{fit-most}
 use Rattle.export_names.proofs.FitLists.{place-fit, place-length, list-count, list-names, list-sum}
@@ -28,7 +28,7 @@ names-short none = omega arith
 names-short (each {a = name} h k) = omega (arith, fit-most false name h, names-short k)
 
 -- a list has none of them, or as many as wanted
-list-short : (want : ℕ) (bytes starts lens : List ℕ) → listFits want bytes starts lens ≡ true → sum lens ≤ 255 * want
+list-short : (want : ℕ) (bytes starts lens : List ℕ) → nameListFits want bytes starts lens ≡ true → sum lens ≤ 255 * want
 list-short want bytes starts lens h =
     let s = list-sum want bytes starts lens h in
     let k = names-short (list-names want bytes starts lens h) in

@@ -14,7 +14,7 @@ use Rattle.heading.specs.Tables.{Lent}
 use Rattle.exported.specs.Settings.{Settings, settings}
 use Rattle.exported.specs.Export.{exportFault, headingOf, fileOf}
 use Rattle.reading_header.specs.HeaderBack.{headerFor}
-use Rattle.reading_back.specs.ReadsBack.{ReadsBack, importBy, GivesBack, Alike}
+use Rattle.reading_back.specs.ReadsBack.{ReadsBack, importBy, GivesBack, ReadAlike}
 use Rattle.reading_back.proofs.ReadsBack.{reads-back}
 
 -- An import into the store that the file came from, as the header that is read leads to it, gives back the roots.
@@ -30,7 +30,7 @@ led-back {s} {σ} {roots} {order} {p} {ns} {f} {lent} {h} b e =
 -- is imported is the same.
 pub alike-back : {s t : Settings} {σ : Store} {roots : List ℤ} {order others : List ℕ} {p q : Lent} {ns ms f g : List ℕ} {lent : ℕ}
     {h k : Header} → ReadsBack s σ roots order p ns f lent → ReadsBack t σ roots others q ms g lent → answerOf f ≡ header h → answerOf g ≡ header k
-    → Alike (importBy f h σ (supportOf σ ns) lent) (importBy g k σ (supportOf σ ms) lent)
+    → ReadAlike (importBy f h σ (supportOf σ ns) lent) (importBy g k σ (supportOf σ ms) lent)
 alike-back b c d e =
     let x = led-back b d in
     let y = led-back c e in
@@ -47,7 +47,7 @@ module _ (σ : Store) (roots : List ℤ) (order : List ℕ) (p : Lent) (slots nu
   binary = fileOf (settings version false dd) σ roots order p ms
 
   pub text-as-binary : (lent : ℕ) {h k : Header} → answerOf text ≡ header h → answerOf binary ≡ header k
-      → Alike (importBy text h σ (supportOf σ ns) lent) (importBy binary k σ (supportOf σ ms) lent)
+      → ReadAlike (importBy text h σ (supportOf σ ns) lent) (importBy binary k σ (supportOf σ ms) lent)
   text-as-binary lent =
       alike-back
       (reads-back slots numbers out e a (settings version true dd) lent)

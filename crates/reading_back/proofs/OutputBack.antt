@@ -11,7 +11,7 @@ use Rattle.header_values.proofs.Padded.{take-laid}
 use Rattle.heading.specs.Tables.{Lent}
 use Rattle.exported.specs.Settings.{Settings}
 use Rattle.exported.specs.Export.{exportFault, fileOf}
-use Rattle.exporter.specs.Promise.{ofExported, Writes, Exports}
+use Rattle.exporter.specs.Promise.{ofExported, Writes, ExportsBy}
 use Rattle.exporter.specs.declared.Exported.{Exported}
 use Rattle.exported.proofs.Accepted.{Accepted, accepted}
 use Rattle.exported.proofs.FileParts.{file-short}
@@ -40,10 +40,10 @@ module _ {s : Settings} {σ : Store} {roots : List ℤ} {order : List ℕ} {p : 
       record { nodes = w .nodes; file = file; back = rw file (accepted-back A (w .allowed) s room) }
 
   -- So where the answer of an export is a length, so many bytes of its output read back.
-  pub exports-back : Exports (exportFault σ roots order p slots numbers lent) s σ roots order p lent r out → (room : ℕ)
+  pub exports-back : ExportsBy (exportFault σ roots order p slots numbers lent) s σ roots order p lent r out → (room : ℕ)
       → OutputBack s σ roots order p n out room
   exports-back w room = go (exportFault σ roots order p slots numbers lent) refl w
     where
-      go : (k : ℕ) → exportFault σ roots order p slots numbers lent ≡ k → Exports k s σ roots order p lent r out → OutputBack s σ roots order p n out room
+      go : (k : ℕ) → exportFault σ roots order p slots numbers lent ≡ k → ExportsBy k s σ roots order p lent r out → OutputBack s σ roots order p n out room
       go zero e w = writes-back e w room
       go (suc k) e w = let a = w .answer in absurd (let z : _≡_ {A = ℕ} 0 1 = cc in omega arith)

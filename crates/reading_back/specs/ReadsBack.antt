@@ -47,7 +47,7 @@ pub record GivesBack (σ : Store) (roots : List ℤ) (lent : ℕ) (r : Imported)
   pub same : r .roots ≡ laid roots (replicate lent (pos 0))
 
 -- Two imports leave the same store and the same roots.
-pub record Alike (r q : Imported) : Type 0 where
+pub record ReadAlike (r q : Imported) : Type 0 where
   pub store : r .after ≡ q .after
   pub roots : r .roots ≡ q .roots
 

@@ -9,11 +9,11 @@ use lib.ListN.{length, getD, drop, length-map, List·getD-map}
 use lib.Seq.{getD-take, getD-drop}
 use borrow.Author.Tests.{eq-eqb}
 use Rattle.read_text.specs.Text.{Place}
-use Rattle.variable_names.specs.Names.{empty, sameBytes, sameName, sameNames}
+use Rattle.variable_names.specs.Names.{emptyName, sameBytes, sameName, sameNames}
 use Rattle.variable_names.specs.Names as places
 use Rattle.export_names.specs.Names.{nameAt}
 use Rattle.header_checks.specs.Names.{agree}
-use Rattle.heading.specs.Heading.{chosen}
+use Rattle.heading.specs.Heading.{chosenNames}
 use Rattle.reading_header.specs.ValuesBack.{Named}
 
 -- bytes that are the same, one by one
@@ -44,22 +44,22 @@ same-name f p q e l = rw (eq-eqb (p .len) (q .len) l) (same-bytes f (p .start) (
 
 module _ {f : List ℕ} {ps : List Place} {names : List (List ℕ)} (n : Named f ps names) where
   -- the name at a position, and how many there are
-  pub name-at : (i : ℕ) → nameAt f (getD ps i empty) ≡ getD names i []
-  name-at i = sym (List·getD-map (nameAt f) ps i empty) ∙ ap (λ l. getD l i []) (n .there)
+  pub name-at : (i : ℕ) → nameAt f (getD ps i emptyName) ≡ getD names i []
+  name-at i = sym (List·getD-map (nameAt f) ps i emptyName) ∙ ap (λ l. getD l i []) (n .there)
 
   pub names-count : length ps ≡ length names
   names-count = sym (length-map ps (nameAt f)) ∙ ap length (n .there)
 
 module _ {f : List ℕ} {ps qs : List Place} {names others : List (List ℕ)} (m : Named f ps names) (n : Named f qs others) where
-  same-names : (is js : List ℕ) → chosen is names ≡ chosen js others → sameNames f (places.chosen is ps) (places.chosen js qs) ≡ true
-  unfolding sameNames chosen places.chosen
+  same-names : (is js : List ℕ) → chosenNames is names ≡ chosenNames js others → sameNames f (places.chosenPlaces is ps) (places.chosenPlaces js qs) ≡ true
+  unfolding sameNames chosenNames places.chosenPlaces
   same-names [] js e = refl
   same-names (i ∷ is) [] e = refl
   same-names (i ∷ is) (j ∷ js) e =
       let h : getD names i [] ≡ getD others j [] = cc in
-      let l : getD ps i empty .len ≡ getD qs j empty .len = m .long i ∙ ap length h ∙ sym (n .long j) in
-      rw (same-name f (getD ps i empty) (getD qs j empty) (name-at m i ∙ h ∙ sym (name-at n j)) l) (same-names is js (cc))
+      let l : getD ps i emptyName .len ≡ getD qs j emptyName .len = m .long i ∙ ap length h ∙ sym (n .long j) in
+      rw (same-name f (getD ps i emptyName) (getD qs j emptyName) (name-at m i ∙ h ∙ sym (name-at n j)) l) (same-names is js (cc))
 
-  pub names-agree : (is js : List ℕ) → chosen is names ≡ chosen js others → agree f ps is qs js ≡ true
+  pub names-agree : (is js : List ℕ) → chosenNames is names ≡ chosenNames js others → agree f ps is qs js ≡ true
   unfolding agree
   names-agree is js e = rw (same-names is js e, or-true (eqb (length qs) 0)) (or-true (eqb (length ps) 0))

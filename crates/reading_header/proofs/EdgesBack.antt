@@ -54,7 +54,7 @@ module _ (e : ℤ) (h : natAbs e < 2 ^ 63) where
         small = rw (says .value) h;
       }
 
-  lone-is : (at : ℕ) → signed (lone at .negative) (read.decimal (lone at .digits)) ≡ e
+  lone-is : (at : ℕ) → signed (lone at .negative) (read.decimalValue (lone at .digits)) ≡ e
   unfolding lone
   lone-is at = ap (signed (minus e)) (says .value) ∙ edge-signed e
 

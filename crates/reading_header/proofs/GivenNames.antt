@@ -11,11 +11,11 @@ use Rattle.codes.specs.declared.DDDMPVersion.{DDDMPVersion}
 use Rattle.codes.specs.declared.DDDMPVersion.the-variants.{«V2_0», «V3_0»}
 use Rattle.read_text.specs.Text.{Place}
 use Rattle.seats.specs.Seats.{seatOf}
-use Rattle.variable_names.specs.Names.{empty, variableNames}
+use Rattle.variable_names.specs.Names.{emptyName, variableNames}
 use Rattle.header_checks.specs.Names.{upFrom, agree}
 use Rattle.header_checks.proofs.Agreeing.{first-missing}
 use Rattle.export_names.specs.Names.{nameAt}
-use Rattle.heading.specs.Heading.{Heading, chosen}
+use Rattle.heading.specs.Heading.{Heading, chosenNames}
 use Rattle.reading_header.specs.HeadWords.{idsOf, levelsOf, allNames, suppNames, orderedNames, named, varnameWords, suppvarnameWords, orderedvarnameWords}
 use Rattle.reading_header.specs.HeaderBack.{Fit, AllOrNone}
 use Rattle.reading_header.specs.ValuesBack.{Named}
@@ -56,18 +56,18 @@ module _ (h : Heading) (f : List ℕ) (vp op sp : List Place) where
 
 module _ {h : Heading} (fit : Fit h) where
   -- the names of the support variables: by their permids, and one by one
-  by-permids : chosen (levelsOf h) (orderedNames h) ≡ suppNames h
+  by-permids : chosenNames (levelsOf h) (orderedNames h) ≡ suppNames h
   by-permids = permids-names (length (h .order)) (h .order) (fit .order) (h .support) (h .names)
 
   abbrev positions : List ℕ
   positions = upFrom (length (h .support)) 0
 
-  one-by-one : chosen positions (suppNames h) ≡ suppNames h
-  one-by-one = ap (λ k. chosen (upFrom k 0) (suppNames h)) (sym (supp-names-counted fit)) ∙ names-in-order (suppNames h)
+  one-by-one : chosenNames positions (suppNames h) ≡ suppNames h
+  one-by-one = ap (λ k. chosenNames (upFrom k 0) (suppNames h)) (sym (supp-names-counted fit)) ∙ names-in-order (suppNames h)
 
   -- `.varnames` agrees with a list that has the names of the support variables at some positions: it has them too, or isn't given.
   varnames-by : {f : List ℕ} {vp qs : List Place} {names : List (List ℕ)} (version : DDDMPVersion)
-      → Named f vp (allNames version (h .names)) → Named f qs names → (is : List ℕ) → chosen is names ≡ suppNames h
+      → Named f vp (allNames version (h .names)) → Named f qs names → (is : List ℕ) → chosenNames is names ≡ suppNames h
       → agree f vp (idsOf h) qs is ≡ true
   varnames-by {f} {vp} {qs} «V2_0» v q is e = sym (first-missing f vp (idsOf h) qs is refl (names-count v))
   varnames-by «V3_0» v q is e = names-agree v q (idsOf h) is (sym e)
@@ -113,7 +113,7 @@ module _ {h : Heading} (fit : Fit h) where
   -- Each support variable has its own,
   module _ (v : ℕ) (seated : 1 ≤ seatOf v (idsOf h)) {f : List ℕ} where
     name-read : (vp op sp : List Place) (version : DDDMPVersion) → Named f vp (allNames version (h .names)) → Named f op (orderedNames h)
-        → nameAt f (getD (read vp op sp) v empty) ≡ getD (h .names) v []
+        → nameAt f (getD (read vp op sp) v emptyName) ≡ getD (h .names) v []
     unfolding variableNames
     name-read (p ∷ vp) op sp «V2_0» a o = absurd (omega (arith, names-count a))
     name-read (p ∷ vp) op sp «V3_0» a o = name-at a v
@@ -121,7 +121,7 @@ module _ {h : Heading} (fit : Fit h) where
     name-read [] [] sp version a o =
         absurd (omega (arith, names-count o, ordered-names-counted fit, id-low (length (h .order)) (h .order) (fit .order) (h .support) v seated))
 
-    pub supp-name-back : {vp op sp : List Place} → Given h f vp op sp → nameAt f (getD (read vp op sp) v empty) ≡ getD (h .names) v []
+    pub supp-name-back : {vp op sp : List Place} → Given h f vp op sp → nameAt f (getD (read vp op sp) v emptyName) ≡ getD (h .names) v []
     supp-name-back (inl a) = name-read _ _ _ (h .version) (a .varnames) (a .orderedvarnames)
     supp-name-back (inr z) =
         let e : length (h .names) ≤ v = omega (arith, z .unnamed) in rw (none-read z) (sym (List·getD-eq-default (h .names) [] e))

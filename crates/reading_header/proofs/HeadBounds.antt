@@ -16,7 +16,7 @@ use Rattle.seats.specs.Seats.{seatOf}
 use Rattle.seats.proofs.Seating.{seat-most}
 use Rattle.support.proofs.Ascending.{ids-below}
 use Rattle.support.proofs.Distinct.{permids-below}
-use Rattle.heading.specs.Heading.{Heading, variablesFrom, chosen}
+use Rattle.heading.specs.Heading.{Heading, variablesFrom, chosenNames}
 use Rattle.reading_header.specs.HeadWords.{idsOf, levelsOf, allNames, suppNames, orderedNames, named, varnameWords, suppvarnameWords, orderedvarnameWords, FewNames}
 use Rattle.reading_header.specs.HeaderBack.{AllOrNone, Fit}
 use Rattle.reading_header.proofs.Elements.{each-by, each-map, each-at, each-by-position}
@@ -35,12 +35,12 @@ variables-counted order zero l = refl
 variables-counted order (suc k) l = ap suc (variables-counted order k (l + 1))
 
 -- chosen names are some of all
-chosen-each : {P : List ℕ → Type 0} {vs : List ℕ} {names : List (List ℕ)} → Each P names → Each (λ v. v < length names) vs → Each P (chosen vs names)
-unfolding chosen
+chosen-each : {P : List ℕ → Type 0} {vs : List ℕ} {names : List (List ℕ)} → Each P names → Each (λ v. v < length names) vs → Each P (chosenNames vs names)
+unfolding chosenNames
 chosen-each ps = each-map _ (λ v h. each-at v [] h ps)
 
-chosen-counted : (vs : List ℕ) (names : List (List ℕ)) → length (chosen vs names) ≡ length vs
-unfolding chosen
+chosen-counted : (vs : List ℕ) (names : List (List ℕ)) → length (chosenNames vs names) ≡ length vs
+unfolding chosenNames
 chosen-counted vs names = length-map vs (λ v. getD names v [])
 
 -- names of all, or none

@@ -13,7 +13,7 @@ use Rattle.header_keys.specs.declared.Key.{Key}
 use Rattle.header_keys.specs.declared.Key.the-variants.{Ver, Mode, Varinfo, Dd, Nnodes, Nvars, Nsuppvars, Nroots, Nodes, Varnames, Suppvarnames, Orderedvarnames, Ids, Permids, Rootids, Rootnames}
 use Rattle.header_keys.specs.Keys.{slotOf}
 use Rattle.header_faults.specs.Judge.{faultOf}
-use Rattle.header_values.specs.Values.{Known}
+use Rattle.header_values.specs.Values.{KnownKey}
 use Rattle.heading.specs.Lines.{HeaderLine, line}
 use Rattle.heading.specs.Heading.{Heading, versionText, modeText}
 use Rattle.export_names.proofs.FitNames.{fit-line}
@@ -42,7 +42,7 @@ pub record Sound (l : HeaderLine) : Type 0 where
   pub faultless : Faultless l
 
 -- a line of plain words
-plain-sound : (k : Key) {ws : List (List ℕ)} → Known k → eqb (slotOf k) (slotOf Nodes) ≡ false → Each Plain ws
+plain-sound : (k : Key) {ws : List (List ℕ)} → KnownKey k → eqb (slotOf k) (slotOf Nodes) ≡ false → Each Plain ws
     → ((at : ℕ) → faultOf k at (joined ws) ≡ 0) → Sound (line k ws)
 plain-sound k {ws} n e p f = record {
   written = record { known = n; words = each-by (λ w q. q .line) p };

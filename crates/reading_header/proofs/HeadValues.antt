@@ -13,12 +13,12 @@ use Rattle.read_lines.specs.Each.{Each, none, each}
 use Rattle.header_keys.specs.declared.Key.{Key}
 use Rattle.header_keys.specs.declared.Key.the-variants.{Mode, Varinfo, Dd, Nnodes, Nvars, Nsuppvars, Nroots, Varnames, Suppvarnames, Orderedvarnames, Ids, Permids, Auxids, Rootids, Rootnames}
 use Rattle.header_keys.specs.Keys.{slotOf}
-use Rattle.header_values.specs.Values.{Known}
+use Rattle.header_values.specs.Values.{KnownKey}
 use Rattle.writers.specs.Decimal.{decimal, edgeText}
 use Rattle.heading.specs.Lines.{HeaderLine, line}
 use Rattle.heading.specs.Heading.{Heading, modeText, unlessEmpty, varnameLines, namedLines, introLines, countLines, idLines, rootLines}
 use Rattle.reading_header.specs.Joined.{Plain, joined, withoutFront, withoutBack, trimmed}
-use Rattle.reading_header.specs.Spans.{valueFrom}
+use Rattle.reading_header.specs.Spans.{lastLineValue}
 use Rattle.reading_header.specs.HeadWords.{idsOf, levelsOf, allNames, suppNames, orderedNames, named, varnameWords, suppvarnameWords, orderedvarnameWords}
 use Rattle.reading_header.proofs.WordsBack.{joined-one}
 use Rattle.reading_header.proofs.LineValues.{value-single, value-joined}
@@ -50,22 +50,22 @@ groups-numbered h =
 
 -- A group that isn't a key's says nothing of it, so that its value is found in its own.
 module _ (k : Key) where
-  skipped : (n : ℕ) {ls : List HeaderLine} (v : List ℕ) → Grouped n ls → (groupOf k ≡ n → ⊥) → valueFrom v k ls ≡ v
-  unfolding valueFrom
+  skipped : (n : ℕ) {ls : List HeaderLine} (v : List ℕ) → Grouped n ls → (groupOf k ≡ n → ⊥) → lastLineValue v k ls ≡ v
+  unfolding lastLineValue
   skipped n v none h = refl
   skipped n v (each {a = l} g gs) h = rw (ne-eqb (slotOf k) (slotOf (l .key)) (λ e. h (ap groupAt e ∙ g))) (skipped n v gs h)
 
-  all-skipped : {n : ℕ} {gs : List (List HeaderLine)} (v : List ℕ) → Groups n gs → groupOf k < n → valueFrom v k (together gs) ≡ v
-  unfolding together valueFrom
+  all-skipped : {n : ℕ} {gs : List (List HeaderLine)} (v : List ℕ) → Groups n gs → groupOf k < n → lastLineValue v k (together gs) ≡ v
+  unfolding together lastLineValue
   all-skipped v last h = refl
   all-skipped {n} v (next {g = g} {gs = gs} p ps) h =
       value-append k v g (together gs) ∙ rw (skipped n v p (λ e. omega arith)) (all-skipped v ps (omega arith))
 
   in-group : {n : ℕ} {gs : List (List HeaderLine)} (i : ℕ) (v : List ℕ) → Groups n gs → groupOf k ≡ n + i
-      → valueFrom v k (together gs) ≡ valueFrom v k (getD gs i [])
-  unfolding together valueFrom
+      → lastLineValue v k (together gs) ≡ lastLineValue v k (getD gs i [])
+  unfolding together lastLineValue
   in-group i v last e = refl
-  in-group zero v (next {g = g} {gs = gs} p ps) e = value-append k v g (together gs) ∙ all-skipped (valueFrom v k g) ps (omega arith)
+  in-group zero v (next {g = g} {gs = gs} p ps) e = value-append k v g (together gs) ∙ all-skipped (lastLineValue v k g) ps (omega arith)
   in-group {n} (suc i) v (next {g = g} {gs = gs} p ps) e =
       value-append k v g (together gs) ∙ rw (skipped n v p (λ q. omega arith)) (in-group i v ps (omega arith))
 
@@ -89,39 +89,39 @@ pub record HeadValues (h : Heading) (said : Key → List ℕ) : Type 0 where
 
 -- a line that may be left out says nothing of another key
 unless-other : {A : Type 0} (k : Key) (l : HeaderLine) (v : List ℕ) (s : List A) → eqb (slotOf k) (slotOf (l .key)) ≡ false
-    → valueFrom v k (unlessEmpty s l) ≡ v
-unfolding valueFrom
+    → lastLineValue v k (unlessEmpty s l) ≡ v
+unfolding lastLineValue
 unless-other k l v [] e = refl
 unless-other k l v (a ∷ s) e = rw e
 
 module _ (h : Heading) (p : EachLine PlainLine h) (said : Key → List ℕ)
-    (look : (k : Key) → Known k → said k ≡ valueFrom [] k (together (groupsOf h))) where
+    (look : (k : Key) → KnownKey k → said k ≡ lastLineValue [] k (together (groupsOf h))) where
   -- by the key's group
-  found : (k : Key) → Known k → said k ≡ valueFrom [] k (getD (groupsOf h) (groupOf k) [])
+  found : (k : Key) → KnownKey k → said k ≡ lastLineValue [] k (getD (groupsOf h) (groupOf k) [])
   found k n = look k n ∙ in-group k (groupOf k) [] (groups-numbered h) (omega arith)
 
   -- the diagram's name, if there is one
   dd-found : said Dd ≡ trimmed (h .dd)
-  unfolding introLines valueFrom trimmed withoutFront withoutBack
+  unfolding introLines lastLineValue trimmed withoutFront withoutBack
   dd-found = found Dd (omega arith) ∙ by (h .dd)
     where
-      by : (dd : List ℕ) → valueFrom [] Dd (introLines (h .version) (h .ascii) dd) ≡ trimmed dd
+      by : (dd : List ℕ) → lastLineValue [] Dd (introLines (h .version) (h .ascii) dd) ≡ trimmed dd
       by [] = refl
       by (b ∷ dd) = value-single Dd (b ∷ dd)
 
   -- names, if there are such
   rootnames-found : said Rootnames ≡ joined (h .rootnames)
-  unfolding rootLines valueFrom joined
+  unfolding rootLines lastLineValue joined
   rootnames-found = found Rootnames (omega arith) ∙ by (h .rootnames) (p .rootnames)
     where
-      by : (names : List (List ℕ)) → Each Plain names → valueFrom [] Rootnames (rootLines (h .rootids) names) ≡ joined names
+      by : (names : List (List ℕ)) → Each Plain names → lastLineValue [] Rootnames (rootLines (h .rootids) names) ≡ joined names
       by [] k = refl
       by (w ∷ names) k = value-joined (line Rootnames (w ∷ names)) k
 
   -- the names of variables
   names-found : (said Varnames ≡ joined (varnameWords h)) × (said Suppvarnames ≡ joined (suppvarnameWords h))
       × (said Orderedvarnames ≡ joined (orderedvarnameWords h))
-  unfolding namedLines varnameWords suppvarnameWords orderedvarnameWords valueFrom joined
+  unfolding namedLines varnameWords suppvarnameWords orderedvarnameWords lastLineValue joined
   names-found =
       let q = by (named h) (h .version) (p .varnames) (p .suppvarnames) (p .orderedvarnames) in
       (found Varnames (omega arith) ∙ q .0, found Suppvarnames (omega arith) ∙ q .1, found Orderedvarnames (omega arith) ∙ q .2)
@@ -129,16 +129,16 @@ module _ (h : Heading) (p : EachLine PlainLine h) (said : Key → List ℕ)
       by : (b : Bool) (v : DDDMPVersion)
           → Each Plain (cond b (allNames v (h .names)) []) → Each Plain (cond b (suppNames h) []) → Each Plain (cond b (orderedNames h) [])
           → let ls = cond b (varnameLines v (h .names) ++ (line Suppvarnames (suppNames h) ∷ line Orderedvarnames (orderedNames h) ∷ [])) [] in
-          (valueFrom [] Varnames ls ≡ joined (cond b (allNames v (h .names)) []))
-          × (valueFrom [] Suppvarnames ls ≡ joined (cond b (suppNames h) []))
-          × (valueFrom [] Orderedvarnames ls ≡ joined (cond b (orderedNames h) []))
+          (lastLineValue [] Varnames ls ≡ joined (cond b (allNames v (h .names)) []))
+          × (lastLineValue [] Suppvarnames ls ≡ joined (cond b (suppNames h) []))
+          × (lastLineValue [] Orderedvarnames ls ≡ joined (cond b (orderedNames h) []))
       by true «V2_0» v s o = (refl, value-joined _ s, value-joined _ o)
       by true «V3_0» v s o = (value-joined _ v, value-joined _ s, value-joined _ o)
       by false version v s o = (refl, refl, refl)
 
   -- A reader who finds the last value of each key finds what the header says.
   pub head-values : HeadValues h said
-  unfolding introLines countLines idLines rootLines valueFrom
+  unfolding introLines countLines idLines rootLines lastLineValue
   head-values = record {
     mode = found Mode (omega arith) ∙ unless-other Mode _ _ (h .dd) refl ∙ value-joined _ (p .mode) ∙ joined-one _;
     varinfo = found Varinfo (omega arith) ∙ unless-other Varinfo _ _ (h .dd) refl ∙ value-joined _ (p .varinfo) ∙ joined-one _;

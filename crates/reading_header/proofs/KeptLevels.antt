@@ -17,7 +17,7 @@ use Rattle.reached.specs.Walk.{isIn}
 use Rattle.reached.proofs.Entries.{never, in-cons, in-here, in-rest, once-head, once-tail, once-cons}
 use Rattle.reached.proofs.Members.{in-none, cons-cases}
 use Rattle.heading.specs.Heading.{idsFrom, permidsOf}
-use Rattle.reading_header.specs.HeaderBack.{variableAt}
+use Rattle.reading_header.specs.HeaderBack.{variableOfLevel}
 
 -- what holds of both lists holds of the chosen one
 either : (P : List ℕ → Type 0) {l m : List ℕ} (b : Bool) → P l → P m → P (cond b l m)
@@ -107,14 +107,14 @@ module _ (support : List ℕ) where
 
   -- Each has its level's variable, where those of all levels given are v, v + 1, ..
   pub variables-from : (order : List ℕ) (v : ℕ) (ls : List ℕ) → ((i : ℕ) → i < length ls → seatOf (getD ls i 0) order ≡ v + i + 1)
-      → map (variableAt order) (permidsOf support ls) ≡ idsFrom support v ls
+      → map (variableOfLevel order) (permidsOf support ls) ≡ idsFrom support v ls
   unfolding permidsOf idsFrom
   variables-from order v [] h = refl
   variables-from order v (l ∷ ls) h = go (isIn l support) (variables-from order (v + 1) ls (λ i k. h (suc i) (omega arith) ∙ omega arith))
     where
-      go : (b : Bool) {is : List ℕ} → map (variableAt order) (permidsOf support ls) ≡ is
-          → map (variableAt order) (cond b (l ∷ permidsOf support ls) (permidsOf support ls)) ≡ cond b (v ∷ is) is
-      go true e = let z : variableAt order l ≡ v = omega (arith, h 0 (omega arith)) in rw (z, e)
+      go : (b : Bool) {is : List ℕ} → map (variableOfLevel order) (permidsOf support ls) ≡ is
+          → map (variableOfLevel order) (cond b (l ∷ permidsOf support ls) (permidsOf support ls)) ≡ cond b (v ∷ is) is
+      go true e = let z : variableOfLevel order l ≡ v = omega (arith, h 0 (omega arith)) in rw (z, e)
       go false e = e
 
 -- Where no level has a line none is kept.

@@ -5,13 +5,13 @@ use Rattle.header_keys.specs.declared.Key.{Key}
 use Rattle.header_keys.specs.declared.Key.the-variants.{Ver, Mode, Varinfo, Dd, Nnodes, Nvars, Nsuppvars, Nroots, Nodes, Varnames, Suppvarnames, Orderedvarnames, Ids, Permids, Auxids, Rootids, Rootnames, Unknown}
 use Rattle.read_text.specs.Alike.{alike}
 use Rattle.header_keys.specs.Keys.{lookup, keyOf}
-use Rattle.header_values.specs.Values.{Known}
+use Rattle.header_values.specs.Values.{KnownKey}
 use Rattle.heading.specs.Lines.{keyText}
 use Rattle.reading_header.specs.Joined.{Plain}
 use Rattle.reading_header.proofs.Plain.{literal-plain}
 
 -- A key is a plain word.
-pub key-plain : (k : Key) → Known k → Plain (keyText k)
+pub key-plain : (k : Key) → KnownKey k → Plain (keyText k)
 key-plain Ver h = literal-plain 0x2e _ refl
 key-plain Mode h = literal-plain 0x2e _ refl
 key-plain Varinfo h = literal-plain 0x2e _ refl

@@ -13,11 +13,11 @@ use Rattle.read_lines.specs.Line.{isOf, seek, trim, lineOf, fieldOf}
 use Rattle.read_lines.specs.declared.Class.the-variants.{Feed, LineEnd, Blank}
 use Rattle.read_lines.proofs.Searches.{seek-found, seek-end, line-ended, field-parts}
 use Rattle.header_lines.specs.Sweep.{part, keyAt, valueAt}
-use Rattle.header_values.specs.Values.{Known}
+use Rattle.header_values.specs.Values.{KnownKey}
 use Rattle.writers.specs.Words.{spaced}
 use Rattle.heading.specs.Lines.{HeaderLine, keyText, lineText}
 use Rattle.reading_header.specs.Joined.{OnLine, Plain, trimmed, withoutFront, withoutBack}
-use Rattle.reading_header.specs.Spans.{indent, valueOf, startAt, spanOf}
+use Rattle.reading_header.specs.Spans.{indent, lineValue, startAt, spanOf}
 use Rattle.reading_header.proofs.Elements.{each-by, each-append}
 use Rattle.reading_header.proofs.Plain.{plain-some}
 use Rattle.reading_header.proofs.Standing.{stands-first, stands-after, stands-inside}
@@ -41,7 +41,7 @@ spaced-on-line (each h k) = each refl (each-append h (spaced-on-line k))
 
 -- A line that is found again: its key is one of the header's, and its words have no line end.
 pub record Written (l : HeaderLine) : Type 0 where
-  pub known : Known (l .key)
+  pub known : KnownKey (l .key)
   pub words : Each OnLine (l .words)
 
 -- What is found: its key, where its value stands and that value's bytes, and where the next line starts.
@@ -49,7 +49,7 @@ pub record LineBack (f : List ℕ) (at : ℕ) (l : HeaderLine) : Type 0 where
   pub inside : at < length f
   pub key : keyAt f at ≡ l .key
   pub value : valueAt f at ≡ spanOf at l
-  pub bytes : part f (spanOf at l .start) (spanOf at l .end) ≡ valueOf l
+  pub bytes : part f (spanOf at l .start) (spanOf at l .end) ≡ lineValue l
   pub next : lineOf f at .next ≡ at + length (lineText l)
 
 -- The line stands at a position: its key k, its words m with a space before each, and a feed.
@@ -139,7 +139,7 @@ module _ (f : List ℕ) (at : ℕ) (l : HeaderLine) (r : List ℕ) (e : drop at 
 
   -- So the line is found.
   pub line-back : LineBack f at l
-  unfolding spanOf valueOf startAt
+  unfolding spanOf lineValue startAt
   line-back = record {
     inside = omega (arith, stop-inside);
     key = rw (line-found, field-found, key-bytes) (key-back (l .key));

@@ -11,13 +11,13 @@ use Rattle.header_keys.specs.declared.Key.{Key}
 use Rattle.writers.specs.Words.{spaced}
 use Rattle.heading.specs.Lines.{HeaderLine, line}
 use Rattle.reading_header.specs.Joined.{joined, Plain, kept, withoutFront, withoutBack, trimmed}
-use Rattle.reading_header.specs.Spans.{valueOf}
+use Rattle.reading_header.specs.Spans.{lineValue}
 use Rattle.reading_header.proofs.Elements.{each-at}
 use Rattle.reading_header.proofs.Plain.{plain-some}
 
 -- The space before the first word is trimmed off,
-value-trimmed : (l : HeaderLine) → valueOf l ≡ trimmed (joined (l .words))
-unfolding valueOf trimmed withoutFront joined spaced isBlank
+value-trimmed : (l : HeaderLine) → lineValue l ≡ trimmed (joined (l .words))
+unfolding lineValue trimmed withoutFront joined spaced isBlank
 value-trimmed l = by (l .words)
   where
     by : (ws : List (List ℕ)) → trimmed (spaced ws) ≡ trimmed (joined ws)
@@ -25,7 +25,7 @@ value-trimmed l = by (l .words)
     by (w ∷ ws) = refl
 
 -- so that a line of one word has that as its value, trimmed.
-pub value-single : (k : Key) (w : List ℕ) → valueOf (line k (w ∷ [])) ≡ trimmed w
+pub value-single : (k : Key) (w : List ℕ) → lineValue (line k (w ∷ [])) ≡ trimmed w
 unfolding joined spaced
 value-single k w = value-trimmed (line k (w ∷ [])) ∙ rw append-nil
 
@@ -61,5 +61,5 @@ words-trimmed (each {a = []} p ps) = absurd (p .text .some refl)
 words-trimmed (each {a = b ∷ w} p ps) = let h = each-at 0 0 (omega arith) (p .text .free) in rw h (spaced-back p ps)
 
 -- The value of a line of words has these with a space between two.
-pub value-joined : (l : HeaderLine) → Each Plain (l .words) → valueOf l ≡ joined (l .words)
+pub value-joined : (l : HeaderLine) → Each Plain (l .words) → lineValue l ≡ joined (l .words)
 value-joined l h = value-trimmed l ∙ words-trimmed h

@@ -14,7 +14,7 @@ use Rattle.header_faults.specs.Judge.{faultOf}
 use Rattle.header_lines.specs.Sweep.{Said, Lines, nodes, atNodes, linesFrom, linesOf, endFrom, endOf, allOf}
 use Rattle.header_lines.specs.Sweep as sweep
 use Rattle.heading.specs.Lines.{HeaderLine, line, lineText, linesText}
-use Rattle.reading_header.specs.Spans.{valueOf, spanOf, saidFrom}
+use Rattle.reading_header.specs.Spans.{lineValue, spanOf, saidFrom}
 use Rattle.reading_header.proofs.Standing.{stands-after}
 use Rattle.reading_header.proofs.LineBack.{Written, LineBack, line-back}
 
@@ -37,7 +37,7 @@ Early l = eqb (slotOf (l .key)) (slotOf Nodes) ≡ false
 
 -- a line without a fault, wherever its value stands
 abbrev pub Faultless : HeaderLine → Type 0
-Faultless l = (at : ℕ) → faultOf (l .key) at (valueOf l) ≡ 0
+Faultless l = (at : ℕ) → faultOf (l .key) at (lineValue l) ≡ 0
 
 -- the lines of a sweep that ends with `.nodes`
 unfoldable upToNodes : List Said → ℕ → Lines

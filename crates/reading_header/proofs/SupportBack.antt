@@ -25,7 +25,7 @@ use Rattle.variable_order.proofs.Permutation.{few-differ, order-distinct, varia
 use Rattle.export_nodes.proofs.TableLines.{map-at}
 use Rattle.heading.specs.Heading.{Heading, idsFrom, permidsOf}
 use Rattle.reading_header.specs.HeadWords.{idsOf, levelsOf}
-use Rattle.reading_header.specs.HeaderBack.{Fit, variableAt}
+use Rattle.reading_header.specs.HeaderBack.{Fit, variableOfLevel}
 use Rattle.reading_header.proofs.KeptLevels.{in-other, kept-in, kept-fit, ids-fit, variables-from, none-kept, kept-same, kept-more}
 
 -- Where levels ascend, one lower than the first is none of them,
@@ -112,35 +112,35 @@ module _ (n : ℕ) (order : List ℕ) (perm : isOrder n order ≡ true) where
     permids = permidsOf support order
 
     -- The variables of the permids are the ids,
-    pub variables-ids : map (variableAt order) permids ≡ ids
+    pub variables-ids : map (variableOfLevel order) permids ≡ ids
     variables-ids = variables-from support order 0 order (λ v h. variable-seat n order perm v h ∙ omega arith)
 
     pub ids-counted : length ids ≡ length permids
-    ids-counted = ap length (sym variables-ids) ∙ length-map permids (variableAt order)
+    ids-counted = ap length (sym variables-ids) ∙ length-map permids (variableOfLevel order)
 
     -- each at its permid's position.
-    pub id-there : (i : ℕ) → i < length permids → getD ids i 0 ≡ variableAt order (getD permids i 0)
-    id-there i h = ap (λ l. getD l i 0) (sym variables-ids) ∙ map-at (variableAt order) permids i 0 0 h
+    pub id-there : (i : ℕ) → i < length permids → getD ids i 0 ≡ variableOfLevel order (getD permids i 0)
+    id-there i h = ap (λ l. getD l i 0) (sym variables-ids) ∙ map-at (variableOfLevel order) permids i 0 0 h
 
     -- the variable of a level, where that has a line
     order-one : (p : ℕ) → p < n → (b : Bool) → isIn p support ≡ b → (more : List ℕ)
-        → seated (seatOf p permids) ids (map (variableAt order) more) ≡ map (variableAt order) (cond b (p ∷ more) more)
+        → seated (seatOf p permids) ids (map (variableOfLevel order) more) ≡ map (variableOfLevel order) (cond b (p ∷ more) more)
     order-one p h true e more =
         let s = in-seat p permids (kept-in support p order ∙ rw (seat-in p order (level-seated n order perm p h), e)) in
         let i : seatOf p permids ≡ suc (seatOf p permids - 1) = omega arith in
         rw (i, id-there (seatOf p permids - 1) (omega (arith, seat-most p permids)), seat-found p permids s)
     order-one p h false e more = rw (out-seat p permids (kept-in support p order ∙ rw (e, and-false (isIn p order))))
 
-    order-from : (k p : ℕ) → p + k ≡ n → orderFrom k p ids permids ≡ map (variableAt order) (permidsOf support (upFrom k p))
+    order-from : (k p : ℕ) → p + k ≡ n → orderFrom k p ids permids ≡ map (variableOfLevel order) (permidsOf support (upFrom k p))
     unfolding orderFrom permidsOf upFrom
     order-from zero p e = refl
     order-from (suc k) p e =
         rw (order-from k (p + 1) (omega arith)) (order-one p (omega arith) (isIn p support) refl (permidsOf support (upFrom k (p + 1))))
 
     -- 'Support order is `.ids` arranged by ascending permid': the variables of the levels that have a line, as these ascend.
-    pub order-back : idsFit n support ≡ true → supportOrder n ids permids ≡ map (variableAt order) support
+    pub order-back : idsFit n support ≡ true → supportOrder n ids permids ≡ map (variableOfLevel order) support
     unfolding supportOrder
-    order-back f = order-from n 0 (omega arith) ∙ ap (map (variableAt order)) (up-kept n n 0 support f (all support) (omega arith))
+    order-back f = order-from n 0 (omega arith) ∙ ap (map (variableOfLevel order)) (up-kept n n 0 support f (all support) (omega arith))
       where
         all : (l : List ℕ) → From 0 l
         all [] = tt

@@ -11,10 +11,10 @@ use Rattle.header_keys.specs.Keys.{slotOf}
 use Rattle.header_lines.specs.Sweep.{Span, part, lastFrom, lastOf}
 use Rattle.header_lines.specs.Sweep as sweep
 use Rattle.header_lines.proofs.Lasts.{last-at}
-use Rattle.header_values.specs.Values.{Known, valueIn}
+use Rattle.header_values.specs.Values.{KnownKey, valueIn}
 use Rattle.header.specs.Header.{tableOf}
 use Rattle.heading.specs.Lines.{HeaderLine, lineText}
-use Rattle.reading_header.specs.Spans.{valueOf, spanOf, saidFrom, valueFrom}
+use Rattle.reading_header.specs.Spans.{lineValue, spanOf, saidFrom, lastLineValue}
 use Rattle.reading_header.proofs.LinesBack.{LinesBack, then, Early, closing, all-back}
 
 module _ (f : List ℕ) (k : Key) where
@@ -24,24 +24,24 @@ module _ (f : List ℕ) (k : Key) where
 
   -- the last value among lines, after one that stands at v and has the bytes w
   value-from : (ls : List HeaderLine) (at : ℕ) (v : Span) (w : List ℕ) → LinesBack f at (ls ++ closing) → bytesAt v ≡ w
-      → bytesAt (lastFrom v k (saidFrom at ls)) ≡ valueFrom w k ls
-  unfolding lastFrom saidFrom valueFrom
+      → bytesAt (lastFrom v k (saidFrom at ls)) ≡ lastLineValue w k ls
+  unfolding lastFrom saidFrom lastLineValue
   value-from [] at v w b e = e
   value-from (l ∷ ls) at v w (then b rest) e =
       value-from ls (at + length (lineText l)) _ _ rest (by (eqb (slotOf k) (slotOf (l .key))))
     where
-      by : (t : Bool) → bytesAt (cond t (spanOf at l) v) ≡ cond t (valueOf l) w
+      by : (t : Bool) → bytesAt (cond t (spanOf at l) v) ≡ cond t (lineValue l) w
       by true = b .bytes
       by false = e
 
   -- A key's value in the table is that of the last line with it.
-  pub table-back : (ls : List HeaderLine) → LinesBack f 0 (ls ++ closing) → Each Early ls → Known k → valueIn f (tableOf f) k ≡ valueFrom [] k ls
+  pub table-back : (ls : List HeaderLine) → LinesBack f 0 (ls ++ closing) → Each Early ls → KnownKey k → valueIn f (tableOf f) k ≡ lastLineValue [] k ls
   unfolding tableOf lastOf
-  table-back ls b h n = rw (all-back f ls b h, last-at k (saidFrom 0 ls) n) (value-from ls 0 sweep.none [] b refl)
+  table-back ls b h n = rw (all-back f ls b h, last-at k (saidFrom 0 ls) n) (value-from ls 0 sweep.noSpan [] b refl)
 
 module _ (k : Key) where
   -- The last value among lines and further ones.
-  pub value-append : (v : List ℕ) (ls ms : List HeaderLine) → valueFrom v k (ls ++ ms) ≡ valueFrom (valueFrom v k ls) k ms
-  unfolding valueFrom
+  pub value-append : (v : List ℕ) (ls ms : List HeaderLine) → lastLineValue v k (ls ++ ms) ≡ lastLineValue (lastLineValue v k ls) k ms
+  unfolding lastLineValue
   value-append v [] ms = refl
-  value-append v (l ∷ ls) ms = value-append (cond (eqb (slotOf k) (slotOf (l .key))) (valueOf l) v) ls ms
+  value-append v (l ∷ ls) ms = value-append (cond (eqb (slotOf k) (slotOf (l .key))) (lineValue l) v) ls ms

@@ -25,7 +25,7 @@ use Rattle.header_checks.proofs.Checked.{names-passed}
 use Rattle.export_names.specs.Names.{nameAt}
 use Rattle.heading.specs.Heading.{Heading}
 use Rattle.reading_header.specs.HeadWords.{idsOf}
-use Rattle.reading_header.specs.HeaderBack.{Fit, variableAt}
+use Rattle.reading_header.specs.HeaderBack.{Fit, variableOfLevel}
 use Rattle.reading_header.specs.ValuesBack.{ValuesBack}
 use Rattle.reading_header.proofs.SupportBack.{order-back, supported}
 use Rattle.reading_header.proofs.AgreementBack.{names-count}
@@ -99,7 +99,7 @@ module _ {h : Heading} {f : List ℕ} {t : List Span} (fit : Fit h) (v : ValuesB
   whole-back = sym (names-passed f t numbers (sym support) refl (sym name-counts) refl (sym names) refl (sym roots))
 
   -- the support order is the export's,
-  pub order-read : supportOrder (nvarsIn f t) (u32sIn f t Ids) (u32sIn f t Permids) ≡ map (variableAt (h .order)) (h .support)
+  pub order-read : supportOrder (nvarsIn f t) (u32sIn f t Ids) (u32sIn f t Permids) ≡ map (variableOfLevel (h .order)) (h .support)
   order-read = rw (v .nvars, v .ids, v .permids) (order-back (length (h .order)) (h .order) (fit .order) (h .support) (fit .support))
 
   -- and so are the names: of the support variables, and in version 3.0 of all.

@@ -9,7 +9,7 @@ use Rattle.codes.specs.declared.DDDMPVersion.{DDDMPVersion}
 use Rattle.codes.specs.declared.DDDMPVersion.the-variants.{«V2_0», «V3_0»}
 use Rattle.read_lines.specs.Each.{Each}
 use Rattle.export_names.specs.Names.{fitName}
-use Rattle.heading.specs.Heading.{Heading, idsFrom, permidsOf, variablesFrom, chosen}
+use Rattle.heading.specs.Heading.{Heading, idsFrom, permidsOf, variablesFrom, chosenNames}
 
 -- the support variables, and their levels
 abbrev pub idsOf : Heading → List ℕ
@@ -24,10 +24,10 @@ allNames «V2_0» names = []
 allNames «V3_0» names = names
 
 abbrev pub suppNames : Heading → List (List ℕ)
-suppNames h = chosen (idsOf h) (h .names)
+suppNames h = chosenNames (idsOf h) (h .names)
 
 abbrev pub orderedNames : Heading → List (List ℕ)
-orderedNames h = chosen (variablesFrom (length (h .order)) 0 (h .order)) (h .names)
+orderedNames h = chosenNames (variablesFrom (length (h .order)) 0 (h .order)) (h .names)
 
 -- The words of the three lines of names, which are written where there is a name for each variable.
 abbrev pub named : Heading → Bool

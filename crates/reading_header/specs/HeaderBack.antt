@@ -14,7 +14,7 @@ use Rattle.seats.specs.Seats.{seatOf}
 use Rattle.support.specs.Support.{idsFit}
 use Rattle.variable_order.specs.Order.{isOrder}
 use Rattle.export_names.specs.Names.{nameAt, fitName}
-use Rattle.header.specs.Header.{Header, header, answerOf, Loaded, listsBy}
+use Rattle.header.specs.Header.{Header, header, answerOf, HeaderLoaded, listsBy}
 use Rattle.heading.specs.Heading.{Heading, idsFrom, permidsOf, headLines, headText}
 use Rattle.reading_header.specs.Joined.{trimmed}
 
@@ -52,12 +52,12 @@ headerFor h dd = record {
 }
 
 -- what a load of the file's header leaves
-abbrev pub loadedFrom : List ℕ → Loaded
+abbrev pub loadedFrom : List ℕ → HeaderLoaded
 loadedFrom f = listsBy f (answerOf f)
 
 -- the support variable at a level
-abbrev pub variableAt : List ℕ → ℕ → ℕ
-variableAt order l = seatOf l order - 1
+abbrev pub variableOfLevel : List ℕ → ℕ → ℕ
+variableOfLevel order l = seatOf l order - 1
 
 -- The header of a file that starts with an export's: it is accepted, and all that it says comes back. Of the names of variables, version 3.0
 -- has all; version 2.0 has those of the support, since the order of the variables outside it stands in no line.
@@ -67,7 +67,7 @@ pub record HeaderBack (h : Heading) (f : List ℕ) : Type 0 where
   pub diagram : nameAt f dd ≡ trimmed (h .dd)
   pub ids : loadedFrom f .ids ≡ idsFrom (h .support) 0 (h .order)
   pub permids : loadedFrom f .permids ≡ permidsOf (h .support) (h .order)
-  pub order : loadedFrom f .order ≡ map (variableAt (h .order)) (h .support)
+  pub order : loadedFrom f .order ≡ map (variableOfLevel (h .order)) (h .support)
   pub auxids : loadedFrom f .auxids ≡ []
   pub roots : loadedFrom f .roots ≡ h .rootids
   pub rootnames : map (nameAt f) (loadedFrom f .rootnames) ≡ h .rootnames

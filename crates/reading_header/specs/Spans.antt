@@ -18,8 +18,8 @@ indent [] = 0
 indent (b ∷ bs) = cond (isBlank b) (suc (indent bs)) 0
 
 -- 'the value is trimmed of both': what stands after a line's key, trimmed
-unfoldable pub valueOf : HeaderLine → List ℕ
-valueOf l = trimmed (spaced (l .words))
+unfoldable pub lineValue : HeaderLine → List ℕ
+lineValue l = trimmed (spaced (l .words))
 
 -- where it starts, in a line at a position
 unfoldable pub startAt : ℕ → HeaderLine → ℕ
@@ -27,7 +27,7 @@ startAt at l = at + length (keyText (l .key)) + indent (spaced (l .words))
 
 -- where it stands
 unfoldable pub spanOf : ℕ → HeaderLine → Span
-spanOf at l = span (startAt at l) (startAt at l + length (valueOf l))
+spanOf at l = span (startAt at l) (startAt at l + length (lineValue l))
 
 -- what lines say, the first of which stands at a position
 unfoldable pub saidFrom : ℕ → List HeaderLine → List Said
@@ -35,6 +35,6 @@ saidFrom at [] = []
 saidFrom at (l ∷ ls) = said (l .key) (spanOf at l) ∷ saidFrom (at + length (lineText l)) ls
 
 -- 'A repeated key: the last counts': a key's last value, after lines whose last value is v
-unfoldable pub valueFrom : List ℕ → Key → List HeaderLine → List ℕ
-valueFrom v k [] = v
-valueFrom v k (l ∷ ls) = valueFrom (cond (eqb (slotOf k) (slotOf (l .key))) (valueOf l) v) k ls
+unfoldable pub lastLineValue : List ℕ → Key → List HeaderLine → List ℕ
+lastLineValue v k [] = v
+lastLineValue v k (l ∷ ls) = lastLineValue (cond (eqb (slotOf k) (slotOf (l .key))) (lineValue l) v) k ls

@@ -11,10 +11,10 @@ use Rattle.edges.specs.Edge.{minus}
 use Rattle.edges.proofs.Edge.{eqZ-ne}
 use Rattle.store.specs.Store.{Store, levelAt, thenAt, elseAt}
 use Rattle.store.specs.Rules.{Limits, limits, Nodes}
-use Rattle.store.specs.Make.{made, placed, insert, make}
+use Rattle.store.specs.Make.{made, placedNode, insert, make}
 use Rattle.store.proofs.Find.{find-is}
 use Rattle.numbering.specs.Support.{supportOf}
-use Rattle.export_nodes.specs.Lines.{lineFor, linesFor}
+use Rattle.export_nodes.specs.Lines.{lineOfNode, linesFor}
 use Rattle.imported.specs.Build.{addLine, built, buildOn, build}
 use Rattle.export_nodes.specs.Exported.{Exported}
 use Rattle.export_nodes.proofs.Renumbered.{InnerAt, NodeAt, terminalAt, innerAt}
@@ -24,7 +24,7 @@ use Rattle.reading_nodes.proofs.NumbersBack.{edge-back, next-node}
 use Rattle.reading_nodes.proofs.LinesJudged.{lineOf, line-inner}
 
 -- a node that is found
-placed-found : (m : Limits) (σ : Store) (l : ℕ) (t e : ℤ) (n : ℕ) → 1 ≤ n → placed m σ l t e n ≡ made (pos n) σ
+placed-found : (m : Limits) (σ : Store) (l : ℕ) (t e : ℤ) (n : ℕ) → 1 ≤ n → placedNode m σ l t e n ≡ made (pos n) σ
 placed-found m σ l t e zero h = absurd (omega arith)
 placed-found m σ l t e (suc n) h = refl
 
@@ -44,7 +44,7 @@ own-made {σ} {ns} {i} {n} m N I =
 -- and so does its line, after the lines before it
 line-made : {σ : Store} {ns before rest : List ℕ} {n : ℕ} (m : Limits) → Nodes σ → Parts ns before rest → NodeAt σ ns (length before) n
     → addLine m (supportOf σ ns) σ (map pos before) (lineOf σ ns n) ≡ made (pos n) σ
-unfolding addLine lineFor
+unfolding addLine lineOfNode
 line-made m N p terminalAt = refl
 line-made {σ} {ns} {n = n} m N p (innerAt I) =
     rw (line-inner σ ns n (I .node), addLine, level-back I, edge-back p (thenAt σ n) (I .then), edge-back p (elseAt σ n) (I .els)) (own-made m N I)

@@ -10,8 +10,8 @@ use Rattle.codes.specs.Bytes.{isBlank, isLineEnd, isWhitespace}
 use Rattle.seats.specs.Ordered.{ascending}
 use Rattle.read_text.specs.Alike.{alike}
 use Rattle.read_lines.specs.Each.{Each, none, each}
-use Rattle.node_lines.specs.Line.{Line, seatOf}
-use Rattle.node_lines.specs.Decode.{nodeLines, allRead, more, decodeFrom}
+use Rattle.node_lines.specs.Line.{Line, seatOfLine}
+use Rattle.node_lines.specs.Decode.{nodeLines, allRead, moreLines, decodeFrom}
 use Rattle.imported.specs.Build.{Judged, AllJudged, one}
 use Rattle.imported.specs.Build as build
 use Rattle.imported.specs.Import.{setup, lineBy, linesIn, blankAll, endsWell}
@@ -31,7 +31,7 @@ module _ (count : ℕ) (levels : List ℕ) (a : ascending levels ≡ true) (few 
 
   -- the lines from line n on, after lines of these seats
   lines-from : (ascii : Bool) (all seats : List ℕ) (ls : List Line) (n at : ℕ) (r : List ℕ)
-      → n ≡ length seats + 1 → all ≡ seats ++ map seatOf ls → n + length ls ≤ 2 ^ 63 → Each ThenPlain ls → AllJudged levels seats ls
+      → n ≡ length seats + 1 → all ≡ seats ++ map seatOfLine ls → n + length ls ≤ 2 ^ 63 → Each ThenPlain ls → AllJudged levels seats ls
       → drop at f ≡ encodeFrom (lineBytes ascii all) n ls ++ r
       → decodeFrom (lineBy ascii false levels count f) (length ls) seats n at ≡ nodeLines ls (allRead (at + length (encodeFrom (lineBytes ascii all) n ls)))
   unfolding decodeFrom encodeFrom
@@ -41,13 +41,13 @@ module _ (count : ℕ) (levels : List ℕ) (a : ascending levels ≡ true) (few 
       let v = encodeFrom (lineBytes ascii all) (n + 1) ls in
       let h : drop at f ≡ w ++ (v ++ r) = e ∙ append-assoc w v r in
       let same : (c : ℕ) → 1 ≤ c → c < n → getD all (c - 1) 0 ≡ getD seats (c - 1) 0 =
-      λ c x y. rw s (List·getD-append seats (map seatOf (l ∷ ls)) 0 (c - 1) (omega arith)) in
-      let next : n + 1 ≡ length (seats ++ (seatOf l ∷ [])) + 1 = simp length-append (omega arith) in
-      let all-is : all ≡ (seats ++ (seatOf l ∷ [])) ++ map seatOf ls = s ∙ sym (append-assoc seats (seatOf l ∷ []) (map seatOf ls)) in
+      λ c x y. rw s (List·getD-append seats (map seatOfLine (l ∷ ls)) 0 (c - 1) (omega arith)) in
+      let next : n + 1 ≡ length (seats ++ (seatOfLine l ∷ [])) + 1 = simp length-append (omega arith) in
+      let all-is : all ≡ (seats ++ (seatOfLine l ∷ [])) ++ map seatOfLine ls = s ∙ sym (append-assoc seats (seatOfLine l ∷ []) (map seatOfLine ls)) in
       let end : at + length w + length v ≡ at + length (w ++ v) = simp length-append (omega arith) in
       rw (line-back ascii all seats n (omega arith) same l p (rw q j) .back at (v ++ r) h, decodeFrom)
-      (ap (more l)
-      (lines-from ascii all (seats ++ (seatOf l ∷ [])) ls (n + 1) (at + length w) r next all-is (omega arith) ps js (stands-after f at w (v ++ r) h))
+      (ap (moreLines l)
+      (lines-from ascii all (seats ++ (seatOfLine l ∷ [])) ls (n + 1) (at + length w) r next all-is (omega arith) ps js (stands-after f at w (v ++ r) h))
       ∙ ap (λ (m : ℕ). nodeLines (l ∷ ls) (allRead m)) end)
 
   -- All lines that were judged, and written from a position on, are read back.
@@ -55,7 +55,7 @@ module _ (count : ℕ) (levels : List ℕ) (a : ascending levels ≡ true) (few 
       → (lines at : ℕ) (r : List ℕ) → drop at f ≡ nodeBytes ascii ls ++ r
       → linesIn (setup ascii false (length ls) lines levels count) f at ≡ nodeLines ls (allRead (at + length (nodeBytes ascii ls)))
   unfolding linesIn nodeBytes
-  lines-back ascii ls p j h lines at r e = lines-from ascii (map seatOf ls) [] ls 1 at r refl refl (omega arith) p j e
+  lines-back ascii ls p j h lines at r e = lines-from ascii (map seatOfLine ls) [] ls 1 at r refl refl (omega arith) p j e
 
 -- The end that is written is an end.
 pub end-back : (f : List ℕ) (at : ℕ) → drop at f ≡ endText → endsWell f at ≡ true

@@ -17,8 +17,8 @@ use Rattle.seats.specs.Seats.{seatOf}
 use Rattle.node_lines.specs.Line.{Line, inner, seatDeeper, deeper}
 use Rattle.node_lines.specs.Line as line
 use Rattle.numbering.specs.Support.{supportOf}
-use Rattle.export_nodes.specs.Lines.{renumbered, lineFor, linesFor}
-use Rattle.imported.specs.Build.{Child, Judged, AllJudged, none, one}
+use Rattle.export_nodes.specs.Lines.{renumbered, lineOfNode, linesFor}
+use Rattle.imported.specs.Build.{ChildBelow, Judged, AllJudged, none, one}
 use Rattle.export_nodes.specs.Exported.{Exported}
 use Rattle.export_nodes.proofs.Renumbered.{Numbered, renumbered-abs, renumbered-plain, NodeAt, terminalAt, innerAt, seated-node}
 use Rattle.export_nodes.proofs.Support.{level-back, position-low}
@@ -28,27 +28,27 @@ use Rattle.reading_nodes.proofs.NumbersBack.{next-node}
 
 -- the line of a node, and its seat
 abbrev pub lineOf : Store → List ℕ → ℕ → Line
-lineOf σ ns = lineFor σ (supportOf σ ns) ns
+lineOf σ ns = lineOfNode σ (supportOf σ ns) ns
 
 abbrev lineSeat : Store → List ℕ → ℕ → ℕ
-lineSeat σ ns n = line.seatOf (lineOf σ ns n)
+lineSeat σ ns n = line.seatOfLine (lineOf σ ns n)
 
 -- of a node other than the terminal
 pub line-inner : (σ : Store) (ns : List ℕ) (n : ℕ) → 2 ≤ n
     → lineOf σ ns n ≡ inner (seatOf (levelAt σ n) (supportOf σ ns) - 1) (renumbered ns (thenAt σ n)) (renumbered ns (elseAt σ n))
-unfolding lineFor
+unfolding lineOfNode
 line-inner σ ns n p = rw (ne-eqb n 1 (λ e. omega arith))
 
 -- a line lies as deep as its node
 line-deep : {σ : Store} {ns : List ℕ} {i n : ℕ} (l : ℕ) → NodeAt σ ns i n → l < depth σ n → seatDeeper (supportOf σ ns) l (lineSeat σ ns n) ≡ true
-unfolding lineFor
+unfolding lineOfNode
 line-deep l terminalAt d = refl
 line-deep {σ} {ns} {i} {n} l (innerAt I) d =
     rw (line-inner σ ns n (I .node)) (lt-ltb l _ (rw (level-back I) (omega (arith, depth-node σ n (I .node)))))
 
 -- 'then is positive' of a line, as it is of its node
 line-plain : {σ : Store} {ns : List ℕ} {i n : ℕ} → NodeAt σ ns i n → ThenPlain (lineOf σ ns n)
-unfolding lineFor
+unfolding lineOfNode
 line-plain terminalAt = tt
 line-plain {σ} {ns} {i} {n} (innerAt I) = rw (line-inner σ ns n (I .node)) (renumbered-plain ns (thenAt σ n) (I .fits .positive))
 
@@ -56,7 +56,7 @@ module _ {σ : Store} {roots : List ℤ} {ns : List ℕ} (E : Exported σ roots 
   module _ {before rest : List ℕ} (p : Parts ns before rest) where
     -- a child of the next line
     child-judged : (l : ℕ) (c : ℤ) → Numbered ns (length before) c → l < depth σ (natAbs c)
-        → Child (supportOf σ ns) (map (lineSeat σ ns) before) (length (map (lineSeat σ ns) before) + 1) l (renumbered ns c)
+        → ChildBelow (supportOf σ ns) (map (lineSeat σ ns) before) (length (map (lineSeat σ ns) before) + 1) l (renumbered ns c)
     unfolding deeper
     child-judged l c m d = record {
       some = rw (renumbered-abs ns c) (m .some);
@@ -68,7 +68,7 @@ module _ {σ : Store} {roots : List ℤ} {ns : List ℕ} (E : Exported σ roots 
     -- the next line
     line-judged : {n : ℕ} → NodeAt σ ns (length before) n
         → Judged (supportOf σ ns) (map (lineSeat σ ns) before) (length (map (lineSeat σ ns) before) + 1) (lineOf σ ns n)
-    unfolding lineFor
+    unfolding lineOfNode
     line-judged terminalAt = tt
     line-judged {n} (innerAt I) = rw (line-inner σ ns n (I .node)) (record {
       position = position-low I;

@@ -12,7 +12,7 @@ use Rattle.seats.specs.Seats.{seatOf}
 use Rattle.export_nodes.specs.Exported.{Exported}
 use Rattle.export_nodes.specs.Lines.{renumbered}
 use Rattle.export_nodes.proofs.Renumbered.{Numbered, renumbered-abs, NodeAt, node-at}
-use Rattle.imported.specs.Build.{turned, edgeFor}
+use Rattle.imported.specs.Build.{turnedOver, edgeFor}
 use Rattle.reading_nodes.proofs.Parts.{Parts, parts-low, parts-here, seat-early}
 
 -- the node of the next line
@@ -21,7 +21,7 @@ pub next-node : {σ : Store} {roots : List ℤ} {ns before rest : List ℕ} {n :
 next-node {before = before} {n = n} E p = node-at E (length before) n (parts-low p) (parts-here p)
 
 -- an edge by its node, turned over under its sign
-turned-back : (c : ℤ) (s : ℕ) → 1 ≤ s → turned (signed (minus c) s) (pos (natAbs c)) ≡ c
+turned-back : (c : ℤ) (s : ℕ) → 1 ≤ s → turnedOver (signed (minus c) s) (pos (natAbs c)) ≡ c
 unfolding minus
 turned-back (pos n) s h = refl
 turned-back (negsuc n) zero h = absurd (omega arith)

@@ -25,7 +25,7 @@ use Rattle.node_lines.specs.Line.{Line, terminal, inner, childFault}
 use Rattle.import_ascii.specs.Text.{described, textLine, textLineAt}
 use Rattle.import_ascii.proofs.Faults.{fault-none, position-inner}
 use Rattle.import_ascii.proofs.TextLines.{list-position, line-got}
-use Rattle.imported.specs.Build.{Child, Judged}
+use Rattle.imported.specs.Build.{ChildBelow, Judged}
 use Rattle.writers.specs.Decimal.{decimal, edgeText, digits}
 use Rattle.writers.specs.Words.{spaced}
 use Rattle.writers.proofs.Decimal.{decimal-some, decimal-single, edge-signed, edge-runs}
@@ -118,7 +118,7 @@ module _ (levels seats : List ℕ) (n : ℕ) (few : length levels ≤ 2 ^ 32) (s
       }
 
   -- a child that was judged has no fault
-  no-fault : (l : ℕ) (c : ℤ) → Child levels seats n l c → 0 ≡ childFault levels seats n l c
+  no-fault : (l : ℕ) (c : ℤ) → ChildBelow levels seats n l c → 0 ≡ childFault levels seats n l c
   no-fault l c k = fault-none levels seats n l c refl (k .below) refl (k .deep)
 
   -- of an inner line,

@@ -15,8 +15,8 @@ use Rattle.node_writers.specs.Encoded.{nodeBytes, endText}
 use Rattle.imported.specs.Import.{Setup, setup, linesIn, nodes, importOf}
 
 -- how the nodes of an export are read: with no extra word, at the levels of the support, after a header of so many lines
-abbrev pub setupFor : Bool → Store → List ℕ → ℕ → Setup
-setupFor ascii σ ns lines = setup ascii false (length ns) lines (supportOf σ ns) (σ .levels)
+abbrev pub setupBack : Bool → Store → List ℕ → ℕ → Setup
+setupBack ascii σ ns lines = setup ascii false (length ns) lines (supportOf σ ns) (σ .levels)
 
 -- the nodes of an export stand in a file from a position on, and its end after them
 abbrev pub Stand : Bool → Store → List ℕ → List ℕ → ℕ → Type 0
@@ -30,11 +30,11 @@ ThenPlain (inner p t e) = t ≡ pos (natAbs t)
 -- Each line is read as itself.
 abbrev pub LinesBack : Bool → Store → List ℕ → List ℕ → ℕ → ℕ → Type 0
 LinesBack ascii σ ns f at lines =
-    linesIn (setupFor ascii σ ns lines) f at ≡ nodeLines (linesFor σ ns) (allRead (at + length (nodeBytes ascii (linesFor σ ns))))
+    linesIn (setupBack ascii σ ns lines) f at ≡ nodeLines (linesFor σ ns) (allRead (at + length (nodeBytes ascii (linesFor σ ns))))
 
 -- The nodes are accepted, the store is the one before, with no new node, and the roots are the same, signs included. The roots' numbers
 -- stand in a lent list, which is longer; its unused entries are 0.
 pub record NodesBack (ascii : Bool) (σ : Store) (roots : List ℤ) (ns f : List ℕ) (at lines lent : ℕ) : Type 0 where
   pub lines-back : LinesBack ascii σ ns f at lines
-  pub imported : importOf (setupFor ascii σ ns lines) σ f at (laid (map (renumbered ns) roots) (replicate lent (pos 0)))
+  pub imported : importOf (setupBack ascii σ ns lines) σ f at (laid (map (renumbered ns) roots) (replicate lent (pos 0)))
       ≡ record { answer = nodes (at + length (nodeBytes ascii (linesFor σ ns))); after = σ; roots = laid roots (replicate lent (pos 0)) }

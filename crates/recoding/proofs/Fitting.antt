@@ -17,12 +17,12 @@ use Rattle.exported.proofs.FileParts.{file-short}
 use Rattle.exported.proofs.Started.{exported}
 use Rattle.header.specs.Header as head
 use Rattle.calls.specs.Load.{Loaded}
-use Rattle.calls.specs.Calls.{Export, faultOf, Exports}
-use Rattle.recoding.specs.Recode.{Recoded, written, refusal, inputMost, headOf, reloadOf, ofRead, Refuses, Exporting, Reloads, Heads, Sized, Recodes}
+use Rattle.calls.specs.Calls.{Export, exportFaultOf, Exports}
+use Rattle.recoding.specs.Recode.{Recoded, written, refusal, inputMost, headRead, reloadOf, ofRead, RefusesFile, ExportingAgain, Reloads, Heads, Sized, Recodes}
 
 module _ (x : Export) (σ : Store) (r : Exported) (out : List ℕ) {n : ℕ} (is : ofExported r ≡ value n) where
   -- a file that is written is no longer than the export size, which the output has
-  writes-within : faultOf x σ ≡ 0 → promise.Writes (x .settings) σ (x .roots) (x .order) (x .names) (x .out) r out → n ≤ x .out
+  writes-within : exportFaultOf x σ ≡ 0 → promise.Writes (x .settings) σ (x .roots) (x .order) (x .names) (x .out) r out → n ≤ x .out
   writes-within e w =
       let A = accepted σ (x .roots) (x .order) (x .names) (x .slots) (x .numbers) (x .out) e in
       let count : n ≡ length (fileOf (x .settings) σ (x .roots) (x .order) (x .names) (w .nodes)) = cc in
@@ -30,19 +30,19 @@ module _ (x : Export) (σ : Store) (r : Exported) (out : List ℕ) {n : ℕ} (is
 
   -- Where the answer of an export is a length, the output is that long.
   pub exports-within : Exports x σ r out → n ≤ x .out
-  exports-within w = go (faultOf x σ) refl w
+  exports-within w = go (exportFaultOf x σ) refl w
     where
-      go : (k : ℕ) → faultOf x σ ≡ k → promise.Exports k (x .settings) σ (x .roots) (x .order) (x .names) (x .out) r out → n ≤ x .out
+      go : (k : ℕ) → exportFaultOf x σ ≡ k → promise.ExportsBy k (x .settings) σ (x .roots) (x .order) (x .names) (x .out) r out → n ≤ x .out
       go zero e w = writes-within e w
       go (suc k) e w = let a = w .answer in absurd (let z : _≡_ {A = ℕ} 0 1 = cc in omega arith)
 
 module _ (f : List ℕ) (lent n : ℕ) (out : List ℕ) where
   -- a refusal writes nothing
-  refused-none : {k line : ℕ} {A : Type 0} → Refuses k line lent (written n) out → A
+  refused-none : {k line : ℕ} {A : Type 0} → RefusesFile k line lent (written n) out → A
   refused-none w = let a = w .answer in absurd (let z : _≡_ {A = ℕ} 0 1 = cc in omega arith)
 
   -- an export that was made answered the file's length
-  exporting-within : (x : Export) (σ : Store) → x .out ≡ lent → Exporting x σ (written n) out → n ≤ lent
+  exporting-within : (x : Export) (σ : Store) → x .out ≡ lent → ExportingAgain x σ (written n) out → n ≤ lent
   exporting-within x σ e w = go (ofExported (w .exported)) refl
     where
       go : (a : Read ℕ) → ofExported (w .exported) ≡ a → n ≤ lent
@@ -53,19 +53,19 @@ module _ (f : List ℕ) (lent n : ℕ) (out : List ℕ) where
       go (refused k) q = let is : written n ≡ refusal k 0 = rw q at (w .answer) in absurd (let z : _≡_ {A = ℕ} 0 1 = cc in omega arith)
 
   -- by what the load answered
-  reloads-within : (r : Loaded) (a : head.Answer) → Reloads f r a lent (written n) out → n ≤ lent
+  reloads-within : (r : Loaded) (a : head.HeaderAnswer) → Reloads f r a lent (written n) out → n ≤ lent
   reloads-within r (head.refusal k line) w = refused-none w
   reloads-within r (head.header h) w = exporting-within _ (r .after) refl w
 
   -- by what the header's reading answered
-  heads-within : (a : head.Answer) → Heads f a lent (written n) out → n ≤ lent
+  heads-within : (a : head.HeaderAnswer) → Heads f a lent (written n) out → n ≤ lent
   heads-within (head.refusal k line) w = refused-none w
   heads-within (head.header h) w = reloads-within (reloadOf f h) (reloadOf f h .answer) w
 
   -- by whether the input is too long
   sized-within : (long : Bool) → Sized long f lent (written n) out → n ≤ lent
   sized-within true w = refused-none w
-  sized-within false w = heads-within (headOf f .answer) w
+  sized-within false w = heads-within (headRead f .answer) w
 
   -- Where the answer is a length, the output is that long.
   pub recodes-within : {a : Recoded} → a ≡ written n → Recodes f lent a out → n ≤ lent

@@ -22,8 +22,8 @@ use Rattle.exporter.specs.Promise.{ofExported}
 use Rattle.exporter.specs.declared.ExportSettings.{ExportSettings}
 use Rattle.exporter.specs.declared.Exported.{Exported}
 use Rattle.calls.specs.Calls.{exportInto, Exports}
-use Rattle.recode_levels.specs.Levels.{variableLevels, Judged}
-use Rattle.recoding.specs.Recode.{slots, allThere, passed, exportWith, Recoded, ofRead, Exporting}
+use Rattle.recode_levels.specs.Levels.{variableLevels, JudgedLevels}
+use Rattle.recoding.specs.Recode.{slotsLent, allThere, passed, exportWith, Recoded, ofRead, ExportingAgain}
 
 -- the defaults, then text, then the place of the diagram's name
 pub text-settings : (a b c : ExportSettings) {start len : ℕ} → ofSettings a ≡ defaults
@@ -56,7 +56,7 @@ module _ (lens l : List ℕ) (e : length l ≡ length lens) (n : ℕ) (q : n ≡
       go false k = rw k
 
 -- the variables' levels, laid over a list that is long enough
-module _ (nvars : ℕ) (ids permids : List ℕ) (J : Judged nvars ids permids) (old dst : List ℕ) (long : length old ≡ varLimit)
+module _ (nvars : ℕ) (ids permids : List ℕ) (J : JudgedLevels nvars ids permids) (old dst : List ℕ) (long : length old ≡ varLimit)
     (d : dst ≡ laid (variableLevels nvars ids permids) old) where
   -- there is one for each variable
   levels-counted : length (variableLevels nvars ids permids) ≡ nvars
@@ -87,9 +87,9 @@ module _ (f : List ℕ) (h : head.Header) (roots : List ℤ) (ids permids names 
   pub exporting : {s : Settings} {order starts ls rootstarts rls : List ℕ} {a b : ℕ}
       → s ≡ settings «V2_0» true (h .dd) → order ≡ variableLevels (h .nvars) ids permids
       → starts ≡ passed lens names → ls ≡ passed lens lens → rootstarts ≡ passed rootlens rootnames → rls ≡ passed rootlens rootlens
-      → a ≡ slots → b ≡ slots → (r : Exported) (bytes : List ℕ) (x : Recoded)
+      → a ≡ slotsLent → b ≡ slotsLent → (r : Exported) (bytes : List ℕ) (x : Recoded)
       → Exports (exportInto s roots order (lent f starts ls rootstarts rls (s .dd)) a b out) σ r bytes → x ≡ ofRead (ofExported r)
-      → Exporting (exportWith f h roots ids permids names lens rootnames rootlens out) σ x bytes
+      → ExportingAgain (exportWith f h roots ids permids names lens rootnames rootlens out) σ x bytes
   exporting {s} {order} {starts} {ls} {rootstarts} {rls} {a} {b} e1 e2 e3 e4 e5 e6 e7 e8 r bytes x p q =
       let same : exportInto s roots order (lent f starts ls rootstarts rls (s .dd)) a b out
       ≡ exportWith f h roots ids permids names lens rootnames rootlens out

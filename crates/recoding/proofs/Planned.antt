@@ -16,7 +16,7 @@ use Rattle.header.specs.declared.DumpHeader.{DumpHeader}
 use Rattle.header.specs.declared.Loaded.{Loaded}
 use Rattle.header.specs.declared.Loaded.the-variants as loaded
 use Rattle.recode_levels.specs.Levels.{levelList}
-use Rattle.recoding.specs.Recode.{headOf}
+use Rattle.recoding.specs.Recode.{headRead}
 use Rattle.recoding.specs.Kinds.{planBy, listBy}
 use Rattle.recoding.specs.declared.Plan.{Plan}
 use Rattle.recoding.specs.declared.Plan.the-variants as plan
@@ -24,18 +24,18 @@ use Rattle.recoding.proofs.Said.{Says, header-says}
 
 -- what is promised of an answer and of the list after it
 abbrev pub Plans : List ℕ → Plan → List ℕ → List ℕ → Type 0
-Plans f p out old = (p ≡ planBy (headOf f) (headOf f .answer)) × (out ≡ laid (listBy (headOf f) (headOf f .answer)) old)
+Plans f p out old = (p ≡ planBy (headRead f) (headRead f .answer)) × (out ≡ laid (listBy (headRead f) (headRead f .answer)) old)
 
 -- the load of the header, after the input's length
 module _ (f : List ℕ) (found : ℕ) (e : found ≡ head.lengthAfter 0 (length f)) where
   -- what the load leaves
-  abbrev r : head.Loaded
-  r = head.loadOf found f
+  abbrev r : head.HeaderLoaded
+  r = head.loadHeader found f
 
   -- it is the one that the definition names
-  head-is : r ≡ headOf f
-  unfolding headOf head.lengthAfter firstFault
-  head-is = ap (λ n. head.loadOf n f) (e ∙ sym (last-check (head.lengthFault (length f))))
+  head-is : r ≡ headRead f
+  unfolding headRead head.lengthAfter firstFault
+  head-is = ap (λ n. head.loadHeader n f) (e ∙ sym (last-check (head.lengthFault (length f))))
 
   module _ (a : Loaded) (q : ofLoaded a ≡ r .answer) where
     -- after a header: its permids are in a lent list

@@ -17,8 +17,8 @@ use Rattle.header.specs.declared.Loaded as declared
 use Rattle.header.specs.declared.Loaded.the-variants as loaded
 use Rattle.calls.specs.Calls.{Export}
 use Rattle.calls.specs.Load.{Parts, parts, lengthsOf, Loaded, loadInto, partsOf, loadOf}
-use Rattle.recode_levels.specs.Levels.{Judged}
-use Rattle.recoding.specs.Recode.{slots, lists, loadAt, loadedAt, exportWith, exportOf, Recoded, refusal, Exporting, Refuses, Reloads}
+use Rattle.recode_levels.specs.Levels.{JudgedLevels}
+use Rattle.recoding.specs.Recode.{slotsLent, longLists, loadAt, loadedAt, exportWith, exportOf, Recoded, refusal, ExportingAgain, RefusesFile, Reloads}
 use Rattle.recoding.proofs.Said.{Says, load-says}
 
 -- the parts that are lent, and the store
@@ -27,11 +27,11 @@ zeros = parts
     (replicate varLimit 0) (replicate varLimit 0) (replicate varLimit 0)
     (replicate varLimit 0) (replicate varLimit 0) (replicate varLimit 0)
     (replicate rootLimit (pos 0)) (replicate rootLimit 0) (replicate rootLimit 0)
-    (replicate slots (pos 0)) (replicate slots 0)
+    (replicate slotsLent (pos 0)) (replicate slotsLent 0)
 
 abbrev pub fresh : ℕ → Store
 fresh levels =
-    store levels 1 (replicate slots 0) (replicate slots (pos 0)) (replicate slots (pos 0)) (replicate slots 0) (replicate 256 0)
+    store levels 1 (replicate slotsLent 0) (replicate slotsLent (pos 0)) (replicate slotsLent (pos 0)) (replicate slotsLent 0) (replicate 256 0)
 
 -- a list reaches as far as its length says: so many of its entries are its front
 module _ {A : Type 0} (n m : ℕ) (l : List A) (h : n ≤ m) (e : length l ≡ m) where
@@ -52,7 +52,7 @@ module _ (f list : List ℕ) (levels : ℕ) where
   r = loadedAt f list levels
 
   -- the lengths of the parts are those that the definition names
-  lengths-are : lengthsOf zeros ≡ lists
+  lengths-are : lengthsOf zeros ≡ longLists
   lengths-are = refl
 
   -- the two loads are one
@@ -63,7 +63,7 @@ module _ (f list : List ℕ) (levels : ℕ) where
   -- what the header of the load says
   read-says : (h : head.Header) → r .answer ≡ head.header h → Says h (r .ids) (r .permids)
   unfolding loadedAt
-  read-says h q = load-says (loadAt f list) (empty levels slots) h q
+  read-says h q = load-says (loadAt f list) (empty levels slotsLent) h q
 
   module _ (a : declared.Loaded) (q : ofLoaded a ≡ made .answer) where
     -- after a header
@@ -90,8 +90,8 @@ module _ (f list : List ℕ) (levels : ℕ) where
 
       module _ (x : Parts) (p : x ≡ partsOf (lengthsOf zeros) made) where
         -- the parts hold what the load leaves
-        parts-are : x ≡ partsOf lists r
-        parts-are = p ∙ ap (λ l. partsOf l made) lengths-are ∙ ap (partsOf lists) made-is
+        parts-are : x ≡ partsOf longLists r
+        parts-are = p ∙ ap (λ l. partsOf l made) lengths-are ∙ ap (partsOf longLists) made-is
 
         -- the front of the ids is the ids
         ids-are : take (h .nsuppvars) (x .ids) ≡ r .ids
@@ -103,7 +103,7 @@ module _ (f list : List ℕ) (levels : ℕ) where
             front-is varLimit (r .permids) (says .judged .permids-few) (sym (says .permids-counted)) (ap (λ y. y .permids) parts-are)
 
         -- ids and permids are as the export leans on
-        pub still-judged : Judged (h .nvars) (take (h .nsuppvars) (x .ids)) (take (h .nsuppvars) (x .permids))
+        pub still-judged : JudgedLevels (h .nvars) (take (h .nsuppvars) (x .ids)) (take (h .nsuppvars) (x .permids))
         still-judged = rw (ids-are, permids-are) (says .judged)
 
         -- the export of what some parts hold, by ids and permids
@@ -114,7 +114,7 @@ module _ (f list : List ℕ) (levels : ℕ) where
 
         -- The export of what the parts hold is that of the load.
         pub reloads : (y : Store) → y ≡ made .after → (out : ℕ) (b : Recoded) (bytes : List ℕ)
-            → Exporting (exportFrom (take (h .nsuppvars) (x .ids)) (take (h .nsuppvars) (x .permids)) x out) y b bytes
+            → ExportingAgain (exportFrom (take (h .nsuppvars) (x .ids)) (take (h .nsuppvars) (x .permids)) x out) y b bytes
             → Reloads f r (r .answer) out b bytes
         reloads y s out b bytes e =
             let same =
@@ -122,8 +122,8 @@ module _ (f list : List ℕ) (levels : ℕ) where
             ∙ ap (λ i. exportFrom (r .ids) i x out) permids-are
             ∙ ap (λ v. exportFrom (r .ids) (r .permids) v out) parts-are in
             subst (λ t. Reloads f r t out b bytes) (sym read)
-            (subst (λ t. Exporting (exportOf f (ofHeader h) r out) t b bytes) (s ∙ ap (λ l. l .after) made-is)
-            (subst (λ t. Exporting t y b bytes) same e))
+            (subst (λ t. ExportingAgain (exportOf f (ofHeader h) r out) t b bytes) (s ∙ ap (λ l. l .after) made-is)
+            (subst (λ t. ExportingAgain t y b bytes) same e))
 
     -- after a refusal: it is answered, with zeros
     pub reloads-none : (n line : ℕ) → a ≡ loaded.Refused n line → (out : ℕ) (bytes : List ℕ) → bytes ≡ replicate out 0

@@ -10,16 +10,16 @@ use Rattle.header_values.specs.Values.{u32sIn}
 use Rattle.header_values.proofs.Counted.{u32s-most, roots-most}
 use Rattle.header_checks.proofs.Accepted as whole
 use Rattle.store.specs.Store.{Store}
-use Rattle.header.specs.Header.{Header, Answer, header, refusal, tableOf, listsBy, after, loadOf}
+use Rattle.header.specs.Header.{Header, HeaderAnswer, header, refusal, tableOf, listsBy, after, loadHeader}
 use Rattle.header.proofs.Faultless.{faultless-settled}
 use Rattle.calls.specs.Load as calls
 use Rattle.calls.proofs.HeaderStands.{Sound, no-header, answer-sound}
 use Rattle.calls.proofs.Passes.{load-passes, passes-load}
-use Rattle.recode_levels.specs.Levels.{Judged}
+use Rattle.recode_levels.specs.Levels.{JudgedLevels}
 
 -- the limits, and as many ids and permids as support variables
 pub record Says (h : Header) (ids permids : List ℕ) : Type 0 where
-  pub judged : Judged (h .nvars) ids permids
+  pub judged : JudgedLevels (h .nvars) ids permids
   pub ids-counted : length ids ≡ h .nsuppvars
   pub permids-counted : length permids ≡ h .nsuppvars
   pub few-support : h .nsuppvars ≤ varLimit
@@ -46,13 +46,13 @@ table-says f h s =
 
 module _ (found : ℕ) (f : List ℕ) (h : Header) where
   -- the lists of an accepted header are the file's own
-  lists-say : (a : Answer) → listsBy f a .answer ≡ header h → Sound f h → Says h (listsBy f a .ids) (listsBy f a .permids)
+  lists-say : (a : HeaderAnswer) → listsBy f a .answer ≡ header h → Sound f h → Says h (listsBy f a .ids) (listsBy f a .permids)
   lists-say (header g) q s = table-says f h s
   lists-say (refusal n line) q s = no-header q
 
   -- What an accepted header says.
-  pub header-says : loadOf found f .answer ≡ header h → Says h (loadOf found f .ids) (loadOf found f .permids)
-  unfolding loadOf
+  pub header-says : loadHeader found f .answer ≡ header h → Says h (loadHeader found f .ids) (loadHeader found f .permids)
+  unfolding loadHeader
   header-says q = lists-say (after found f) q (answer-sound found f h q .1)
 
 module _ (c : calls.Load) (σ : Store) (h : Header) where

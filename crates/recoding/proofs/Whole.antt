@@ -12,7 +12,7 @@ use Rattle.seats.specs.Seats.{seatOf}
 use Rattle.header_values.proofs.Padded.{take-laid}
 use Rattle.header.specs.Header as head
 use Rattle.recode_levels.specs.Levels.{takenFrom, levelList}
-use Rattle.recoding.specs.Recode.{inputMost, headOf, loadedAt, Recoded, refusal, Reloads, Heads, Sized, Recodes}
+use Rattle.recoding.specs.Recode.{inputMost, headRead, loadedAt, Recoded, refusal, Reloads, Heads, Sized, Recodes}
 use Rattle.recoding.specs.Kinds.{planBy, listBy}
 use Rattle.recoding.specs.declared.Plan.{Plan}
 use Rattle.recoding.specs.declared.Plan.the-variants as plan
@@ -55,28 +55,28 @@ same-refusal q = (cc, cc)
 -- what a plan with levels comes from: a header and its level list
 pub record Comes (f : List ℕ) (levels n : ℕ) (old dst : List ℕ) : Type 0 where
   pub from : head.Header
-  pub read : headOf f .answer ≡ head.header from
+  pub read : headRead f .answer ≡ head.header from
   pub count : levels ≡ from .nvars
-  pub entries : n ≡ length (levelList (from .nvars) (headOf f .permids))
-  pub there : dst ≡ laid (levelList (from .nvars) (headOf f .permids)) old
+  pub entries : n ≡ length (levelList (from .nvars) (headRead f .permids))
+  pub there : dst ≡ laid (levelList (from .nvars) (headRead f .permids)) old
 
 module _ (f : List ℕ) where
   -- the level list of the plan
   abbrev planned : List ℕ
-  planned = listBy (headOf f) (headOf f .answer)
+  planned = listBy (headRead f) (headRead f .answer)
 
   -- what the header says
-  head-says : (h : head.Header) → headOf f .answer ≡ head.header h → Says h (headOf f .ids) (headOf f .permids)
-  unfolding headOf
+  head-says : (h : head.Header) → headRead f .answer ≡ head.header h → Says h (headRead f .ids) (headRead f .permids)
+  unfolding headRead
   head-says h q = header-says (head.lengthFault (length f)) f h q
 
-  module _ (p : Plan) (q : p ≡ planBy (headOf f) (headOf f .answer)) where
+  module _ (p : Plan) (q : p ≡ planBy (headRead f) (headRead f .answer)) where
     module _ (levels n : ℕ) (k : p ≡ plan.Levels levels n) (old dst : List ℕ) (d : dst ≡ laid planned old) where
       -- a plan with levels comes from a header
       comes : Comes f levels n old dst
-      comes = go (headOf f .answer) refl (sym k ∙ q) d
+      comes = go (headRead f .answer) refl (sym k ∙ q) d
         where
-          go : (a : head.Answer) → headOf f .answer ≡ a → plan.Levels levels n ≡ planBy (headOf f) a → dst ≡ laid (listBy (headOf f) a) old
+          go : (a : head.HeaderAnswer) → headRead f .answer ≡ a → plan.Levels levels n ≡ planBy (headRead f) a → dst ≡ laid (listBy (headRead f) a) old
               → Comes f levels n old dst
           go (head.header h) r e d = let w = same-levels e in record { from = h; read = r; count = w .0; entries = w .1; there = d }
           go (head.refusal m line) r e d = no-levels (sym e)
@@ -87,7 +87,7 @@ module _ (f : List ℕ) where
         short =
             let c = comes in
             let a = head-says (c .from) (c .read) .judged .few in
-            let b = list-few (c .from .nvars) (headOf f .permids) in
+            let b = list-few (c .from .nvars) (headRead f .permids) in
             omega (arith, long, c .entries)
 
         -- the list reaches as far as the level list
@@ -95,13 +95,13 @@ module _ (f : List ℕ) where
         list-reaches =
             let c = comes in
             let s = short in
-            let l = ap length (c .there) ∙ length-laid (levelList (c .from .nvars) (headOf f .permids)) old in
+            let l = ap length (c .there) ∙ length-laid (levelList (c .from .nvars) (headRead f .permids)) old in
             omega arith
 
         -- its front is the level list
-        list-is : take n dst ≡ levelList (comes .from .nvars) (headOf f .permids)
+        list-is : take n dst ≡ levelList (comes .from .nvars) (headRead f .permids)
         list-is =
-            let es = levelList (comes .from .nvars) (headOf f .permids) in
+            let es = levelList (comes .from .nvars) (headRead f .permids) in
             ap (λ m. take m dst) (comes .entries) ∙ ap (take (length es)) (comes .there)
             ∙ take-laid es old (subst (λ m. m ≤ length old) (comes .entries) short)
 
@@ -109,7 +109,7 @@ module _ (f : List ℕ) where
         pub recodes : length f ≤ inputMost → (out : ℕ) (a : Recoded) (bytes : List ℕ)
             → Reloads f (loadedAt f (take n dst) levels) (loadedAt f (take n dst) levels .answer) out a bytes → Recodes f out a bytes
         recodes h out a bytes e =
-            let es = levelList (comes .from .nvars) (headOf f .permids) in
+            let es = levelList (comes .from .nvars) (headRead f .permids) in
             subst (λ b. Sized b f out a bytes) (sym (le-ltb inputMost (length f) h))
             (subst (λ t. Heads f t out a bytes) (sym (comes .read))
             (subst (λ m. Reloads f (loadedAt f es m) (loadedAt f es m .answer) out a bytes) (comes .count)
@@ -119,8 +119,8 @@ module _ (f : List ℕ) where
     pub recodes-none : (n line : ℕ) → p ≡ plan.Refused n line → length f ≤ inputMost → (out : ℕ) (bytes : List ℕ)
         → bytes ≡ replicate out 0 → Recodes f out (refusal n line) bytes
     recodes-none n line k h out bytes z =
-        subst (λ b. Sized b f out (refusal n line) bytes) (sym (le-ltb inputMost (length f) h)) (go (headOf f .answer) (sym k ∙ q))
+        subst (λ b. Sized b f out (refusal n line) bytes) (sym (le-ltb inputMost (length f) h)) (go (headRead f .answer) (sym k ∙ q))
       where
-        go : (a : head.Answer) → plan.Refused n line ≡ planBy (headOf f) a → Heads f a out (refusal n line) bytes
+        go : (a : head.HeaderAnswer) → plan.Refused n line ≡ planBy (headRead f) a → Heads f a out (refusal n line) bytes
         go (head.header g) e = no-levels e
         go (head.refusal m at) e = let w = same-refusal e in record { answer = rw (w .0, w .1); bytes = z }

@@ -15,11 +15,11 @@ ofRecoded (recoded.Written n) = recode.written n
 ofRecoded (recoded.Refused k line) = recode.refusal k line
 
 -- the level count and the length of the level list, or a refusal and its line
-abbrev pub planBy : head.Loaded → head.Answer → Plan
+abbrev pub planBy : head.HeaderLoaded → head.HeaderAnswer → Plan
 planBy r (head.header h) = plan.Levels (h .nvars) (length (levelList (h .nvars) (r .permids)))
 planBy r (head.refusal n line) = plan.Refused n line
 
 -- the level list; none on a refusal
-abbrev pub listBy : head.Loaded → head.Answer → List ℕ
+abbrev pub listBy : head.HeaderLoaded → head.HeaderAnswer → List ℕ
 listBy r (head.header h) = levelList (h .nvars) (r .permids)
 listBy r (head.refusal n line) = []

@@ -1,2 +1,3 @@
 pub mod Recode
 pub mod Kinds
+pub mod Promises

@@ -25,12 +25,12 @@ abbrev pub inputMost : ℕ
 inputMost = 65536
 
 -- 'It lends 4,096 slots, as many scratch entries'; the export's marks are as many
-abbrev pub slots : ℕ
-slots = 4096
+abbrev pub slotsLent : ℕ
+slotsLent = 4096
 
 -- the lists that it lends: no longer than a load asks for
-abbrev pub lists : Lengths
-lists = record {
+abbrev pub longLists : Lengths
+longLists = record {
   ids = varLimit;
   order = varLimit;
   permids = varLimit;
@@ -40,20 +40,20 @@ lists = record {
   roots = rootLimit;
   rootnames = rootLimit;
   rootlens = rootLimit;
-  edges = slots;
-  seats = slots;
+  edges = slotsLent;
+  seats = slotsLent;
 }
 
 -- the header, read first for the level count and the level list: '19 for the input's length, header'
-unfoldable pub headOf : List ℕ → head.Loaded
-headOf f = head.loadOf (head.lengthFault (length f)) f
+unfoldable pub headRead : List ℕ → head.HeaderLoaded
+headRead f = head.loadHeader (head.lengthFault (length f)) f
 
 -- a load at some levels, into an empty store of so many levels
 abbrev pub loadAt : List ℕ → List ℕ → Load
-loadAt f list = record { file = f; list = list; lent = lists }
+loadAt f list = record { file = f; list = list; lent = longLists }
 
 unfoldable pub loadedAt : List ℕ → List ℕ → ℕ → Loaded
-loadedAt f list levels = loadOf (loadAt f list) (empty levels slots)
+loadedAt f list levels = loadOf (loadAt f list) (empty levels slotsLent)
 
 -- is every name there? 'An empty name .. is start 0, length 0.'
 unfoldable pub allThere : List ℕ → Bool
@@ -70,14 +70,14 @@ abbrev pub exportWith : List ℕ → head.Header → List ℤ → List ℕ → L
 exportWith f h roots ids permids names lens rootnames rootlens out =
     exportInto (settings «V2_0» true (h .dd)) roots (variableLevels (h .nvars) ids permids)
     (lent f (passed lens names) (passed lens lens) (passed rootlens rootnames) (passed rootlens rootlens) (h .dd))
-    slots slots out
+    slotsLent slotsLent out
 
 -- the lists as the load leaves them
 abbrev pub exportOf : List ℕ → head.Header → Loaded → ℕ → Export
 exportOf f h r out =
-    exportWith f h (take (h .nroots) (partsOf lists r .roots)) (r .ids) (r .permids)
-    (take (h .nvars) (partsOf lists r .names)) (take (h .nvars) (partsOf lists r .lens))
-    (take (h .nroots) (partsOf lists r .rootnames)) (take (h .nroots) (partsOf lists r .rootlens)) out
+    exportWith f h (take (h .nroots) (partsOf longLists r .roots)) (r .ids) (r .permids)
+    (take (h .nvars) (partsOf longLists r .names)) (take (h .nvars) (partsOf longLists r .lens))
+    (take (h .nroots) (partsOf longLists r .rootnames)) (take (h .nroots) (partsOf longLists r .rootlens)) out
 
 -- a file of some length, or a refusal and its line
 pub data Recoded : Type 0 where
@@ -90,34 +90,34 @@ ofRead (value n) = written n
 ofRead (refused k) = refusal k 0
 
 -- a refusal, and zeros in an output of so many bytes
-pub record Refuses (n line lent : ℕ) (a : Recoded) (out : List ℕ) : Type 0 where
+pub record RefusesFile (n line lent : ℕ) (a : Recoded) (out : List ℕ) : Type 0 where
   pub answer : a ≡ refusal n line
   pub bytes : out ≡ replicate lent 0
 
 -- what an export leaves: the order of lines inside a level is left open, as the export leaves it
-pub record Exporting (x : Export) (σ : Store) (a : Recoded) (out : List ℕ) : Type 0 where
+pub record ExportingAgain (x : Export) (σ : Store) (a : Recoded) (out : List ℕ) : Type 0 where
   pub exported : Exported
   pub exports : Exports x σ exported out
   pub answer : a ≡ ofRead (ofExported exported)
 
 -- after the load
-abbrev pub Reloads : List ℕ → Loaded → head.Answer → ℕ → Recoded → List ℕ → Type 0
-Reloads f r (head.refusal n line) lent a out = Refuses n line lent a out
-Reloads f r (head.header h) lent a out = Exporting (exportOf f h r lent) (r .after) a out
+abbrev pub Reloads : List ℕ → Loaded → head.HeaderAnswer → ℕ → Recoded → List ℕ → Type 0
+Reloads f r (head.refusal n line) lent a out = RefusesFile n line lent a out
+Reloads f r (head.header h) lent a out = ExportingAgain (exportOf f h r lent) (r .after) a out
 
 -- at the levels that the header names
 abbrev pub reloadOf : List ℕ → head.Header → Loaded
-reloadOf f h = loadedAt f (levelList (h .nvars) (headOf f .permids)) (h .nvars)
+reloadOf f h = loadedAt f (levelList (h .nvars) (headRead f .permids)) (h .nvars)
 
 -- after the header
-abbrev pub Heads : List ℕ → head.Answer → ℕ → Recoded → List ℕ → Type 0
-Heads f (head.refusal n line) lent a out = Refuses n line lent a out
+abbrev pub Heads : List ℕ → head.HeaderAnswer → ℕ → Recoded → List ℕ → Type 0
+Heads f (head.refusal n line) lent a out = RefusesFile n line lent a out
 Heads f (head.header h) lent a out = Reloads f (reloadOf f h) (reloadOf f h .answer) lent a out
 
 -- 'else 19 line 0'
 abbrev pub Sized : Bool → List ℕ → ℕ → Recoded → List ℕ → Type 0
-Sized true f lent a out = Refuses 19 0 lent a out
-Sized false f lent a out = Heads f (headOf f .answer) lent a out
+Sized true f lent a out = RefusesFile 19 0 lent a out
+Sized false f lent a out = Heads f (headRead f .answer) lent a out
 
 -- What the program makes of an input, in an output of so many bytes.
 abbrev pub Recodes : List ℕ → ℕ → Recoded → List ℕ → Type 0

@@ -6,11 +6,10 @@ ghost use Prim.Native.Nat.{_≤_};
 ghost use lib.ListN.{length};
 ghost use Rattle.codes.specs.Lent.{laid};
 ghost use Rattle.codes.specs.Limits.{varLimit};
-ghost use Rattle.store.specs.Store.{store};
-ghost use Rattle.header.specs.Kinds.{ofHeader};
-ghost use Rattle.recode_levels.specs.Levels.{Judged};
-ghost use Rattle.recoding.specs.Recode.{headOf, loadedAt, allThere, exportWith, Exporting, Reloads, Recodes};
+ghost use Rattle.recode_levels.specs.Levels.{JudgedLevels};
+ghost use Rattle.recoding.specs.Recode.{headRead, allThere, Recodes};
 ghost use Rattle.recoding.specs.Kinds.{ofRecoded, planBy, listBy};
+ghost use Rattle.recoding.specs.Promises.{WriteBackPromise, ReloadPromise};
 use codes::limits;
 use codes::refusal;
 use edges::Edge;
@@ -40,8 +39,8 @@ pub const SLOTS: usize = 4096;
 
 // Reads the header for the level count and the level list, which is laid over the front of a list.
 fn plan_levels(f: &[u8], list: &mut [u16]) -> Plan
-    ensures { λ r. ⌜ r ≡ planBy (headOf (now (f .entry))) (headOf (now (f .entry)) .answer) ⌝ }
-    ensures { λ _. ⌜ now (list .exit) ≡ laid (listBy (headOf (now (f .entry))) (headOf (now (f .entry)) .answer)) (now (list .entry)) ⌝ }
+    ensures { λ r. ⌜ r ≡ planBy (headRead (now (f .entry))) (headRead (now (f .entry)) .answer) ⌝ }
+    ensures { λ _. ⌜ now (list .exit) ≡ laid (listBy (headRead (now (f .entry))) (headRead (now (f .entry)) .answer)) (now (list .entry)) ⌝ }
 {
     let mut ids = [0u32; limits::VAR_LIMIT];
     let mut order = [0u32; limits::VAR_LIMIT];
@@ -119,9 +118,9 @@ fn write_back(
     rootlens: &[u32],
     out: &mut [u8],
 ) -> Recoded
-    requires { ⌜ Judged (h .nvars) (now ids) (now permids) ⌝ }
+    requires { ⌜ JudgedLevels (h .nvars) (now ids) (now permids) ⌝ }
     requires { ⌜ (length (now names) ≡ length (now lens)) × (length (now rootnames) ≡ length (now rootlens)) ⌝ }
-    ensures { λ r. ⌜ Exporting (exportWith (now (f .entry)) (ofHeader h) (now (roots .entry)) (now (ids .entry)) (now (permids .entry)) (now (names .entry)) (now (lens .entry)) (now (rootnames .entry)) (now (rootlens .entry)) (length (now (out .entry)))) (store levels count (now (level .entry)) (now (then .entry)) (now (els .entry)) (now (next .entry)) (now (heads .entry))) (ofRecoded r) (now (out .exit)) ⌝ }
+    ensures { λ r. ⌜ WriteBackPromise f h levels count level then els next heads roots ids permids names lens rootnames rootlens out r ⌝ }
 {
     let dd = h.dd;
     let settings = ExportSettings::default()
@@ -161,7 +160,7 @@ fn write_back(
 
 // Loads a file at some levels of an empty store and exports it again.
 fn reload(f: &[u8], list: &[u16], levels: u16, out: &mut [u8]) -> Recoded
-    ensures { λ r. ⌜ Reloads (now (f .entry)) (loadedAt (now (f .entry)) (now (list .entry)) levels) (loadedAt (now (f .entry)) (now (list .entry)) levels .answer) (length (now (out .entry))) (ofRecoded r) (now (out .exit)) ⌝ }
+    ensures { λ r. ⌜ ReloadPromise f list levels out r ⌝ }
 {
     let mut count: Index = 1;
     let mut level = [0u16; SLOTS];

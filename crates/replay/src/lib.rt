@@ -5,7 +5,7 @@ ghost use mathlib.Core.Path.{_≡_};
 ghost use lib.ListN.{length};
 ghost use Rattle.io.specs.Counts.{Counts};
 ghost use Rattle.replay.specs.Numbers.{twoAt, fourAt, eightAt};
-ghost use Rattle.replay.specs.Counting.{more, ofComparison, none, counted};
+ghost use Rattle.replay.specs.Counting.{oneMore, ofComparison, noCases, tallied};
 
 // What came of one case, or why there is none.
 pub enum Outcome {
@@ -81,7 +81,7 @@ pub fn compared(same: bool) -> Outcome
 }
 
 fn one_more(n: u64) -> u64
-    ensures { λ r. ⌜ r ≡ more n ⌝ }
+    ensures { λ r. ⌜ r ≡ oneMore n ⌝ }
 {
     if n < MOST { n + 1 } else { n }
 }
@@ -89,7 +89,7 @@ fn one_more(n: u64) -> u64
 impl Tally {
     // Before the first case.
     pub fn new() -> Tally
-        ensures { λ r. ⌜ r ≡ none ⌝ }
+        ensures { λ r. ⌜ r ≡ noCases ⌝ }
     {
         Tally {
             cases: 0,
@@ -101,7 +101,7 @@ impl Tally {
 
     // After one case more, or the end.
     pub fn after(self, came: Outcome) -> Tally
-        ensures { λ r. ⌜ r ≡ counted self came ⌝ }
+        ensures { λ r. ⌜ r ≡ tallied self came ⌝ }
     {
         let cases = self.cases;
         let differ = self.differ;

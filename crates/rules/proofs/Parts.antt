@@ -8,7 +8,7 @@ use native.Mathlib.Decide.{decLt}
 use lib.ListN.{length}
 use lib.IntN.{ℤ}
 use Rattle.store.specs.Store.{store, slots}
-use Rattle.store.specs.Rules.{limits, Sizes, Alike, Nodes, bucket, Chains, Zero, Zeros}
+use Rattle.store.specs.Rules.{limits, Sizes, AlikeNodes, Nodes, bucket, Chains, Zero, Zeros}
 use Rattle.store.specs.Keeps.{Decides, says-no, keeps, is-keeps}
 use Rattle.unique_table.specs.Index.{AllAlone}
 use Rattle.node_rules.specs.Check.{AllFit}
@@ -32,7 +32,7 @@ module _ (levels count : ℕ) (L : List ℕ) (T E : List ℤ) (X H : List ℕ) w
     alone = λ m n a b c d x. alone m n a b c d x (decLt m n) (decLt n m);
   }
     where
-      alone : (m n : ℕ) → 2 ≤ m → m ≤ count → 2 ≤ n → n ≤ count → Alike (store levels count L T E X H) m n → Dec (m < n) → Dec (n < m) → m ≡ n
+      alone : (m n : ℕ) → 2 ≤ m → m ≤ count → 2 ≤ n → n ≤ count → AlikeNodes (store levels count L T E X H) m n → Dec (m < n) → Dec (n < m) → m ≡ n
       alone m n a b c d x (yes l) r = absurd (A n c d m a l (record { level = x .level; then = x .then; els = x .els }))
       alone m n a b c d x (no f) (yes l) = absurd (A m a b n c l (record { level = sym (x .level); then = sym (x .then); els = sym (x .els) }))
       alone m n a b c d x (no f) (no g) = omega arith

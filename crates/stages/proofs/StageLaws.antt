@@ -20,7 +20,7 @@ use Rattle.import_steps.specs.Kinds.{ofImported}
 use Rattle.import_steps.specs.declared.Imported.{Imported}
 use Rattle.import_steps.specs.declared.Imported.the-variants as imported
 use Rattle.calls.specs.Load.{scratchFault, listFault}
-use Rattle.stages.specs.Stages.{storeAfter, scratched, listed, withNodes, clearedIf}
+use Rattle.stages.specs.Stages.{storeAfter, scratched, listed, answerWithNodes, clearedIf}
 
 module _ (found : ℕ) (σ : Store) where
   -- what was found before stays
@@ -79,11 +79,11 @@ module _ (levels : ℕ) (list : List ℕ) (r : Loaded) where
 
 module _ (h : Header) (r : Imported) where
   -- nodes that are read leave the header
-  pub with-read : (at : ℕ) → r ≡ imported.Nodes at → header h ≡ withNodes h (ofImported r)
+  pub with-read : (at : ℕ) → r ≡ imported.Nodes at → header h ≡ answerWithNodes h (ofImported r)
   with-read at q = rw q
 
   -- their refusal is the load's
-  pub with-refused : (k line : ℕ) → r ≡ imported.Refused k line → refusal k line ≡ withNodes h (ofImported r)
+  pub with-refused : (k line : ℕ) → r ≡ imported.Refused k line → refusal k line ≡ answerWithNodes h (ofImported r)
   with-refused k line q = rw q
 
 module _ {b : Bool} (l : List ℕ) where

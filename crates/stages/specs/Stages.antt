@@ -8,7 +8,7 @@ use lib.IntN.{ℤ, pos}
 use Rattle.codes.specs.Faults.{firstFault}
 use Rattle.store.specs.Store.{Store}
 use Rattle.store.specs.Rules.{limits, Rules}
-use Rattle.header.specs.Header.{Header, Answer, header, refusal}
+use Rattle.header.specs.Header.{Header, HeaderAnswer, header, refusal}
 use Rattle.imported.specs.Build.{LevelsOf}
 use Rattle.imported.specs.Import as nodes
 use Rattle.calls.specs.Load.{storeFault, scratchFault, listFault, setupFor}
@@ -18,48 +18,48 @@ unfoldable pub storeAfter : ℕ → Store → ℕ
 storeAfter found σ = firstFault (found ∷ storeFault σ ∷ [])
 
 -- a header, where nothing is refused of it
-abbrev pub unlessRefused : Header → ℕ → Answer
+abbrev pub unlessRefused : Header → ℕ → HeaderAnswer
 unlessRefused h zero = header h
 unlessRefused h (suc k) = refusal (suc k) 0
 
 -- '1 (scratch)': the lengths of the two scratch lists, after the answer so far
-abbrev pub scratched : ℕ → ℕ → Answer → Answer
+abbrev pub scratched : ℕ → ℕ → HeaderAnswer → HeaderAnswer
 scratched edges seats (header h) = unlessRefused h (scratchFault (h .nnodes) edges seats)
 scratched edges seats (refusal n line) = refusal n line
 
 -- '2': the level list, after the answer so far
-abbrev pub listed : ℕ → List ℕ → Answer → Answer
+abbrev pub listed : ℕ → List ℕ → HeaderAnswer → HeaderAnswer
 listed levels list (header h) = unlessRefused h (listFault (h .nsuppvars) levels list)
 listed levels list (refusal n line) = refusal n line
 
 -- what the nodes lean on, where there is a header: the store's rules, the level list, and limits that were judged before
-abbrev pub Readable : Answer → Store → List ℕ → ℕ → ℕ → Type 0
+abbrev pub Readable : HeaderAnswer → Store → List ℕ → ℕ → ℕ → Type 0
 Readable (header h) σ list edges seats =
     Rules limits σ × (LevelsOf σ list × nodes.Bounded (setupFor list (σ .levels) h) edges seats)
 Readable (refusal n line) σ list edges seats = Unit
 
 -- the header stands where its nodes are read
-abbrev pub withNodes : Header → nodes.Answer → Answer
-withNodes h (nodes.nodes at) = header h
-withNodes h (nodes.refusal k line) = refusal k line
+abbrev pub answerWithNodes : Header → nodes.NodesAnswer → HeaderAnswer
+answerWithNodes h (nodes.nodes at) = header h
+answerWithNodes h (nodes.refusal k line) = refusal k line
 
 -- what the nodes leave: the answer, the store, and the roots in place of their numbers
 pub record Noded : Type 0 where
-  pub answer : Answer
+  pub answer : HeaderAnswer
   pub after : Store
   pub roots : List ℤ
 
 abbrev pub noded : Header → nodes.Imported → Noded
-noded h r = record { answer = withNodes h (r .answer); after = r .after; roots = r .roots }
+noded h r = record { answer = answerWithNodes h (r .answer); after = r .after; roots = r .roots }
 
 -- 'nodes, 39', after the answer so far
-unfoldable pub nodesAfter : Answer → Store → List ℕ → List ℕ → List ℤ → Noded
+unfoldable pub nodesAfter : HeaderAnswer → Store → List ℕ → List ℕ → List ℤ → Noded
 nodesAfter (header h) σ f list ids = noded h (nodes.importOf (setupFor list (σ .levels) h) σ f (h .next) ids)
 nodesAfter (refusal n line) σ f list ids =
     record { answer = refusal n line; after = σ; roots = replicate (length ids) (pos 0) }
 
 -- is it a refusal?
-abbrev pub isRefusal : Answer → Bool
+abbrev pub isRefusal : HeaderAnswer → Bool
 isRefusal (header h) = false
 isRefusal (refusal n line) = true
 

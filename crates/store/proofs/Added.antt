@@ -10,7 +10,7 @@ use lib.Seq.{getD-set-other}
 use lib.IntN.{ℤ, pos}
 use Rattle.edges.specs.Edge.{bucketOf}
 use Rattle.store.specs.Store.{Store, levelAt, thenAt, elseAt, headAt}
-use Rattle.store.specs.Rules.{Limits, Sizes, Fits, Alike, Nodes, Zero, Zeros, Rules}
+use Rattle.store.specs.Rules.{Limits, Sizes, Fits, AlikeNodes, Nodes, Zero, Zeros, Rules}
 use Rattle.store.specs.Make.{added}
 use Rattle.store.specs.Growth.{Grows}
 use Rattle.store.proofs.Growth.{grow-fits}
@@ -43,13 +43,13 @@ module _ (m : Limits) (σ : Store) (l : ℕ) (t e : ℤ) (z : Sizes m σ) (h : �
             let b : n ≤ σ .count = omega (arith, added-count) in
             rw (G .level n p b, G .then n p b, G .els n p b) (grow-fits G n (levelAt σ n) (thenAt σ n) (elseAt σ n) (omega arith) (N .fits n p b))
 
-    added-alone : (a b : ℕ) → 2 ≤ a → a ≤ added σ l t e .count → 2 ≤ b → b ≤ added σ l t e .count → Alike (added σ l t e) a b → a ≡ b
+    added-alone : (a b : ℕ) → 2 ≤ a → a ≤ added σ l t e .count → 2 ≤ b → b ≤ added σ l t e .count → AlikeNodes (added σ l t e) a b → a ≡ b
     added-alone a b a2 ac b2 bc x = go (ℕ-discrete a (σ .count + 1)) (ℕ-discrete b (σ .count + 1))
       where
         G : Grows σ (added σ l t e)
         G = added-grows
 
-        clash : (a b : ℕ) → 2 ≤ b → b ≤ σ .count → a ≡ σ .count + 1 → Alike (added σ l t e) a b → ⊥
+        clash : (a b : ℕ) → 2 ≤ b → b ≤ σ .count → a ≡ σ .count + 1 → AlikeNodes (added σ l t e) a b → ⊥
         clash a b b2 bc q x = A b b2 bc (record {
           level = sym (G .level b b2 bc) ∙ sym (x .level) ∙ ap (levelAt (added σ l t e)) q ∙ added-holds .level;
           then = sym (G .then b b2 bc) ∙ sym (x .then) ∙ ap (thenAt (added σ l t e)) q ∙ added-holds .then;

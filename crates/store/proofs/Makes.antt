@@ -16,7 +16,7 @@ use Rattle.edges.proofs.Edge.{abs-neg, minus-neg, plain-is, eqZ-true, eqZ-false
 use Rattle.store.specs.Store.{Store}
 use Rattle.store.specs.Meaning.{Setting, answer}
 use Rattle.store.specs.Rules.{Limits, Sizes, depth, Fits, Nodes, Rules}
-use Rattle.store.specs.Make.{find, added, Made, made, full, roomFor, placed, insert, negated, turned, make, Makes}
+use Rattle.store.specs.Make.{find, added, Made, made, full, roomFor, placedNode, insert, negated, turned, make, Makes}
 use Rattle.store.specs.Growth.{EdgeOf, Grows}
 use Rattle.store.proofs.Meaning.{depth-node, node-step, opposite-edge, answer-opposite}
 use Rattle.store.proofs.Growth.{grows-refl, grow-depth, grow-answer}
@@ -87,7 +87,7 @@ module _ (m : Limits) (σ : Store) (l : ℕ) (t e : ℤ) where
           record { rules = K; grows = G; long = added-length m σ l t e z (k .0); edged = λ a x. edged-value (pos (σ .count + 1)) a x X }
       new q false r = record { rules = R; grows = grows-refl σ; long = refl; edged = λ a x. let y : _≡_ {A = ℕ} 0 1 = cc in absurd (omega arith) }
 
-      go : (r : ℕ) → find σ l t e ≡ r → Gives m σ l t e (placed m σ l t e r)
+      go : (r : ℕ) → find σ l t e ≡ r → Gives m σ l t e (placedNode m σ l t e r)
       go zero q = new q (roomFor m σ) refl
       go (suc n) q =
           let s = find-some σ l t e (omega arith) in
@@ -104,7 +104,7 @@ module _ (m : Limits) (σ : Store) (l : ℕ) (t e : ℤ) where
       new true q = let y : _≡_ {A = ℕ} 0 1 = cc in absurd (omega arith)
       new false q = refl
 
-      go : (r : ℕ) → find σ l t e ≡ r → placed m σ l t e r .answer ≡ refused 40 → Absent σ l t e × (roomFor m σ ≡ false)
+      go : (r : ℕ) → find σ l t e ≡ r → placedNode m σ l t e r .answer ≡ refused 40 → Absent σ l t e × (roomFor m σ ≡ false)
       go zero f q = (find-none σ l t e f, new (roomFor m σ) q)
       go (suc n) f q = let y : _≡_ {A = ℕ} 0 1 = cc in absurd (omega arith)
 
@@ -118,7 +118,7 @@ module _ (m : Limits) (σ : Store) (l : ℕ) (t e : ℤ) where
       new true q = let y : _≡_ {A = ℕ} 0 1 = cc in absurd (omega arith)
       new false q = (cc, refl)
 
-      go : (r : ℕ) → placed m σ l t e r .answer ≡ refused k → (k ≡ 40) × (placed m σ l t e r .after ≡ σ)
+      go : (r : ℕ) → placedNode m σ l t e r .answer ≡ refused k → (k ≡ 40) × (placedNode m σ l t e r .after ≡ σ)
       go zero q = new (roomFor m σ) q
       go (suc n) q = let y : _≡_ {A = ℕ} 0 1 = cc in absurd (omega arith)
 

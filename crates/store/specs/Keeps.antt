@@ -10,7 +10,7 @@ use native.Mathlib.Decide.{map-dec, decLt, decLe, ℕ-discrete}
 use lib.IntN.{ℤ, pos, natAbs, ℤ-discrete}
 use lib.ListN.{length}
 use Rattle.store.specs.Store.{Store, levelAt, thenAt, elseAt}
-use Rattle.store.specs.Rules.{Limits, Sizes, depth, Fits, Alike, Nodes, Chains, Zero, Zeros, Rules}
+use Rattle.store.specs.Rules.{Limits, Sizes, depth, Fits, AlikeNodes, Nodes, Chains, Zero, Zeros, Rules}
 
 -- an answer that is true exactly where P holds
 pub record Decides (r : Bool) (P : Type 0) : Type 0 where
@@ -94,14 +94,14 @@ fits? σ n l t e = map-dec
     (both (decLe 1 (natAbs t)) (both (decLt (natAbs t) n) (both (decLt l (depth σ (natAbs t)))
     (both (decLe 1 (natAbs e)) (both (decLt (natAbs e) n) (both (decLt l (depth σ (natAbs e))) (decLt l (σ .levels))))))))))
 
-alike? : (σ : Store) (m n : ℕ) → Dec (Alike σ m n)
+alike? : (σ : Store) (m n : ℕ) → Dec (AlikeNodes σ m n)
 alike? σ m n = map-dec (λ x. record { level = x .0; then = x .1 .0; els = x .1 .1 }) (λ a. (a .level, (a .then, a .els)))
     (both (ℕ-discrete _ _) (both (ℤ-discrete _ _) (ℤ-discrete _ _)))
 
 nodes? : (σ : Store) → Dec (Nodes σ)
 nodes? σ = map-dec (λ x. record { fits = x .0; alone = λ m n a b c d e. x .1 m a b n c d e }) (λ N. (N .fits, λ m a b n c d e. N .alone m n a b c d e))
     (both (upTo (λ n. Fits σ n (levelAt σ n) (thenAt σ n) (elseAt σ n)) (λ n. fits? σ n (levelAt σ n) (thenAt σ n) (elseAt σ n)) 2 (σ .count))
-    (upTo (λ m. (n : ℕ) → 2 ≤ n → n ≤ σ .count → Alike σ m n → m ≡ n) (λ m. upTo (λ n. Alike σ m n → m ≡ n) (λ n. implies (alike? σ m n) (ℕ-discrete m n)) 2 (σ .count)) 2 (σ .count)))
+    (upTo (λ m. (n : ℕ) → 2 ≤ n → n ≤ σ .count → AlikeNodes σ m n → m ≡ n) (λ m. upTo (λ n. AlikeNodes σ m n → m ≡ n) (λ n. implies (alike? σ m n) (ℕ-discrete m n)) 2 (σ .count)) 2 (σ .count)))
 
 chains? : (σ : Store) → Dec (Chains σ)
 chains? σ = map-dec (λ f b h. f b (omega arith) h) (λ f b p h. f b h) (every _ (λ b. List-discrete ℕ-discrete _ _) 0 256)

@@ -50,13 +50,13 @@ full σ = record { answer = refused 40; after = σ }
 abbrev pub roomFor : Limits → Store → Bool
 roomFor m σ = ltb (σ .count) (length (σ .level)) && ltb (σ .count) (m .nodes)
 
-abbrev pub placed : Limits → Store → ℕ → ℤ → ℤ → ℕ → Made
-placed m σ l t e zero = cond (roomFor m σ) (made (pos (σ .count + 1)) (added σ l t e)) (full σ)
-placed m σ l t e (suc n) = made (pos (suc n)) σ
+abbrev pub placedNode : Limits → Store → ℕ → ℤ → ℤ → ℕ → Made
+placedNode m σ l t e zero = cond (roomFor m σ) (made (pos (σ .count + 1)) (added σ l t e)) (full σ)
+placedNode m σ l t e (suc n) = made (pos (suc n)) σ
 
 -- a node with a positive then: found, or 'takes the next number'
 unfoldable pub insert : Limits → Store → ℕ → ℤ → ℤ → Made
-insert m σ l t e = placed m σ l t e (find σ l t e)
+insert m σ l t e = placedNode m σ l t e (find σ l t e)
 
 -- the same node under a minus
 abbrev pub negated : Read ℤ → Read ℤ

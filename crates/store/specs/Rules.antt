@@ -56,7 +56,7 @@ pub record Fits (σ : Store) (n l : ℕ) (t e : ℤ) : Type 0 where
   pub level-low : l < σ .levels
 
 -- two nodes alike
-pub record Alike (σ : Store) (m n : ℕ) : Type 0 where
+pub record AlikeNodes (σ : Store) (m n : ℕ) : Type 0 where
   pub level : levelAt σ m ≡ levelAt σ n
   pub then : thenAt σ m ≡ thenAt σ n
   pub els : elseAt σ m ≡ elseAt σ n
@@ -65,7 +65,7 @@ pub record Alike (σ : Store) (m n : ℕ) : Type 0 where
 pub record Nodes (σ : Store) : Type 0 where
   pub fits : (n : ℕ) → 2 ≤ n → n ≤ σ .count → Fits σ n (levelAt σ n) (thenAt σ n) (elseAt σ n)
   -- 'no two nodes alike'
-  pub alone : (m n : ℕ) → 2 ≤ m → m ≤ σ .count → 2 ≤ n → n ≤ σ .count → Alike σ m n → m ≡ n
+  pub alone : (m n : ℕ) → 2 ≤ m → m ≤ σ .count → 2 ≤ n → n ≤ σ .count → AlikeNodes σ m n → m ≡ n
 
 -- '256 buckets: level + 3 × then + 5 × else, where the sum wraps at 65,536, remainder by 256'
 unfoldable pub bucket : Store → ℕ → ℕ

@@ -6,7 +6,7 @@ use native.Mathlib.Omega.{arith}
 use native.Mathlib.Decide.{ℕ-discrete}
 use lib.ListN.{length, getD, set, replicate, length-set}
 use Rattle.store.specs.Store.{Store, levelAt, thenAt, elseAt}
-use Rattle.store.specs.Rules.{Alike}
+use Rattle.store.specs.Rules.{AlikeNodes}
 use Rattle.store.proofs.Find.{true-holds}
 use Rattle.unique_table.specs.Index.{Indexed, Sought, AllAlone}
 use Rattle.unique_table.proofs.Seeking.{sought-holds}
@@ -54,7 +54,7 @@ module _ (width : ℕ) (σ : Store) (count : ℕ) where
         where
           go : Dec (k ≡ n) → ⊥
           go (yes q) =
-              let b : Alike σ m n = rw q at a in
+              let b : AlikeNodes σ m n = rw q at a in
               s .none z m r (omega arith) (true-holds σ _ _ _ m (record { level = b .level; then = b .then; els = b .els }))
           go (no f) = B .alone k p (omega arith) m r l a
 

@@ -6,15 +6,15 @@ use native.Mathlib.Omega.{arith}
 use native.Mathlib.Nat.{mod-lt, mul-comm, mul-le-mul, mul-lt-mul-of-pos-right, div-lt-iff-lt-mul}
 use lib.IntN.{ℤ}
 use Rattle.edges.specs.Edge.{bits}
-use Rattle.unique_table.specs.Index.{keyOf, headOf}
+use Rattle.unique_table.specs.Index.{nodeKey, headEntry}
 
-pub key-is : (l x y : ℕ) (t e : ℤ) → x ≡ bits 16 e → y ≡ bits 16 t → x + 2 ^ 16 * y + 2 ^ 32 * l ≡ keyOf l t e
-unfolding keyOf
+pub key-is : (l x y : ℕ) (t e : ℤ) → x ≡ bits 16 e → y ≡ bits 16 t → x + 2 ^ 16 * y + 2 ^ 32 * l ≡ nodeKey l t e
+unfolding nodeKey
 key-is l x y t e p q = rw (p, q)
 
 pub head-is : (width l x y : ℕ) (t e : ℤ) → y ≡ bits 16 t → x ≡ bits 16 e
-    → (l * 2654435769 + y * 3144134277 + x * 2246822519) / 2 ^ 16 % 2 ^ 32 * width / 2 ^ 32 ≡ headOf width l t e
-unfolding headOf
+    → (l * 2654435769 + y * 3144134277 + x * 2246822519) / 2 ^ 16 % 2 ^ 32 * width / 2 ^ 32 ≡ headEntry width l t e
+unfolding headEntry
 head-is width l x y t e p q = rw (p, q)
 
 -- a part of a width is below it
@@ -24,8 +24,8 @@ part-below p width h w =
     let z : 0 < 2 ^ 32 = omega arith in
     div-lt-iff-lt-mul z .1 (rw (mul-comm width (2 ^ 32)) k)
 
-pub head-below : (width l : ℕ) (t e : ℤ) → 1 ≤ width → headOf width l t e < width
-unfolding headOf
+pub head-below : (width l : ℕ) (t e : ℤ) → 1 ≤ width → headEntry width l t e < width
+unfolding headEntry
 head-below width l t e w = part-below _ width (mod-lt _ (omega arith)) w
 
 pub part-fits : (p width : ℕ) → p < 2 ^ 32 → width ≤ 2 ^ 16 → p * width < 2 ^ 64

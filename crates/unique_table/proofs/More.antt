@@ -10,7 +10,7 @@ use lib.IntN.{ℤ}
 use Rattle.store.specs.Store.{Store, levelAt, thenAt, elseAt}
 use Rattle.store.proofs.Chain.{Agree}
 use Rattle.store.proofs.Find.{Holds}
-use Rattle.unique_table.specs.Index.{keyOf, headOf, onFrom, Leads, arrived, on, Meets, Indexed, Sought}
+use Rattle.unique_table.specs.Index.{nodeKey, headEntry, onFrom, LeadsOn, arrived, on, MeetsEntry, Indexed, Sought}
 use Rattle.unique_table.proofs.Mixed.{head-below, bit-below}
 
 -- what stands in a list of zeros, and beyond it
@@ -46,17 +46,17 @@ indexed-same width σ τ c ix I a = record {
 }
 
 -- the entry that a search comes to is a head, or belongs to one of the nodes
-leads-low : {width : ℕ} {σ : Store} {c : ℕ} {ix : List ℕ} (to : ℕ) {k at : ℕ} → Indexed width σ c ix → at < width + 2 * c + 2 → Leads width ix to k at → to < width + 2 * c + 2
+leads-low : {width : ℕ} {σ : Store} {c : ℕ} {ix : List ℕ} (to : ℕ) {k at : ℕ} → Indexed width σ c ix → at < width + 2 * c + 2 → LeadsOn width ix to k at → to < width + 2 * c + 2
 leads-low to I h (arrived q) = omega arith
 leads-low to {k} {at} I h (on p x) = leads-low to I (omega (arith, I .high at, bit-below k)) x
 
 -- a search passes no empty entry, so what is put into one doesn't turn it elsewhere
-leads-set : {width : ℕ} {ix : List ℕ} (to at v : ℕ) {k a : ℕ} → getD ix at 0 ≡ 0 → Leads width ix to k a → Leads width (set ix at v) to k a
+leads-set : {width : ℕ} {ix : List ℕ} (to at v : ℕ) {k a : ℕ} → getD ix at 0 ≡ 0 → LeadsOn width ix to k a → LeadsOn width (set ix at v) to k a
 leads-set to at v z (arrived q) = arrived q
 leads-set {width} {ix} to at v {k} {a} z (on p x) =
     let q = getD-set-other ix at a v 0 (λ y. omega (arith, ap (λ (i : ℕ). getD ix i 0) y)) in
     let g : 0 < getD (set ix at v) a 0 = rw q p in
-    let y : Leads width (set ix at v) to (k / 2) (onFrom width k (getD (set ix at v) a 0)) = rw q (leads-set to at v z x) in
+    let y : LeadsOn width (set ix at v) to (k / 2) (onFrom width k (getD (set ix at v) a 0)) = rw q (leads-set to at v z x) in
     on g y
 
 module _ (width : ℕ) (σ τ : Store) (c : ℕ) (ix : List ℕ) (I : Indexed width σ c ix) (l : ℕ) (t e : ℤ) (at : ℕ)
@@ -87,18 +87,18 @@ module _ (width : ℕ) (σ τ : Store) (c : ℕ) (ix : List ℕ) (I : Indexed wi
       rw (other i f, x) (I .up n b h (rw x at g))
 
   -- an old node is met as before, and the new one where it was put
-  old-met : (m k a : ℕ) → 2 ≤ m → Meets width ix m k a → Meets width (set ix at (c + 1)) m k a
+  old-met : (m k a : ℕ) → 2 ≤ m → MeetsEntry width ix m k a → MeetsEntry width (set ix at (c + 1)) m k a
   old-met m k a p M = record {
     place = M .place;
     leads = leads-set (M .place) at (c + 1) z (M .leads);
     node = other (M .place) (λ q. omega (arith, z, M .node, ap (λ (i : ℕ). getD ix i 0) q)) ∙ M .node;
   }
 
-  new-met : Meets width (set ix at (c + 1)) (c + 1) (keyOf l t e) (headOf width l t e)
+  new-met : MeetsEntry width (set ix at (c + 1)) (c + 1) (nodeKey l t e) (headEntry width l t e)
   new-met = record { place = at; leads = leads-set at at (c + 1) z (s .leads); node = here }
 
   meets-more : (m : ℕ) → 2 ≤ m → m ≤ c + 1 → Dec (m ≡ c + 1)
-      → Meets width (set ix at (c + 1)) m (keyOf (levelAt τ m) (thenAt τ m) (elseAt τ m)) (headOf width (levelAt τ m) (thenAt τ m) (elseAt τ m))
+      → MeetsEntry width (set ix at (c + 1)) m (nodeKey (levelAt τ m) (thenAt τ m) (elseAt τ m)) (headEntry width (levelAt τ m) (thenAt τ m) (elseAt τ m))
   meets-more m p h (yes q) = rw (q, H .level, H .then, H .els) new-met
   meets-more m p h (no f) =
       let g : m ≤ c = omega arith in

@@ -12,15 +12,15 @@ use Rattle.store.specs.Store.{Store, slots}
 use Rattle.store.specs.Rules.{Nodes}
 use Rattle.store.specs.Make.{holds, find}
 use Rattle.store.proofs.Find.{Holds, holds-true, true-holds, find-is, absent-find}
-use Rattle.unique_table.specs.Index.{keyOf, headOf, onFrom, Leads, arrived, on, Meets, Indexed, Sought}
+use Rattle.unique_table.specs.Index.{nodeKey, headEntry, onFrom, LeadsOn, arrived, on, MeetsEntry, Indexed, Sought}
 use Rattle.unique_table.proofs.Mixed.{head-below, bit-below}
 
 -- a search that has come to an entry, with what is left of its key and the number there
 pub record Seeking (width : ℕ) (σ : Store) (c : ℕ) (ix : List ℕ) (l : ℕ) (t e : ℤ) (k at n : ℕ) : Type 0 where
   pub is : n ≡ getD ix at 0
   pub low : at < width + 2 * c + 2
-  pub so-far : (to : ℕ) → Leads width ix to k at → Leads width ix to (keyOf l t e) (headOf width l t e)
-  pub left : (m : ℕ) → 2 ≤ m → m ≤ c → holds σ l t e m ≡ true → Meets width ix m k at
+  pub so-far : (to : ℕ) → LeadsOn width ix to k at → LeadsOn width ix to (nodeKey l t e) (headEntry width l t e)
+  pub left : (m : ℕ) → 2 ≤ m → m ≤ c → holds σ l t e m ≡ true → MeetsEntry width ix m k at
 
 -- how far a search still goes at most: numbers rise up to c, or it ends at 0
 abbrev pub rest : ℕ → ℕ → ℕ
@@ -34,12 +34,12 @@ rest-less c (suc n) (suc x) p h f = let g = f (omega arith) in omega arith
 
 module _ (width : ℕ) (σ : Store) (c : ℕ) (ix : List ℕ) (I : Indexed width σ c ix) (l : ℕ) (t e : ℤ) where
   -- a node that holds them is met from their head on
-  met : (m : ℕ) → 2 ≤ m → m ≤ c → holds σ l t e m ≡ true → Meets width ix m (keyOf l t e) (headOf width l t e)
+  met : (m : ℕ) → 2 ≤ m → m ≤ c → holds σ l t e m ≡ true → MeetsEntry width ix m (nodeKey l t e) (headEntry width l t e)
   met m a b h =
       let H = holds-true σ l t e m h in
       rw (H .level, H .then, H .els) at (I .meets m a b)
 
-  pub seeking-start : (k at : ℕ) → k ≡ keyOf l t e → at ≡ headOf width l t e → Seeking width σ c ix l t e k at (getD ix at 0)
+  pub seeking-start : (k at : ℕ) → k ≡ nodeKey l t e → at ≡ headEntry width l t e → Seeking width σ c ix l t e k at (getD ix at 0)
   seeking-start k at p q = rw (p, q) (record {
     is = refl;
     low = omega (arith, head-below width l t e (I .some));
@@ -74,11 +74,11 @@ module _ (width : ℕ) (σ : Store) (c : ℕ) (ix : List ℕ) (I : Indexed width
         left = λ m a b g. go m g (s .left m a b g);
       }
         where
-          further : (m to : ℕ) → holds σ l t e m ≡ true → getD ix to 0 ≡ m → Leads width ix to k at → Meets width ix m (k / 2) (onFrom width k n)
+          further : (m to : ℕ) → holds σ l t e m ≡ true → getD ix to 0 ≡ m → LeadsOn width ix to k at → MeetsEntry width ix m (k / 2) (onFrom width k n)
           further m to g q (arrived p) = absurd (true≢false (sym g ∙ ap (holds σ l t e) (sym q ∙ ap (λ (i : ℕ). getD ix i 0) (sym p) ∙ sym (s .is)) ∙ sym r ∙ f))
           further m to g q (on p y) = record { place = to; leads = rw (s .is) y; node = q }
 
-          go : (m : ℕ) → holds σ l t e m ≡ true → Meets width ix m k at → Meets width ix m (k / 2) (onFrom width k n)
+          go : (m : ℕ) → holds σ l t e m ≡ true → MeetsEntry width ix m k at → MeetsEntry width ix m (k / 2) (onFrom width k n)
           go m g M = further m (M .place) g (M .node) (M .leads)
 
       -- on either way from a node numbers rise
@@ -102,11 +102,11 @@ module _ (width : ℕ) (σ : Store) (c : ℕ) (ix : List ℕ) (I : Indexed width
       none = λ z m a b g. go m a (s .left m a b g);
     }
       where
-        nowhere : (m to : ℕ) → 2 ≤ m → getD ix to 0 ≡ m → Leads width ix to k at → ⊥
+        nowhere : (m to : ℕ) → 2 ≤ m → getD ix to 0 ≡ m → LeadsOn width ix to k at → ⊥
         nowhere m to a q (arrived p) = omega (arith, s .is, ap (λ (i : ℕ). getD ix i 0) p)
         nowhere m to a q (on p y) = omega (arith, s .is)
 
-        go : (m : ℕ) → 2 ≤ m → Meets width ix m k at → ⊥
+        go : (m : ℕ) → 2 ≤ m → MeetsEntry width ix m k at → ⊥
         go m a M = nowhere m (M .place) a (M .node) (M .leads)
 
   -- the node that a search gives

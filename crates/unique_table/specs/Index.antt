@@ -9,30 +9,30 @@ use lib.ListN.{length, getD}
 use lib.IntN.{ℤ}
 use Rattle.edges.specs.Edge.{bits}
 use Rattle.store.specs.Store.{Store, levelAt, thenAt, elseAt}
-use Rattle.store.specs.Rules.{Alike}
+use Rattle.store.specs.Rules.{AlikeNodes}
 use Rattle.store.specs.Make.{holds}
 
 -- the key of a level, a then and an else: all their bits, so that no two have one key
-unfoldable pub keyOf : ℕ → ℤ → ℤ → ℕ
-keyOf l t e = bits 16 e + 2 ^ 16 * bits 16 t + 2 ^ 32 * l
+unfoldable pub nodeKey : ℕ → ℤ → ℤ → ℕ
+nodeKey l t e = bits 16 e + 2 ^ 16 * bits 16 t + 2 ^ 32 * l
 
 -- the head where a search for them starts: a mix of the three, cut to 32 bits and scaled to the width
-unfoldable pub headOf : ℕ → ℕ → ℤ → ℤ → ℕ
-headOf width l t e = (l * 2654435769 + bits 16 t * 3144134277 + bits 16 e * 2246822519) / 2 ^ 16 % 2 ^ 32 * width / 2 ^ 32
+unfoldable pub headEntry : ℕ → ℕ → ℤ → ℤ → ℕ
+headEntry width l t e = (l * 2654435769 + bits 16 t * 3144134277 + bits 16 e * 2246822519) / 2 ^ 16 % 2 ^ 32 * width / 2 ^ 32
 
 -- the entry where a search with key k goes on from node n
 abbrev pub onFrom : ℕ → ℕ → ℕ → ℕ
 onFrom width k n = width + 2 * n + k % 2
 
 -- A search with key k that stands at an entry comes to the entry `to`, over entries that aren't 0.
-pub data Leads (width : ℕ) (ix : List ℕ) (to : ℕ) : ℕ → ℕ → Type 0 where
-  arrived : {k at : ℕ} → at ≡ to → Leads width ix to k at
-  on : {k at : ℕ} → 0 < getD ix at 0 → Leads width ix to (k / 2) (onFrom width k (getD ix at 0)) → Leads width ix to k at
+pub data LeadsOn (width : ℕ) (ix : List ℕ) (to : ℕ) : ℕ → ℕ → Type 0 where
+  arrived : {k at : ℕ} → at ≡ to → LeadsOn width ix to k at
+  on : {k at : ℕ} → 0 < getD ix at 0 → LeadsOn width ix to (k / 2) (onFrom width k (getD ix at 0)) → LeadsOn width ix to k at
 
 -- It meets node m there.
-pub record Meets (width : ℕ) (ix : List ℕ) (m k at : ℕ) : Type 0 where
+pub record MeetsEntry (width : ℕ) (ix : List ℕ) (m k at : ℕ) : Type 0 where
   pub place : ℕ
-  pub leads : Leads width ix place k at
+  pub leads : LeadsOn width ix place k at
   pub node : getD ix place 0 ≡ m
 
 -- The index of the nodes 2 to c.
@@ -47,16 +47,16 @@ pub record Indexed (width : ℕ) (σ : Store) (c : ℕ) (ix : List ℕ) : Type 0
   pub up : (n b : ℕ) → b < 2 → 0 < getD ix (width + 2 * n + b) 0 → n < getD ix (width + 2 * n + b) 0
   -- a search for what a node holds meets the node
   pub meets : (m : ℕ) → 2 ≤ m → m ≤ c
-      → Meets width ix m (keyOf (levelAt σ m) (thenAt σ m) (elseAt σ m)) (headOf width (levelAt σ m) (thenAt σ m) (elseAt σ m))
+      → MeetsEntry width ix m (nodeKey (levelAt σ m) (thenAt σ m) (elseAt σ m)) (headEntry width (levelAt σ m) (thenAt σ m) (elseAt σ m))
 
 -- What a search for a level, a then and an else gives: the entry of the node that holds them, or, where none of the nodes 2 to c does, the
 -- empty entry where such a node belongs.
 pub record Sought (width : ℕ) (σ : Store) (c : ℕ) (ix : List ℕ) (l : ℕ) (t e : ℤ) (at : ℕ) : Type 0 where
   pub within : at < length ix
-  pub leads : Leads width ix at (keyOf l t e) (headOf width l t e)
+  pub leads : LeadsOn width ix at (nodeKey l t e) (headEntry width l t e)
   pub hit : 0 < getD ix at 0 → holds σ l t e (getD ix at 0) ≡ true
   pub none : getD ix at 0 ≡ 0 → (m : ℕ) → 2 ≤ m → m ≤ c → holds σ l t e m ≡ true → ⊥
 
 -- 'no two nodes alike', of the nodes 2 to c: none is like an older one
 abbrev pub AllAlone : Store → ℕ → Type 0
-AllAlone σ c = (n : ℕ) → 2 ≤ n → n ≤ c → (m : ℕ) → 2 ≤ m → m < n → Alike σ m n → ⊥
+AllAlone σ c = (n : ℕ) → 2 ≤ n → n ≤ c → (m : ℕ) → 2 ≤ m → m < n → AlikeNodes σ m n → ⊥

@@ -7,7 +7,7 @@ ghost use lib.ListN.{length, replicate};
 ghost use Rattle.store.specs.Store.{slots};
 ghost use Rattle.store.specs.Keeps.{Decides};
 ghost use Rattle.store.specs.Make.{holds};
-ghost use Rattle.unique_table.specs.Index.{keyOf, headOf, Indexed, Sought, AllAlone};
+ghost use Rattle.unique_table.specs.Index.{nodeKey, headEntry, Indexed, Sought, AllAlone};
 use edges::Edge;
 use edges::Index;
 
@@ -25,7 +25,7 @@ pub const LEN: usize = 81920;
 
 // All the bits of a level, a then and an else.
 fn key(l: u16, t: Edge, e: Edge) -> u64
-    ensures { λ r. ⌜ r ≡ keyOf l t e ⌝ }
+    ensures { λ r. ⌜ r ≡ nodeKey l t e ⌝ }
 {
     edges::pattern(e) as u64 + 65536 * edges::pattern(t) as u64 + 4294967296 * l as u64
 }
@@ -33,7 +33,7 @@ fn key(l: u16, t: Edge, e: Edge) -> u64
 // The head for them. The numbers that they are multiplied by are odd and have no pattern, so that nodes that differ little get heads far apart.
 fn head(width: usize, l: u16, t: Edge, e: Edge) -> usize
     requires { ⌜ (1 ≤ width) × (width ≤ 2 ^ 16) ⌝ }
-    ensures { λ r. ⌜ r ≡ headOf width l t e ⌝ }
+    ensures { λ r. ⌜ r ≡ headEntry width l t e ⌝ }
 {
     let mixed = l as u64 * 2654435769
         + edges::pattern(t) as u64 * 3144134277

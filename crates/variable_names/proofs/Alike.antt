@@ -9,7 +9,7 @@ use borrow.Author.Tests.{eq-eqb, ne-eqb}
 use lib.ListN.{length, getD, drop, drop-of-length-le}
 use lib.Seq.{drop-cons}
 use Rattle.read_text.specs.Text.{place}
-use Rattle.variable_names.specs.Names.{places, sameBytes, sameName, sameNames, chosen}
+use Rattle.variable_names.specs.Names.{places, sameBytes, sameName, sameNames, chosenPlaces}
 use Rattle.variable_names.proofs.Placed.{getD-places}
 
 -- the first i bytes are the same, and the rest decides
@@ -62,8 +62,8 @@ pub record NamesLeft (f index starts lens index2 starts2 lens2 : List ℕ) (i : 
   pub whole : length lens ≡ length starts
   pub whole2 : length lens2 ≡ length starts2
   pub within : i ≤ length index
-  pub rest : sameNames f (chosen index (places starts lens)) (chosen index2 (places starts2 lens2))
-      ≡ sameNames f (chosen (drop i index) (places starts lens)) (chosen (drop i index2) (places starts2 lens2))
+  pub rest : sameNames f (chosenPlaces index (places starts lens)) (chosenPlaces index2 (places starts2 lens2))
+      ≡ sameNames f (chosenPlaces (drop i index) (places starts lens)) (chosenPlaces (drop i index2) (places starts2 lens2))
 
 -- at first all names decide
 pub names-start : {f index starts lens index2 starts2 lens2 : List ℕ}
@@ -73,17 +73,17 @@ names-start e w w2 = record { even = e; whole = w; whole2 = w2; within = omega a
 
 module _ {f index starts lens index2 starts2 lens2 : List ℕ} {i : ℕ} (l : NamesLeft f index starts lens index2 starts2 lens2 i) where
   -- all names are alike
-  pub names-end : length index ≤ i → true ≡ sameNames f (chosen index (places starts lens)) (chosen index2 (places starts2 lens2))
-  unfolding sameNames chosen
+  pub names-end : length index ≤ i → true ≡ sameNames f (chosenPlaces index (places starts lens)) (chosenPlaces index2 (places starts2 lens2))
+  unfolding sameNames chosenPlaces
   names-end h = sym (l .rest ∙ rw (drop-of-length-le index h))
 
   -- whether the names at i are alike, whose places are read one number at a time
   module _ (h : i < length index) {r : Bool} {a n b m : ℕ} (q : r ≡ sameName f (place a n) (place b m))
       (p : a ≡ getD starts (getD index i 0) 0) (p2 : n ≡ getD lens (getD index i 0) 0)
       (p3 : b ≡ getD starts2 (getD index2 i 0) 0) (p4 : m ≡ getD lens2 (getD index2 i 0) 0) where
-    turned : sameNames f (chosen (drop i index) (places starts lens)) (chosen (drop i index2) (places starts2 lens2))
-        ≡ r && sameNames f (chosen (drop (i + 1) index) (places starts lens)) (chosen (drop (i + 1) index2) (places starts2 lens2))
-    unfolding sameNames chosen
+    turned : sameNames f (chosenPlaces (drop i index) (places starts lens)) (chosenPlaces (drop i index2) (places starts2 lens2))
+        ≡ r && sameNames f (chosenPlaces (drop (i + 1) index) (places starts lens)) (chosenPlaces (drop (i + 1) index2) (places starts2 lens2))
+    unfolding sameNames chosenPlaces
     turned =
         let h2 : i < length index2 = omega (arith, l .even) in
         rw (add-one i, drop-cons index i 0 h, drop-cons index2 i 0 h2)
@@ -95,5 +95,5 @@ module _ {f index starts lens index2 starts2 lens2 : List ℕ} {i : ℕ} (l : Na
         record { even = l .even; whole = l .whole; whole2 = l .whole2; within = omega arith; rest = l .rest ∙ turned ∙ rw t }
 
     -- a name is unlike
-    pub names-unlike : r ≡ false → false ≡ sameNames f (chosen index (places starts lens)) (chosen index2 (places starts2 lens2))
+    pub names-unlike : r ≡ false → false ≡ sameNames f (chosenPlaces index (places starts lens)) (chosenPlaces index2 (places starts2 lens2))
     names-unlike t = sym (l .rest ∙ turned ∙ rw t)

@@ -5,7 +5,7 @@ use mathlib.Core.Bool.{true, false}
 use Prim.Native.Nat.{ℕ}
 use Rattle.read_text.specs.Text.{Place, place}
 use Rattle.seats.specs.Seats.{seatOf}
-use Rattle.variable_names.specs.Names.{empty, sameBytes, sameName, freeFrom, orderedFrom, orderedSeats, suppFrom, suppSeats, variableNames}
+use Rattle.variable_names.specs.Names.{emptyName, sameBytes, sameName, freeFrom, orderedFrom, orderedSeats, suppFrom, suppSeats, variableNames}
 
 abbrev ids : List ℕ
 ids = 0 ∷ 2 ∷ []
@@ -44,7 +44,7 @@ unfolding variableNames orderedSeats orderedFrom freeFrom seatOf
 from-ordered = refl
 
 -- else `.suppvarnames`
-pub from-supp : variableNames 3 ids permids [] [] (a ∷ c ∷ []) ≡ a ∷ empty ∷ c ∷ []
+pub from-supp : variableNames 3 ids permids [] [] (a ∷ c ∷ []) ≡ a ∷ emptyName ∷ c ∷ []
 unfolding variableNames suppSeats suppFrom seatOf
 from-supp = refl
 

@@ -8,8 +8,8 @@ use Rattle.read_text.specs.Text.{Place, place}
 use Rattle.seats.specs.Seats.{seatOf}
 
 -- 'An empty name .. is start 0, length 0.'
-abbrev pub empty : Place
-empty = place 0 0
+abbrev pub emptyName : Place
+emptyName = place 0 0
 
 -- the places that two lists, of starts and of lengths, hold
 unfoldable pub places : List ℕ → List ℕ → List Place
@@ -33,8 +33,8 @@ sameNames f (p ∷ ps) [] = true
 sameNames f (p ∷ ps) (q ∷ qs) = sameName f p q && sameNames f ps qs
 
 -- the names at positions of a list
-unfoldable pub chosen : List ℕ → List Place → List Place
-chosen is names = map (λ i. getD names i empty) is
+unfoldable pub chosenPlaces : List ℕ → List Place → List Place
+chosenPlaces is names = map (λ i. getD names i emptyName) is
 
 -- of the positions p, p + 1, .., n of them, those that are no permids, counted from 1
 unfoldable pub freeFrom : ℕ → ℕ → List ℕ → List ℕ
@@ -69,13 +69,13 @@ entryAt l zero = 0
 entryAt l (suc i) = getD l i 0
 
 -- the name at a seat of a list; an empty one where there is no seat
-abbrev pub nameAt : List Place → ℕ → Place
-nameAt names zero = empty
-nameAt names (suc i) = getD names i empty
+abbrev pub nameAtSeat : List Place → ℕ → Place
+nameAtSeat names zero = emptyName
+nameAtSeat names (suc i) = getD names i emptyName
 
 -- 'Names: `.varnames` first; else `.orderedvarnames`, support variables by permid and the rest in order; else `.suppvarnames` with empty names elsewhere.'
 unfoldable pub variableNames : ℕ → List ℕ → List ℕ → List Place → List Place → List Place → List Place
 variableNames nvars ids permids (n ∷ varnames) ordered supp = n ∷ varnames
-variableNames nvars ids permids [] (n ∷ ordered) supp = map (nameAt (n ∷ ordered)) (orderedSeats nvars ids permids)
-variableNames nvars ids permids [] [] (n ∷ supp) = map (nameAt (n ∷ supp)) (suppSeats nvars ids)
+variableNames nvars ids permids [] (n ∷ ordered) supp = map (nameAtSeat (n ∷ ordered)) (orderedSeats nvars ids permids)
+variableNames nvars ids permids [] [] (n ∷ supp) = map (nameAtSeat (n ∷ supp)) (suppSeats nvars ids)
 variableNames nvars ids permids [] [] [] = []

@@ -75,10 +75,10 @@ digit-is : (d : ℕ) → d < 10 → isDigit (48 + d) ≡ true
 unfolding isDigit
 digit-is d h = rw (le-leb 48 (48 + d) (omega arith), le-leb (48 + d) 57 (omega arith))
 
-digits-read : (k more n : ℕ) → n < 10 ^ suc k → Digits (digits k n) × (read.decimal (digits k n) ≡ n)
+digits-read : (k more n : ℕ) → n < 10 ^ suc k → Digits (digits k n) × (read.decimalValue (digits k n) ≡ n)
 unfolding valueOf valueFrom
 digits-read =
-    written-by in-ten (λ more n w. Digits w × (read.decimal w ≡ n)) (λ more n l. (each (digit-is n l) none, omega arith))
+    written-by in-ten (λ more n w. Digits w × (read.decimalValue w ≡ n)) (λ more n l. (each (digit-is n l) none, omega arith))
     (λ more n w l p. (digits-last (48 + n % 10) (p .0) (digit-is (n % 10) (omega arith)), decimal-last w (48 + n % 10) ∙ rw (p .1) (omega arith)))
 
 module _ (n : ℕ) (h : n < 2 ^ 64) where

@@ -9,21 +9,21 @@ use Rattle.writers.specs.Decimal.{decimal, edgeText}
 use Rattle.writers.specs.Binary.{sevenBit}
 
 -- a row: a number in 7-bit groups, a number in decimal digits, or an edge, and its bytes
-pub data Row : Type 0 where
-  binary : ℕ → List ℕ → Row
-  digits : ℕ → List ℕ → Row
-  edge : ℤ → List ℕ → Row
+pub data WriterRow : Type 0 where
+  binary : ℕ → List ℕ → WriterRow
+  digits : ℕ → List ℕ → WriterRow
+  edge : ℤ → List ℕ → WriterRow
 
-abbrev pub Holds : Row → Type 0
+abbrev pub Holds : WriterRow → Type 0
 Holds (binary n w) = sevenBit n ≡ w
 Holds (digits n w) = decimal n ≡ w
 Holds (edge e w) = edgeText e ≡ w
 
-abbrev pub All : List Row → Type 0
-All [] = Unit
-All (r ∷ rs) = Holds r × All rs
+abbrev pub AllWritten : List WriterRow → Type 0
+AllWritten [] = Unit
+AllWritten (r ∷ rs) = Holds r × AllWritten rs
 
-abbrev pub rows : List Row
+abbrev pub rows : List WriterRow
 rows =
     -- starred: 5: 00 01
     binary 5 (0x00 ∷ 0x01 ∷ [])

@@ -7,7 +7,7 @@ use Rattle.codes.specs.Lent.{laid}
 use Rattle.read_text.specs.Text.{startOf, lenOf}
 use Rattle.store.specs.Store.{Store, store}
 use Rattle.header.specs.Kinds.{ofLoaded}
-use Rattle.header.specs.Header.{Answer}
+use Rattle.header.specs.Header.{HeaderAnswer}
 use Rattle.header.proofs.Lengths.{length-may}
 use Rattle.calls.specs.Load.{beforeHeader, Parts, parts, loadInto, loadOf}
 use Rattle.dddmp.proofs.Loading.{parts-alike, before-is, ready-readable, answer-left, store-left, roots-left, list-left}

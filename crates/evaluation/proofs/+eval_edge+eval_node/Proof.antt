@@ -10,7 +10,7 @@ use mir.Val.{toZ, ofZ}
 use Rattle.edges.specs.Edge.{minus}
 use Rattle.store.specs.Store.{slots}
 use Rattle.store.specs.Meaning.{settingOf}
-use Rattle.evaluation.specs.Evaluated.{Leads}
+use Rattle.evaluation.specs.Evaluated.{LeadsDown}
 use Rattle.evaluation.proofs.Walk.{node-leaf, walks-lower, walk-back, edge-minus, edge-plain, leads-back}
 use borrow.Fn.Kinds.{In}
 use borrow.Fn.PlainCycle.{Measures, is, falls, and}
@@ -89,7 +89,7 @@ eval-node-descend-requires t c κs = (c .if1 .left, c .before .before .before .p
 -- the edge that the stretch led to, as the call reads it
 leads : (t : ℕ) (c : eval-node-lts.After-descend (node-claims t) (eval-node-at t) eval-node.Post)
     → let s = c .before .before .before .before .args in
-    Leads (slots (s .level .now) (s .then .now) (s .els .now)) (settingOf (s .setting .now)) (s .n) (toZ w16 (ofZ w16 (c .descend .result)))
+    LeadsDown (slots (s .level .now) (s .then .now) (s .els .now)) (settingOf (s .setting .now)) (s .n) (toZ w16 (ofZ w16 (c .descend .result)))
 leads t c = leads-back _ (c .before .before .before .before .pre .1 .small) (c .descend .ensures)
 
 eval-node-eval-edge-requires : (t : ℕ) → eval-node-lts.Need-eval-edge-requires (node-claims t) (eval-node-at t) eval-node.Post

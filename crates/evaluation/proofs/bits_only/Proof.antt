@@ -4,13 +4,13 @@ use mathlib.Core.Path.{_≡_, refl, sym, _∙_}
 use Prim.Native.Nat.{_-_, _≤_}
 use native.Mathlib.Omega.{arith}
 use lib.ListN.{length, drop}
-use Rattle.evaluation.specs.Evaluation.{bits}
+use Rattle.evaluation.specs.Evaluation.{onlyBits}
 use Rattle.evaluation.proofs.Evaluating.{bits-go, bits-stop, bits-end}
 use Rattle.evaluation.proofs.bits_only.Statement.{statement}
 use Rattle.evaluation.proofs.bits_only.Tie as tie
 
 abbrev Inv-loop : tie.InvT-loop
-Inv-loop setting i₀ i = (i ≤ length setting) × (bits setting ≡ bits (drop i setting))
+Inv-loop setting i₀ i = (i ≤ length setting) × (onlyBits setting ≡ onlyBits (drop i setting))
 
 abbrev μ-loop : tie.MeasureT-loop
 μ-loop setting i₀ i = length setting - i

@@ -7,7 +7,7 @@ use mir.Syntax.{w16}
 use mir.Val.{toZ, ofZ}
 use Rattle.store.specs.Store.{slots}
 use Rattle.store.specs.Meaning.{settingOf}
-use Rattle.evaluation.specs.Evaluated.{Leads}
+use Rattle.evaluation.specs.Evaluated.{LeadsDown}
 use Rattle.evaluation.proofs.Walk.{walks-lower, child-leads, leads-back}
 use Rattle.evaluation.proofs.Stretch.{Passed, passed-none, passed-more, passed-leads}
 use Rattle.evaluation.proofs.descend.Statement.{statement}
@@ -39,7 +39,7 @@ child-at-requires c κs =
 -- the child that the walk goes on from
 leads : (c : tie.After-child-at Inv-loop μ-loop)
     → let s = c .before .before .before .before .before .before .args in
-    Leads (slots (s .level .now) (s .then .now) (s .els .now)) (settingOf (s .setting .now)) (c .before .before .before .loop .at) (toZ w16 (ofZ w16 (c .child-at .result)))
+    LeadsDown (slots (s .level .now) (s .then .now) (s .els .now)) (settingOf (s .setting .now)) (c .before .before .before .loop .at) (toZ w16 (ofZ w16 (c .child-at .result)))
 leads c =
     let s = c .before .before .before .before .before .before in
     child-leads (walks-lower (s .pre .1) (c .before .before .before .loop .at) (omega (arith, c .before .before .before .loop .inv .lower))) (c .before .if1 .left) _ _ (c .child-at .ensures)

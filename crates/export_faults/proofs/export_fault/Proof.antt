@@ -8,7 +8,7 @@ use Rattle.store.specs.Rules.{limits}
 use Rattle.store.specs.Keeps.{keeps}
 use Rattle.variable_order.specs.Order.{isOrder}
 use Rattle.heading.specs.Tables.{Lent, lent}
-use Rattle.exported.specs.Export.{rootsFit, enough, namesFit}
+use Rattle.exported.specs.Export.{rootsFit, longEnough, namesFit}
 use Rattle.export_faults.proofs.Tests.{held, failed}
 use Rattle.export_faults.proofs.Refusals.{refused-short, refused-store, refused-root, refused-order, refused-name, refused-none, vars-long, seats-there}
 use Rattle.export_faults.proofs.export_fault.Statement.{statement}
@@ -41,8 +41,8 @@ origin d = start (first (second (third d)))
 
 -- what each test shows where it holds, and the last where it fails
 long : (d : tie.Else1)
-    → enough (σ (start d)) (start d .args .roots .now) (names (start d)) (start d .args .slots) (start d .args .numbers) (start d .args .out) ≡ true
-unfolding enough
+    → longEnough (σ (start d)) (start d .args .roots .now) (names (start d)) (start d .args .slots) (start d .args .numbers) (start d .args .out) ≡ true
+unfolding longEnough
 long d = held (d .before .long-enough .ensures) (d .if1 .left)
 
 kept : (d : tie.Else2) → keeps limits (σ (start (first d))) ≡ true
@@ -68,7 +68,7 @@ long-enough-requires : tie.Need-long-enough-requires
 long-enough-requires c κs = search needs
 
 returns : tie.Need-returns
-unfolding enough
+unfolding longEnough
 returns c = record { answer = refused-short _ _ _ _ _ _ _ (failed (c .before .long-enough .ensures) (c .if1 .taken)); vars-left = tt }
 
 keeps-rules-requires : tie.Need-keeps-rules-requires

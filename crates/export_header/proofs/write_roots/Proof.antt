@@ -6,7 +6,7 @@ use lib.ListN.{length, drop, length-map}
 use lib.IntN.{ℤ}
 use borrow.Author.Needs.{needs}
 use Rattle.export_names.specs.Names.{namesAt}
-use Rattle.export_nodes.specs.Tables.{numberOf}
+use Rattle.export_nodes.specs.Tables.{lineNumberOf}
 use Rattle.heading.specs.Lines.{linesText}
 use Rattle.heading.specs.Heading.{rootLines}
 use Rattle.heading.proofs.Writing.{Writing, writing-start, writing-room, writing-more, writing-end}
@@ -16,7 +16,7 @@ use Rattle.export_header.proofs.write_roots.Statement.{statement}
 use Rattle.export_header.proofs.write_roots.Tie as tie
 
 abbrev rootids : tie.Start → List ℤ
-rootids s = map (numberOf (s .args .numbers .now)) (s .args .roots .now)
+rootids s = map (lineNumberOf (s .args .numbers .now)) (s .args .roots .now)
 
 abbrev rootnames : tie.Start → List (List ℕ)
 rootnames s = namesAt (s .args .bytes .now) (s .args .starts .now) (s .args .lens .now)
@@ -31,7 +31,7 @@ Left s out next k = Writing (s .args .out .now) (s .args .at) (linesText (rootLi
 left-0 : (s : tie.Start) → Left s (s .args .out .now) (s .args .at) 0
 left-0 s =
     writing-start (s .args .out .now) (s .args .at)
-    (root-parts (rootids s) (rootnames s) (length-map (s .args .roots .now) (numberOf (s .args .numbers .now)))) (s .pre .room)
+    (root-parts (rootids s) (rootnames s) (length-map (s .args .roots .now) (lineNumberOf (s .args .numbers .now)))) (s .pre .room)
 
 left-1 : (c : tie.After-write-count) → Left (c .before .before .before .before .before .before .before .before) (c .write-count .last .0) (c .write-count .result) 1
 left-1 c = writing-more (left-0 (c .before .before .before .before .before .before .before .before)) (c .write-count .ensures)

@@ -8,7 +8,7 @@ use lib.IntN.{natAbs}
 use mir.Facts.{toZ-ofZ}
 use denote.Ref.{now}
 use Rattle.edges.specs.Edge.{minus}
-use Rattle.export_nodes.specs.Tables.{numberOf}
+use Rattle.export_nodes.specs.Tables.{lineNumberOf}
 use Rattle.export_nodes.proofs.EdgeNumbers.{number-fits, number-edge, number-plain, number-minus}
 use Rattle.export_nodes.proofs.number_of.Statement.{statement}
 use Rattle.export_nodes.proofs.number_of.Tie as tie
@@ -45,14 +45,14 @@ negate-requires : tie.Need-negate-requires
 negate-requires c κs = rw (node-is (c .before .before .before)) (number-edge _ (c .before .before .before .before .before .pre .small))
 
 returns : tie.Need-returns
-unfolding numberOf
+unfolding lineNumberOf
 returns c =
     let s = c .before .before .before .before .before .before in
     let n = rw (node-is (c .before .before .before .before)) at (c .negate .ensures) in
     number-minus (getD (now (s .args .numbers)) (natAbs (s .args .e) - 1) 0) (s .pre .small) (s .args .e) (sign-is (c .before .before) ∙ c .before .if1 .taken) n
 
 returns-2 : tie.Need-returns-2
-unfolding numberOf
+unfolding lineNumberOf
 returns-2 c =
     let s = c .before .before .before .before .before in
     rw (node-is (c .before .before .before)) (number-plain _ (s .pre .small) (s .args .e) (sign-is (c .before) ∙ c .if1 .left))

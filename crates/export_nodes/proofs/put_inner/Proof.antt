@@ -10,7 +10,7 @@ use denote.Ref.{now}
 use Rattle.store.specs.Store.{Store, levelAt, thenAt, elseAt, slots}
 use Rattle.node_lines.specs.Line.{inner}
 use Rattle.node_writers.specs.Encoded.{textBytes, innerBytes}
-use Rattle.export_nodes.specs.Tables.{numberOf, innerBy}
+use Rattle.export_nodes.specs.Tables.{lineNumberOf, innerBy}
 use Rattle.export_nodes.proofs.NodeLine.{child-numbered, child-below, child-seated, inner-text, inner-binary}
 use Rattle.export_nodes.proofs.put_inner.Statement.{statement}
 use Rattle.export_nodes.proofs.put_inner.Tie as tie
@@ -27,12 +27,12 @@ else-edge c = toZ-ofZ (record { sfits = c .e .given })
 
 -- the numbers of their lines, as arguments
 then-line : (c : tie.After-number-of) → let s = c .before .before .before .before .before .before .before .before .before in
-    toZ w16 (ofZ w16 (c .number-of .result)) ≡ numberOf (now (s .args .numbers)) (thenAt (σ s) (s .args .node))
-then-line c = toZ-ofZ (record { sfits = c .number-of .ok }) ∙ c .number-of .ensures ∙ ap (numberOf _) (then-edge (c .before .before .before .before))
+    toZ w16 (ofZ w16 (c .number-of .result)) ≡ lineNumberOf (now (s .args .numbers)) (thenAt (σ s) (s .args .node))
+then-line c = toZ-ofZ (record { sfits = c .number-of .ok }) ∙ c .number-of .ensures ∙ ap (lineNumberOf _) (then-edge (c .before .before .before .before))
 
 else-line : (c : tie.After-number-of2) → let s = c .before .before .before .before .before .before .before .before .before .before in
-    toZ w16 (ofZ w16 (c .number-of2 .result)) ≡ numberOf (now (s .args .numbers)) (elseAt (σ s) (s .args .node))
-else-line c = toZ-ofZ (record { sfits = c .number-of2 .ok }) ∙ c .number-of2 .ensures ∙ ap (numberOf _) (else-edge (c .before .before .before .before))
+    toZ w16 (ofZ w16 (c .number-of2 .result)) ≡ lineNumberOf (now (s .args .numbers)) (elseAt (σ s) (s .args .node))
+else-line c = toZ-ofZ (record { sfits = c .number-of2 .ok }) ∙ c .number-of2 .ensures ∙ ap (lineNumberOf _) (else-edge (c .before .before .before .before))
 
 -- the node's line in either mode
 text-line : (c : tie.Then1) → let s = c .before .before .before .before .before .before .before .before .before .before .before in

@@ -1,6 +1,6 @@
 -- `zt_load` meets its contract: it hands everything on, and gives the answer in C's form.
 use mathlib.Core.Path.{ap, _∙_}
-use Rattle.c_answers.specs.Answers.{ofAnswer}
+use Rattle.c_answers.specs.Answers.{ofLoadAnswer}
 use Rattle.firmware.proofs.zt_load.Statement.{statement}
 use Rattle.firmware.proofs.zt_load.Tie as tie
 
@@ -67,7 +67,7 @@ same-length-16 c = loading c .load .kept .1 .1 .1 .1 .1 .1 .1 .1 .1 .1 .1 .1 .1 
 
 returns : tie.Need-returns
 returns c = record {
-  answer = c .load-answer .ensures ∙ ap ofAnswer (loading c .load .ensures .answer);
+  answer = c .load-answer .ensures ∙ ap ofLoadAnswer (loading c .load .ensures .answer);
   store = loading c .load .ensures .store;
   lists = loading c .load .ensures .lists;
 }

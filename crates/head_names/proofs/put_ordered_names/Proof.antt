@@ -5,7 +5,7 @@ use native.Mathlib.Omega.{arith}
 use lib.ListN.{length}
 use Rattle.writers.specs.Words.{spaced}
 use Rattle.export_names.specs.Names.{namesAt}
-use Rattle.heading.specs.Heading.{variablesFrom, chosen}
+use Rattle.heading.specs.Heading.{variablesFrom, chosenNames}
 use Rattle.heading.proofs.Writing.{Writing, words, words-start, writing-room, writing-more, writing-end}
 use Rattle.heading.proofs.Variables.{variablesLeft, variables-start, variables-end, variable-some, variable-there, variable-next, names-as}
 use Rattle.head_names.proofs.put_ordered_names.Statement.{statement}
@@ -13,8 +13,8 @@ use Rattle.head_names.proofs.put_ordered_names.Tie as tie
 
 abbrev Inv-loop : tie.InvT-loop
 Inv-loop out₀ at bytes starts lens order vars next₀ l₀ out next l =
-    Writing out₀ at (spaced (chosen (variablesFrom (length order) 0 order) (namesAt bytes starts lens))) out next
-    (words (chosen (variablesLeft order l) (namesAt bytes starts lens)))
+    Writing out₀ at (spaced (chosenNames (variablesFrom (length order) 0 order) (namesAt bytes starts lens))) out next
+    (words (chosenNames (variablesLeft order l) (namesAt bytes starts lens)))
 
 abbrev μ-loop : tie.MeasureT-loop
 μ-loop out₀ at bytes starts lens order vars next₀ l₀ out next l = length order - l
@@ -41,7 +41,7 @@ sub-variable c =
     variable-some (s .order .now) (s .vars .now) (p .is-order) (p .vars-there) (p .vars-long) (c .before .before .loop .l) (c .before .loop-test .taken)
 
 put-name-requires : tie.Need-put-name-requires Inv-loop μ-loop
-unfolding chosen
+unfolding chosenNames
 put-name-requires c κs =
     let s = c .before .before .before .before .before .before .before .before .before .before .args in
     let q = c .before .before .before .before .before .before .before .before .before .before .pre in
@@ -60,7 +60,7 @@ loop-less : tie.Need-loop-less Inv-loop μ-loop
 loop-less c = omega arith
 
 loop-again : tie.Need-loop-again Inv-loop μ-loop
-unfolding chosen
+unfolding chosenNames
 loop-again c =
     let s = c .before .before .before .before .before .before .before .before .before .before .before .before .before .args in
     let p = c .before .before .before .before .before .before .before .before .before .before .before .before .before .pre in
@@ -72,7 +72,7 @@ same-length : tie.Need-same-length Inv-loop μ-loop
 same-length c = c .before .loop .inv .long
 
 returns : tie.Need-returns Inv-loop μ-loop
-unfolding chosen
+unfolding chosenNames
 returns c =
     let s = c .before .before .before .before .before .before .before .before .args in
     let l = c .before .loop in

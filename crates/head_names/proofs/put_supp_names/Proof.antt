@@ -7,8 +7,8 @@ use native.Mathlib.Omega.{arith}
 use lib.ListN.{length}
 use Rattle.writers.specs.Words.{spaced}
 use Rattle.export_names.specs.Names.{namesAt}
-use Rattle.heading.specs.Heading.{idsFrom, chosen}
-use Rattle.heading.specs.Tables.{seated}
+use Rattle.heading.specs.Heading.{idsFrom, chosenNames}
+use Rattle.heading.specs.Tables.{seatedLevels}
 use Rattle.heading.proofs.Writing.{Writing, words, words-start, writing-room, writing-more, writing-end}
 use Rattle.heading.proofs.Variables.{idsLeft, id-next, id-passed, ids-end, names-as}
 use Rattle.head_names.proofs.put_supp_names.Statement.{statement}
@@ -16,8 +16,8 @@ use Rattle.head_names.proofs.put_supp_names.Tie as tie
 
 abbrev Inv-loop : tie.InvT-loop
 Inv-loop out₀ at bytes starts lens order seats next₀ v₀ out next v =
-    Writing out₀ at (spaced (chosen (idsFrom (seated seats) 0 order) (namesAt bytes starts lens))) out next
-    (words (chosen (idsLeft (seated seats) order v) (namesAt bytes starts lens)))
+    Writing out₀ at (spaced (chosenNames (idsFrom (seatedLevels seats) 0 order) (namesAt bytes starts lens))) out next
+    (words (chosenNames (idsLeft (seatedLevels seats) order v) (namesAt bytes starts lens)))
 
 abbrev μ-loop : tie.MeasureT-loop
 μ-loop out₀ at bytes starts lens order seats next₀ v₀ out next v = length order - v
@@ -29,13 +29,13 @@ in-support-requires : tie.Need-in-support-requires Inv-loop μ-loop
 in-support-requires c κs = (c .before .before .before .before .before .before .before .before .pre .seatable, c .loop-test .taken)
 
 put-name-requires : tie.Need-put-name-requires Inv-loop μ-loop
-unfolding chosen
+unfolding chosenNames
 put-name-requires c κs =
     let s = c .before .before .before .before .before .before .before .before .before .before .before .args in
     let p = c .before .before .before .before .before .before .before .before .before .before .before .pre in
     let l = c .before .before .before .before .loop in
     let t = c .before .before .before .loop-test .taken in
-    let e = id-next (seated (s .seats .now)) (s .order .now) (l .v) t (sym (c .before .before .in-support .ensures) ∙ c .before .if1 .taken) in
+    let e = id-next (seatedLevels (s .seats .now)) (s .order .now) (l .v) t (sym (c .before .before .in-support .ensures) ∙ c .before .if1 .taken) in
     ((p .inside, omega (arith, p .named, t)), writing-room (names-as (namesAt (s .bytes .now) (s .starts .now) (s .lens .now)) e (l .inv)))
 
 add-v : tie.Need-add-v Inv-loop μ-loop
@@ -45,7 +45,7 @@ loop-less : tie.Need-loop-less Inv-loop μ-loop
 loop-less c = omega arith
 
 loop-again : tie.Need-loop-again Inv-loop μ-loop
-unfolding chosen
+unfolding chosenNames
 loop-again c =
     let s = c .before .before .before .before .before .before .before .before .before .before .args in
     let l = c .before .before .before .loop in
@@ -53,20 +53,20 @@ loop-again c =
     let e = sym (c .before .in-support .ensures) in
     let names = namesAt (s .bytes .now) (s .starts .now) (s .lens .now) in
     ⊎-elim
-    (λ w. rw (w .5, w .6) (writing-more (names-as names (id-next (seated (s .seats .now)) (s .order .now) (l .v) t (e ∙ w .0 .taken)) (l .inv)) (w .2 .ensures)))
-    (λ w. rw (w .1, w .2) (names-as names (id-passed (seated (s .seats .now)) (s .order .now) (l .v) t (e ∙ w .0 .left)) (l .inv)))
+    (λ w. rw (w .5, w .6) (writing-more (names-as names (id-next (seatedLevels (s .seats .now)) (s .order .now) (l .v) t (e ∙ w .0 .taken)) (l .inv)) (w .2 .ensures)))
+    (λ w. rw (w .1, w .2) (names-as names (id-passed (seatedLevels (s .seats .now)) (s .order .now) (l .v) t (e ∙ w .0 .left)) (l .inv)))
     (c .if1 .came)
 
 same-length : tie.Need-same-length Inv-loop μ-loop
 same-length c = c .before .loop .inv .long
 
 returns : tie.Need-returns Inv-loop μ-loop
-unfolding chosen
+unfolding chosenNames
 returns c =
     let s = c .before .before .before .before .before .before .before .before .args in
     let l = c .before .loop in
     writing-end
-    (names-as (namesAt (s .bytes .now) (s .starts .now) (s .lens .now)) (ids-end (seated (s .seats .now)) (s .order .now) (l .v) (c .loop-test .left)) (l .inv))
+    (names-as (namesAt (s .bytes .now) (s .starts .now) (s .lens .now)) (ids-end (seatedLevels (s .seats .now)) (s .order .now) (l .v) (c .loop-test .left)) (l .inv))
 
 pub put-supp-names-spec : {M : Type 1} → statement M
 put-supp-names-spec =

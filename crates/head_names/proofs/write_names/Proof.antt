@@ -8,7 +8,7 @@ use borrow.Author.Needs.{needs}
 use Rattle.export_names.specs.Names.{namesAt}
 use Rattle.heading.specs.Lines.{linesText}
 use Rattle.heading.specs.Heading.{namedLines}
-use Rattle.heading.specs.Tables.{seated, Inside}
+use Rattle.heading.specs.Tables.{seatedLevels, Inside}
 use Rattle.heading.proofs.Writing.{Writing, writing-start, writing-room, writing-more, writing-end}
 use Rattle.heading.proofs.Parts.{nameParts, name-parts, name-parts-none}
 use Rattle.heading.proofs.Places.{list-inside}
@@ -26,22 +26,22 @@ inside s = list-inside (length (s .args .order .now)) (s .args .bytes .now) (s .
 returns : tie.Need-returns
 returns c =
     let s = c .before .before .before .before .before .before .before .before in
-    rw (name-parts-none (s .args .version) (seated (s .args .seats .now)) (s .args .order .now) (names s) (λ e. c .if1 .taken (sym (inside s .many) ∙ e)))
+    rw (name-parts-none (s .args .version) (seatedLevels (s .args .seats .now)) (s .args .order .now) (names s) (λ e. c .if1 .taken (sym (inside s .many) ∙ e)))
     (record { next = omega arith; bytes = refl })
 
 abbrev parts : tie.Start → List (List ℕ)
-parts s = nameParts (s .args .version) (seated (s .args .seats .now)) (s .args .order .now) (names s)
+parts s = nameParts (s .args .version) (seatedLevels (s .args .seats .now)) (s .args .order .now) (names s)
 
 -- all but the first k parts are left
 abbrev Left : tie.Start → List ℕ → ℕ → ℕ → Type 0
 Left s out next k =
-    Writing (s .args .out .now) (s .args .at) (linesText (namedLines (s .args .version) (seated (s .args .seats .now)) (s .args .order .now) (names s))) out next (drop k (parts s))
+    Writing (s .args .out .now) (s .args .at) (linesText (namedLines (s .args .version) (seatedLevels (s .args .seats .now)) (s .args .order .now) (names s))) out next (drop k (parts s))
 
 left-0 : (c : tie.Else1) → Left (c .before .before .before .before .before .before .before .before) (c .before .before .before .before .before .before .before .before .args .out .now) (c .before .before .before .before .before .before .before .before .args .at) 0
 left-0 c =
     let s = c .before .before .before .before .before .before .before .before in
     writing-start (s .args .out .now) (s .args .at)
-    (name-parts (s .args .version) (seated (s .args .seats .now)) (s .args .order .now) (names s) (inside s .many ∙ c .if1 .left)) (s .pre .room)
+    (name-parts (s .args .version) (seatedLevels (s .args .seats .now)) (s .args .order .now) (names s) (inside s .many ∙ c .if1 .left)) (s .pre .room)
 
 left-1 : (c : tie.After-write-varnames) → Left (c .before .before .before .before .before .before .before .before .before .before) (c .write-varnames .last .1 .0) (c .write-varnames .result) 1
 left-1 c = writing-more (left-0 (c .before .before)) (c .write-varnames .ensures)

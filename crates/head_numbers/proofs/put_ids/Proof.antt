@@ -9,7 +9,7 @@ use lib.ListN.{length}
 use Rattle.writers.specs.Decimal.{decimal}
 use Rattle.writers.specs.Words.{spaced}
 use Rattle.heading.specs.Heading.{idsFrom}
-use Rattle.heading.specs.Tables.{seated}
+use Rattle.heading.specs.Tables.{seatedLevels}
 use Rattle.heading.proofs.Writing.{Writing, words, words-start, words-as, writing-room, writing-more, writing-end}
 use Rattle.heading.proofs.Variables.{idsLeft, id-next, id-passed, ids-end}
 use Rattle.head_numbers.proofs.put_ids.Statement.{statement}
@@ -17,7 +17,7 @@ use Rattle.head_numbers.proofs.put_ids.Tie as tie
 
 abbrev Inv-loop : tie.InvT-loop
 Inv-loop out₀ at order seats next₀ v₀ out next v =
-    Writing out₀ at (spaced (map decimal (idsFrom (seated seats) 0 order))) out next (words (map decimal (idsLeft (seated seats) order v)))
+    Writing out₀ at (spaced (map decimal (idsFrom (seatedLevels seats) 0 order))) out next (words (map decimal (idsLeft (seatedLevels seats) order v)))
 
 abbrev μ-loop : tie.MeasureT-loop
 μ-loop out₀ at order seats next₀ v₀ out next v = length order - v
@@ -25,7 +25,7 @@ abbrev μ-loop : tie.MeasureT-loop
 loop-holds : tie.Need-loop-holds Inv-loop μ-loop
 loop-holds c =
     let s = c .before .before .before .args in
-    words-start (s .out .now) (s .at) (map decimal (idsFrom (seated (s .seats .now)) 0 (s .order .now))) (c .before .before .before .pre .1)
+    words-start (s .out .now) (s .at) (map decimal (idsFrom (seatedLevels (s .seats .now)) 0 (s .order .now))) (c .before .before .before .pre .1)
 
 in-support-requires : tie.Need-in-support-requires Inv-loop μ-loop
 in-support-requires c κs = (c .before .before .before .before .before .pre .0, c .loop-test .taken)
@@ -34,7 +34,7 @@ put-spaced-requires : tie.Need-put-spaced-requires Inv-loop μ-loop
 put-spaced-requires c κs =
     let s = c .before .before .before .before .before .before .before .before .args in
     let l = c .before .before .before .before .loop in
-    let e = id-next (seated (s .seats .now)) (s .order .now) (l .v) (c .before .before .before .loop-test .taken) (sym (c .before .before .in-support .ensures) ∙ c .before .if1 .taken) in
+    let e = id-next (seatedLevels (s .seats .now)) (s .order .now) (l .v) (c .before .before .before .loop-test .taken) (sym (c .before .before .in-support .ensures) ∙ c .before .if1 .taken) in
     writing-room (words-as (ap (map decimal) e) (l .inv))
 
 add-v : tie.Need-add-v Inv-loop μ-loop
@@ -50,8 +50,8 @@ loop-again c =
     let t = c .before .before .loop-test .taken in
     let e = sym (c .before .in-support .ensures) in
     ⊎-elim
-    (λ w. rw (w .5, w .6) (writing-more (words-as (ap (map decimal) (id-next (seated (s .seats .now)) (s .order .now) (l .v) t (e ∙ w .0 .taken))) (l .inv)) (w .2 .ensures)))
-    (λ w. rw (w .1, w .2) (words-as (ap (map decimal) (id-passed (seated (s .seats .now)) (s .order .now) (l .v) t (e ∙ w .0 .left))) (l .inv)))
+    (λ w. rw (w .5, w .6) (writing-more (words-as (ap (map decimal) (id-next (seatedLevels (s .seats .now)) (s .order .now) (l .v) t (e ∙ w .0 .taken))) (l .inv)) (w .2 .ensures)))
+    (λ w. rw (w .1, w .2) (words-as (ap (map decimal) (id-passed (seatedLevels (s .seats .now)) (s .order .now) (l .v) t (e ∙ w .0 .left))) (l .inv)))
     (c .if1 .came)
 
 same-length : tie.Need-same-length Inv-loop μ-loop
@@ -61,7 +61,7 @@ returns : tie.Need-returns Inv-loop μ-loop
 returns c =
     let s = c .before .before .before .before .before .args in
     let l = c .before .loop in
-    writing-end (words-as (ap (map decimal) (ids-end (seated (s .seats .now)) (s .order .now) (l .v) (c .loop-test .left))) (l .inv))
+    writing-end (words-as (ap (map decimal) (ids-end (seatedLevels (s .seats .now)) (s .order .now) (l .v) (c .loop-test .left))) (l .inv))
 
 pub put-ids-spec : {M : Type 1} → statement M
 put-ids-spec =

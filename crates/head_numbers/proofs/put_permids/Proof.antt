@@ -9,7 +9,7 @@ use lib.ListN.{length}
 use Rattle.writers.specs.Decimal.{decimal}
 use Rattle.writers.specs.Words.{spaced}
 use Rattle.heading.specs.Heading.{permidsOf}
-use Rattle.heading.specs.Tables.{seated}
+use Rattle.heading.specs.Tables.{seatedLevels}
 use Rattle.heading.proofs.Writing.{Writing, words, words-start, words-as, writing-room, writing-more, writing-end}
 use Rattle.heading.proofs.Variables.{levelsLeft, level-next, level-passed, levels-end}
 use Rattle.head_numbers.proofs.put_permids.Statement.{statement}
@@ -17,7 +17,7 @@ use Rattle.head_numbers.proofs.put_permids.Tie as tie
 
 abbrev Inv-loop : tie.InvT-loop
 Inv-loop out₀ at order seats next₀ v₀ out next v =
-    Writing out₀ at (spaced (map decimal (permidsOf (seated seats) order))) out next (words (map decimal (levelsLeft (seated seats) order v)))
+    Writing out₀ at (spaced (map decimal (permidsOf (seatedLevels seats) order))) out next (words (map decimal (levelsLeft (seatedLevels seats) order v)))
 
 abbrev μ-loop : tie.MeasureT-loop
 μ-loop out₀ at order seats next₀ v₀ out next v = length order - v
@@ -25,7 +25,7 @@ abbrev μ-loop : tie.MeasureT-loop
 loop-holds : tie.Need-loop-holds Inv-loop μ-loop
 loop-holds c =
     let s = c .before .before .before .args in
-    words-start (s .out .now) (s .at) (map decimal (permidsOf (seated (s .seats .now)) (s .order .now))) (c .before .before .before .pre .1)
+    words-start (s .out .now) (s .at) (map decimal (permidsOf (seatedLevels (s .seats .now)) (s .order .now))) (c .before .before .before .pre .1)
 
 in-support-requires : tie.Need-in-support-requires Inv-loop μ-loop
 in-support-requires c κs = (c .before .before .before .before .before .pre .0, c .loop-test .taken)
@@ -43,7 +43,7 @@ put-spaced-requires : tie.Need-put-spaced-requires Inv-loop μ-loop
 put-spaced-requires c κs =
     let s = c .before .before .before .before .before .before .before .before .before .args in
     let l = c .before .before .before .before .before .loop in
-    let e = level-next (seated (s .seats .now)) (s .order .now) (l .v) (c .before .before .before .before .loop-test .taken) (sym (c .before .before .before .in-support .ensures) ∙ c .before .before .if1 .taken) in
+    let e = level-next (seatedLevels (s .seats .now)) (s .order .now) (l .v) (c .before .before .before .before .loop-test .taken) (sym (c .before .before .before .in-support .ensures) ∙ c .before .before .if1 .taken) in
     writing-room (words-as (ap (map decimal) e) (l .inv))
 
 add-v : tie.Need-add-v Inv-loop μ-loop
@@ -59,8 +59,8 @@ loop-again c =
     let t = c .before .before .loop-test .taken in
     let e = sym (c .before .in-support .ensures) in
     ⊎-elim
-    (λ w. rw (w .6, w .7) (writing-more (words-as (ap (map decimal) (level-next (seated (s .seats .now)) (s .order .now) (l .v) t (e ∙ w .0 .taken))) (l .inv)) (w .3 .ensures)))
-    (λ w. rw (w .1, w .2) (words-as (ap (map decimal) (level-passed (seated (s .seats .now)) (s .order .now) (l .v) t (e ∙ w .0 .left))) (l .inv)))
+    (λ w. rw (w .6, w .7) (writing-more (words-as (ap (map decimal) (level-next (seatedLevels (s .seats .now)) (s .order .now) (l .v) t (e ∙ w .0 .taken))) (l .inv)) (w .3 .ensures)))
+    (λ w. rw (w .1, w .2) (words-as (ap (map decimal) (level-passed (seatedLevels (s .seats .now)) (s .order .now) (l .v) t (e ∙ w .0 .left))) (l .inv)))
     (c .if1 .came)
 
 same-length : tie.Need-same-length Inv-loop μ-loop
@@ -70,7 +70,7 @@ returns : tie.Need-returns Inv-loop μ-loop
 returns c =
     let s = c .before .before .before .before .before .args in
     let l = c .before .loop in
-    writing-end (words-as (ap (map decimal) (levels-end (seated (s .seats .now)) (s .order .now) (l .v) (c .loop-test .left))) (l .inv))
+    writing-end (words-as (ap (map decimal) (levels-end (seatedLevels (s .seats .now)) (s .order .now) (l .v) (c .loop-test .left))) (l .inv))
 
 pub put-permids-spec : {M : Type 1} → statement M
 put-permids-spec =

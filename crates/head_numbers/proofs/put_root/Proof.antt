@@ -9,14 +9,14 @@ use mir.Syntax.{w16}
 use mir.Val.{toZ, ofZ}
 use Rattle.writers.specs.Decimal.{edgeText}
 use Rattle.writers.proofs.Sets.{wrote-then}
-use Rattle.export_nodes.specs.Tables.{numberOf}
+use Rattle.export_nodes.specs.Tables.{lineNumberOf}
 use Rattle.head_numbers.proofs.put_root.Statement.{statement}
 use Rattle.head_numbers.proofs.put_root.Tie as tie
 
 -- the edge that is written is the root's
-edge-is : (c : tie.After-number-of) → toZ w16 (ofZ w16 (c .number-of .result)) ≡ numberOf (now (c .before .before .before .before .before .before .before .before .args .numbers)) (c .before .before .before .before .before .before .before .before .args .root)
+edge-is : (c : tie.After-number-of) → toZ w16 (ofZ w16 (c .number-of .result)) ≡ lineNumberOf (now (c .before .before .before .before .before .before .before .before .args .numbers)) (c .before .before .before .before .before .before .before .before .args .root)
 edge-is c =
-    toZ-ofZ (record { sfits = c .number-of .ok }) ∙ c .number-of .ensures ∙ ap (numberOf (now (c .before .before .before .before .before .before .before .before .args .numbers))) (toZ-ofZ (c .before .before .before .before .before .before .before .before .fits .root))
+    toZ-ofZ (record { sfits = c .number-of .ok }) ∙ c .number-of .ensures ∙ ap (lineNumberOf (now (c .before .before .before .before .before .before .before .before .args .numbers))) (toZ-ofZ (c .before .before .before .before .before .before .before .before .fits .root))
 
 put-byte-requires : tie.Need-put-byte-requires
 put-byte-requires c κs = search needs
@@ -33,7 +33,7 @@ same-length c = search needs
 returns : tie.Need-returns
 returns c =
     let s = c .before .before .before .before .before .before .before .before .before .before .before in
-    wrote-then (s .args .out .now) (s .args .at) (0x20 ∷ []) (edgeText (numberOf (s .args .numbers .now) (s .args .root))) (c .before .before .before .before .before .before .before .put-byte .ensures)
+    wrote-then (s .args .out .now) (s .args .at) (0x20 ∷ []) (edgeText (lineNumberOf (s .args .numbers .now) (s .args .root))) (c .before .before .before .before .before .before .before .put-byte .ensures)
     (rw (edge-is (c .before .before .before)) at (c .before .before .put-edge .ensures))
 
 pub put-root-spec : {M : Type 1} → statement M

@@ -12,14 +12,14 @@ use mir.Syntax.{w16}
 use mir.Val.{toZ, ofZ}
 use Rattle.writers.specs.Decimal.{edgeText}
 use Rattle.writers.specs.Words.{spaced}
-use Rattle.export_nodes.specs.Tables.{numberOf}
+use Rattle.export_nodes.specs.Tables.{lineNumberOf}
 use Rattle.heading.proofs.Writing.{Writing, words, words-start, words-as, writing-room, writing-more, writing-end}
 use Rattle.head_numbers.proofs.put_roots.Statement.{statement}
 use Rattle.head_numbers.proofs.put_roots.Tie as tie
 
 abbrev Inv-loop : tie.InvT-loop
 Inv-loop out₀ at roots numbers next₀ i₀ out next i =
-    Writing out₀ at (spaced (map edgeText (map (numberOf numbers) roots))) out next (words (map edgeText (map (numberOf numbers) (drop i roots))))
+    Writing out₀ at (spaced (map edgeText (map (lineNumberOf numbers) roots))) out next (words (map edgeText (map (lineNumberOf numbers) (drop i roots))))
 
 abbrev μ-loop : tie.MeasureT-loop
 μ-loop out₀ at roots numbers next₀ i₀ out next i = length roots - i
@@ -32,7 +32,7 @@ root-is c = toZ-ofZ (record { sfits = c .put-root-arg2 .given })
 loop-holds : tie.Need-loop-holds Inv-loop μ-loop
 loop-holds c =
     let s = c .before .before in
-    words-start (s .args .out .now) (s .args .at) (map edgeText (map (numberOf (s .args .numbers .now)) (s .args .roots .now))) (s .pre .1)
+    words-start (s .args .out .now) (s .args .at) (map edgeText (map (lineNumberOf (s .args .numbers .now)) (s .args .roots .now))) (s .pre .1)
 
 mul-put-root : tie.Need-mul-put-root Inv-loop μ-loop
 mul-put-root c = omega arith
@@ -46,7 +46,7 @@ put-root-requires c κs =
     let t = c .before .before .loop-test .taken in
     rw (root-is c) (
       s .pre .0 .numbered (c .before .before .before .loop .i) t,
-      writing-room (words-as (ap (λ es. map edgeText (map (numberOf (s .args .numbers .now)) es)) (drop-cons (s .args .roots .now) (c .before .before .before .loop .i) (pos 0) t)) (c .before .before .before .loop .inv)),
+      writing-room (words-as (ap (λ es. map edgeText (map (lineNumberOf (s .args .numbers .now)) es)) (drop-cons (s .args .roots .now) (c .before .before .before .loop .i) (pos 0) t)) (c .before .before .before .loop .inv)),
     )
 
 add-i : tie.Need-add-i Inv-loop μ-loop
@@ -61,7 +61,7 @@ loop-again c =
     let l = c .before .before .before .before .before .before .loop in
     rw (add-one (l .i))
     (writing-more
-    (words-as (ap (λ es. map edgeText (map (numberOf (s .args .numbers .now)) es)) (drop-cons (s .args .roots .now) (l .i) (pos 0) (c .before .before .before .before .before .loop-test .taken))) (l .inv))
+    (words-as (ap (λ es. map edgeText (map (lineNumberOf (s .args .numbers .now)) es)) (drop-cons (s .args .roots .now) (l .i) (pos 0) (c .before .before .before .before .before .loop-test .taken))) (l .inv))
     (rw (root-is (c .before .before .before)) at (c .before .before .put-root .ensures)))
 
 same-length : tie.Need-same-length Inv-loop μ-loop
@@ -70,7 +70,7 @@ same-length c = c .before .loop .inv .long
 returns : tie.Need-returns Inv-loop μ-loop
 returns c =
     let s = c .before .before .before .before in
-    writing-end (words-as (ap (λ es. map edgeText (map (numberOf (s .args .numbers .now)) es)) (drop-of-length-le (s .args .roots .now) (c .loop-test .left))) (c .before .loop .inv))
+    writing-end (words-as (ap (λ es. map edgeText (map (lineNumberOf (s .args .numbers .now)) es)) (drop-of-length-le (s .args .roots .now) (c .loop-test .left))) (c .before .loop .inv))
 
 pub put-roots-spec : {M : Type 1} → statement M
 put-roots-spec =

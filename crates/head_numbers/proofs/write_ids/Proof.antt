@@ -6,7 +6,7 @@ use lib.ListN.{drop}
 use borrow.Author.Needs.{needs}
 use Rattle.heading.specs.Lines.{linesText}
 use Rattle.heading.specs.Heading.{idLines}
-use Rattle.heading.specs.Tables.{seated}
+use Rattle.heading.specs.Tables.{seatedLevels}
 use Rattle.heading.proofs.Writing.{Writing, writing-start, writing-room, writing-more, writing-end}
 use Rattle.heading.proofs.Parts.{idParts, id-parts}
 use Rattle.heading.proofs.Variables.{ordered-seatable}
@@ -14,15 +14,15 @@ use Rattle.head_numbers.proofs.write_ids.Statement.{statement}
 use Rattle.head_numbers.proofs.write_ids.Tie as tie
 
 abbrev parts : tie.Start → List (List ℕ)
-parts s = idParts (seated (s .args .seats .now)) (s .args .order .now)
+parts s = idParts (seatedLevels (s .args .seats .now)) (s .args .order .now)
 
 -- all but the first k parts are left
 abbrev Left : tie.Start → List ℕ → ℕ → ℕ → Type 0
 Left s out next k =
-    Writing (s .args .out .now) (s .args .at) (linesText (idLines (seated (s .args .seats .now)) (s .args .order .now))) out next (drop k (parts s))
+    Writing (s .args .out .now) (s .args .at) (linesText (idLines (seatedLevels (s .args .seats .now)) (s .args .order .now))) out next (drop k (parts s))
 
 left-0 : (s : tie.Start) → Left s (s .args .out .now) (s .args .at) 0
-left-0 s = writing-start (s .args .out .now) (s .args .at) (id-parts (seated (s .args .seats .now)) (s .args .order .now)) (s .pre .1)
+left-0 s = writing-start (s .args .out .now) (s .args .at) (id-parts (seatedLevels (s .args .seats .now)) (s .args .order .now)) (s .pre .1)
 
 left-1 : (c : tie.After-put-bytes) → Left (c .before .before .before .before .before .before .before) (c .put-bytes .last .0) (c .put-bytes .result) 1
 left-1 c = writing-more (left-0 (c .before .before .before .before .before .before .before)) (c .put-bytes .ensures)

@@ -1,11 +1,11 @@
--- `key_of` meets its contract: it compares the word with the names of `singles`, from the top, and leaves those of `lists` to `list_key`.
+-- `key_of` meets its contract: it compares the word with the names of `singleKeys`, from the top, and leaves those of `listKeys` to `list_key`.
 use mathlib.Core.Path.{_≡_, sym, _∙_}
 use mathlib.Core.List.{List, _++_}
 use Prim.Native.Nat.{ℕ}
 use borrow.Author.Needs.{needs}
 use denote.Ref.{now}
 use lib.ListN.{drop}
-use Rattle.header_keys.specs.Keys.{keyOf, lookup, singles, lists}
+use Rattle.header_keys.specs.Keys.{keyOf, lookup, singleKeys, listKeys}
 use Rattle.header_keys.proofs.KeyNames.{miss, hit}
 use Rattle.header_keys.proofs.key_of.Statement.{statement}
 use Rattle.header_keys.proofs.key_of.Tie as tie
@@ -14,56 +14,56 @@ use Rattle.header_keys.proofs.key_of.Tie as tie
 abbrev word1 : tie.Else1 → List ℕ
 word1 c = now (c .before .before .before .before .args .word)
 
-rest1 : (c : tie.Else1) → keyOf (word1 c) ≡ lookup (word1 c) (drop 1 (singles ++ lists))
+rest1 : (c : tie.Else1) → keyOf (word1 c) ≡ lookup (word1 c) (drop 1 (singleKeys ++ listKeys))
 unfolding keyOf
 rest1 c = miss _ _ _ (sym (c .before .same .ensures) ∙ c .if1 .left)
 
 abbrev word2 : tie.Else2 → List ℕ
 word2 c = word1 (c .before .before .before)
 
-rest2 : (c : tie.Else2) → keyOf (word2 c) ≡ lookup (word2 c) (drop 2 (singles ++ lists))
+rest2 : (c : tie.Else2) → keyOf (word2 c) ≡ lookup (word2 c) (drop 2 (singleKeys ++ listKeys))
 rest2 c = rest1 (c .before .before .before) ∙ miss _ _ _ (sym (c .before .same2 .ensures) ∙ c .if2 .left)
 
 abbrev word3 : tie.Else3 → List ℕ
 word3 c = word2 (c .before .before .before)
 
-rest3 : (c : tie.Else3) → keyOf (word3 c) ≡ lookup (word3 c) (drop 3 (singles ++ lists))
+rest3 : (c : tie.Else3) → keyOf (word3 c) ≡ lookup (word3 c) (drop 3 (singleKeys ++ listKeys))
 rest3 c = rest2 (c .before .before .before) ∙ miss _ _ _ (sym (c .before .same3 .ensures) ∙ c .if3 .left)
 
 abbrev word4 : tie.Else4 → List ℕ
 word4 c = word3 (c .before .before .before)
 
-rest4 : (c : tie.Else4) → keyOf (word4 c) ≡ lookup (word4 c) (drop 4 (singles ++ lists))
+rest4 : (c : tie.Else4) → keyOf (word4 c) ≡ lookup (word4 c) (drop 4 (singleKeys ++ listKeys))
 rest4 c = rest3 (c .before .before .before) ∙ miss _ _ _ (sym (c .before .same4 .ensures) ∙ c .if4 .left)
 
 abbrev word5 : tie.Else5 → List ℕ
 word5 c = word4 (c .before .before .before)
 
-rest5 : (c : tie.Else5) → keyOf (word5 c) ≡ lookup (word5 c) (drop 5 (singles ++ lists))
+rest5 : (c : tie.Else5) → keyOf (word5 c) ≡ lookup (word5 c) (drop 5 (singleKeys ++ listKeys))
 rest5 c = rest4 (c .before .before .before) ∙ miss _ _ _ (sym (c .before .same5 .ensures) ∙ c .if5 .left)
 
 abbrev word6 : tie.Else6 → List ℕ
 word6 c = word5 (c .before .before .before)
 
-rest6 : (c : tie.Else6) → keyOf (word6 c) ≡ lookup (word6 c) (drop 6 (singles ++ lists))
+rest6 : (c : tie.Else6) → keyOf (word6 c) ≡ lookup (word6 c) (drop 6 (singleKeys ++ listKeys))
 rest6 c = rest5 (c .before .before .before) ∙ miss _ _ _ (sym (c .before .same6 .ensures) ∙ c .if6 .left)
 
 abbrev word7 : tie.Else7 → List ℕ
 word7 c = word6 (c .before .before .before)
 
-rest7 : (c : tie.Else7) → keyOf (word7 c) ≡ lookup (word7 c) (drop 7 (singles ++ lists))
+rest7 : (c : tie.Else7) → keyOf (word7 c) ≡ lookup (word7 c) (drop 7 (singleKeys ++ listKeys))
 rest7 c = rest6 (c .before .before .before) ∙ miss _ _ _ (sym (c .before .same7 .ensures) ∙ c .if7 .left)
 
 abbrev word8 : tie.Else8 → List ℕ
 word8 c = word7 (c .before .before .before)
 
-rest8 : (c : tie.Else8) → keyOf (word8 c) ≡ lookup (word8 c) (drop 8 (singles ++ lists))
+rest8 : (c : tie.Else8) → keyOf (word8 c) ≡ lookup (word8 c) (drop 8 (singleKeys ++ listKeys))
 rest8 c = rest7 (c .before .before .before) ∙ miss _ _ _ (sym (c .before .same8 .ensures) ∙ c .if8 .left)
 
 abbrev word9 : tie.Else9 → List ℕ
 word9 c = word8 (c .before .before .before)
 
-rest9 : (c : tie.Else9) → keyOf (word9 c) ≡ lookup (word9 c) (drop 9 (singles ++ lists))
+rest9 : (c : tie.Else9) → keyOf (word9 c) ≡ lookup (word9 c) (drop 9 (singleKeys ++ listKeys))
 rest9 c = rest8 (c .before .before .before) ∙ miss _ _ _ (sym (c .before .same9 .ensures) ∙ c .if9 .left)
 
 slice-aggregate-same : tie.Need-slice-aggregate-same

@@ -1,11 +1,11 @@
--- `list_key` meets its contract: it compares the word with the names of `lists`, from the top.
+-- `list_key` meets its contract: it compares the word with the names of `listKeys`, from the top.
 use mathlib.Core.Path.{_≡_, sym, _∙_}
 use mathlib.Core.List.{List}
 use Prim.Native.Nat.{ℕ}
 use borrow.Author.Needs.{needs}
 use denote.Ref.{now}
 use lib.ListN.{drop}
-use Rattle.header_keys.specs.Keys.{lookup, lists}
+use Rattle.header_keys.specs.Keys.{lookup, listKeys}
 use Rattle.header_keys.proofs.KeyNames.{miss, hit}
 use Rattle.header_keys.proofs.list_key.Statement.{statement}
 use Rattle.header_keys.proofs.list_key.Tie as tie
@@ -14,49 +14,49 @@ use Rattle.header_keys.proofs.list_key.Tie as tie
 abbrev word1 : tie.Else1 → List ℕ
 word1 c = now (c .before .before .before .before .args .word)
 
-rest1 : (c : tie.Else1) → lookup (word1 c) lists ≡ lookup (word1 c) (drop 1 lists)
+rest1 : (c : tie.Else1) → lookup (word1 c) listKeys ≡ lookup (word1 c) (drop 1 listKeys)
 rest1 c = miss _ _ _ (sym (c .before .same .ensures) ∙ c .if1 .left)
 
 abbrev word2 : tie.Else2 → List ℕ
 word2 c = word1 (c .before .before .before)
 
-rest2 : (c : tie.Else2) → lookup (word2 c) lists ≡ lookup (word2 c) (drop 2 lists)
+rest2 : (c : tie.Else2) → lookup (word2 c) listKeys ≡ lookup (word2 c) (drop 2 listKeys)
 rest2 c = rest1 (c .before .before .before) ∙ miss _ _ _ (sym (c .before .same2 .ensures) ∙ c .if2 .left)
 
 abbrev word3 : tie.Else3 → List ℕ
 word3 c = word2 (c .before .before .before)
 
-rest3 : (c : tie.Else3) → lookup (word3 c) lists ≡ lookup (word3 c) (drop 3 lists)
+rest3 : (c : tie.Else3) → lookup (word3 c) listKeys ≡ lookup (word3 c) (drop 3 listKeys)
 rest3 c = rest2 (c .before .before .before) ∙ miss _ _ _ (sym (c .before .same3 .ensures) ∙ c .if3 .left)
 
 abbrev word4 : tie.Else4 → List ℕ
 word4 c = word3 (c .before .before .before)
 
-rest4 : (c : tie.Else4) → lookup (word4 c) lists ≡ lookup (word4 c) (drop 4 lists)
+rest4 : (c : tie.Else4) → lookup (word4 c) listKeys ≡ lookup (word4 c) (drop 4 listKeys)
 rest4 c = rest3 (c .before .before .before) ∙ miss _ _ _ (sym (c .before .same4 .ensures) ∙ c .if4 .left)
 
 abbrev word5 : tie.Else5 → List ℕ
 word5 c = word4 (c .before .before .before)
 
-rest5 : (c : tie.Else5) → lookup (word5 c) lists ≡ lookup (word5 c) (drop 5 lists)
+rest5 : (c : tie.Else5) → lookup (word5 c) listKeys ≡ lookup (word5 c) (drop 5 listKeys)
 rest5 c = rest4 (c .before .before .before) ∙ miss _ _ _ (sym (c .before .same5 .ensures) ∙ c .if5 .left)
 
 abbrev word6 : tie.Else6 → List ℕ
 word6 c = word5 (c .before .before .before)
 
-rest6 : (c : tie.Else6) → lookup (word6 c) lists ≡ lookup (word6 c) (drop 6 lists)
+rest6 : (c : tie.Else6) → lookup (word6 c) listKeys ≡ lookup (word6 c) (drop 6 listKeys)
 rest6 c = rest5 (c .before .before .before) ∙ miss _ _ _ (sym (c .before .same6 .ensures) ∙ c .if6 .left)
 
 abbrev word7 : tie.Else7 → List ℕ
 word7 c = word6 (c .before .before .before)
 
-rest7 : (c : tie.Else7) → lookup (word7 c) lists ≡ lookup (word7 c) (drop 7 lists)
+rest7 : (c : tie.Else7) → lookup (word7 c) listKeys ≡ lookup (word7 c) (drop 7 listKeys)
 rest7 c = rest6 (c .before .before .before) ∙ miss _ _ _ (sym (c .before .same7 .ensures) ∙ c .if7 .left)
 
 abbrev word8 : tie.Else8 → List ℕ
 word8 c = word7 (c .before .before .before)
 
-rest8 : (c : tie.Else8) → lookup (word8 c) lists ≡ lookup (word8 c) (drop 8 lists)
+rest8 : (c : tie.Else8) → lookup (word8 c) listKeys ≡ lookup (word8 c) (drop 8 listKeys)
 rest8 c = rest7 (c .before .before .before) ∙ miss _ _ _ (sym (c .before .same8 .ensures) ∙ c .if8 .left)
 
 slice-aggregate-same : tie.Need-slice-aggregate-same

@@ -3,7 +3,7 @@ use mathlib.Core.Path.{ap}
 use native.Mathlib.Omega.{arith}
 use borrow.Author.Needs.{needs}
 use denote.Ref.{now}
-use Rattle.import_bin.specs.Kinds.{ofRead}
+use Rattle.import_bin.specs.Kinds.{ofReadNumber}
 use Rattle.import_bin.proofs.Children.{below-small}
 use Rattle.import_bin.proofs.CodeByte.{inner-no-variable, inner-no-then, inner-no-else, inner-resolved}
 use Rattle.import_bin.proofs.inner_at.Statement.{statement}
@@ -84,15 +84,15 @@ returns c =
     (v .variable-at .ensures)
     (t .before .before .from-bits .ensures) (t .before .id-after .ensures) (t .below .ensures .0)
     (e .before .before .from-bits2 .ensures) (e .before .id-after2 .ensures) (e .below2 .ensures .0)
-    (ap ofRead (c .before .before .v .given .1)) (ap ofRead (c .before .before .before .before .before .then .given .1))
-    (ap ofRead (j .els .given .1)) (c .resolved .ensures)
+    (ap ofReadNumber (c .before .before .v .given .1)) (ap ofReadNumber (c .before .before .before .before .before .then .given .1))
+    (ap ofReadNumber (j .els .given .1)) (c .resolved .ensures)
 
 returns-2 : tie.Need-returns-2
 returns-2 c =
     let v = c .before .before .before .before .before .before .before .before .before .before .before .before .before .before .before in
     let a = v .before .before .before .before .args in
     inner-no-variable (a .count) (now (a .levels)) (now (a .seats)) (a .node) (now (a .f)) (a .b) (a .code) (a .at)
-    (v .variable-at .ensures) (ap ofRead (c .before .v2 .given .1))
+    (v .variable-at .ensures) (ap ofReadNumber (c .before .v2 .given .1))
 
 returns-3 : tie.Need-returns-3
 returns-3 c =
@@ -102,7 +102,7 @@ returns-3 c =
     inner-no-then (a .count) (now (a .levels)) (now (a .seats)) (a .node) (now (a .f)) (a .b) (a .code) (a .at)
     (v .variable-at .ensures)
     (t .before .before .from-bits .ensures) (t .before .id-after .ensures) (t .below .ensures .0)
-    (ap ofRead (c .before .then2 .given .1))
+    (ap ofReadNumber (c .before .then2 .given .1))
 
 returns-4 : tie.Need-returns-4
 returns-4 c =
@@ -114,7 +114,7 @@ returns-4 c =
     (v .variable-at .ensures)
     (t .before .before .from-bits .ensures) (t .before .id-after .ensures) (t .below .ensures .0)
     (e .before .before .from-bits2 .ensures) (e .before .id-after2 .ensures) (e .below2 .ensures .0)
-    (ap ofRead (c .before .els2 .given .1))
+    (ap ofReadNumber (c .before .els2 .given .1))
 
 pub inner-at-spec : {M : Type 1} → statement M
 inner-at-spec =

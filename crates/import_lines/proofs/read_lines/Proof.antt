@@ -8,7 +8,7 @@ use mir.Val.{toZ, ofZ}
 use mir.ValLaws.{toZ-ofZ}
 use lib.ListN.{length, take}
 use Rattle.store.specs.Store.{store}
-use Rattle.nodes.specs.Known.{Known}
+use Rattle.nodes.specs.Known.{KnownNodes}
 use Rattle.imported.specs.Build.{edgeFor, Inner}
 use Rattle.import_steps.specs.Kinds.{ofSetup}
 use Rattle.import_lines.proofs.Progress.{Progress, progress-start, edges-length, seats-length, edges-room, seats-room, edges-slot, seats-slot}
@@ -22,7 +22,7 @@ abbrev Inv-loop : tie.InvT-loop
 Inv-loop f from u list levels count₀ level₀ then₀ els₀ next₀ heads₀ edges₀ seats₀ index₀ width n₀ at₀ count level then els next heads edges seats index n at =
     Progress (ofSetup u list levels) (store levels count₀ level₀ then₀ els₀ next₀ heads₀) f from (length edges₀) (length seats₀)
     (store levels count level then els next heads) edges seats n at
-    × (Known width (store levels count level then els next heads) index × (length index ≡ length index₀))
+    × (KnownNodes width (store levels count level then els next heads) index × (length index ≡ length index₀))
 
 abbrev μ-loop : tie.MeasureT-loop
 μ-loop f from u list levels count₀ level₀ then₀ els₀ next₀ heads₀ edges₀ seats₀ index₀ width n₀ at₀ count level then els next heads edges seats index n at = u .nnodes - n

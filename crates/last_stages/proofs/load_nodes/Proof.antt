@@ -3,7 +3,7 @@ use mathlib.Core.Path.{ap, _∙_}
 use native.Mathlib.Omega.{arith}
 use borrow.Author.Needs.{needs}
 use Rattle.store.specs.Store.{Store, store}
-use Rattle.stages.specs.Stages.{withNodes}
+use Rattle.stages.specs.Stages.{answerWithNodes}
 use Rattle.last_stages.proofs.Nodes.{few-nodes, import-may, nodes-noded, nodes-none}
 use Rattle.last_stages.proofs.load_nodes.Statement.{statement}
 use Rattle.last_stages.proofs.load_nodes.Tie as tie
@@ -92,7 +92,7 @@ returns c =
     let a = s .args in
     let e = nodes-noded (a .ready) (σ s) (a .list .now) _ (q .before .before .before .ready .given .1) (q .has-extra .ensures) (a .f .now) (a .roots .now) in
     record {
-      answer = c .with-nodes .ensures ∙ ap (withNodes _) (i .answer) ∙ ap (λ n. n .answer) e;
+      answer = c .with-nodes .ensures ∙ ap (answerWithNodes _) (i .answer) ∙ ap (λ n. n .answer) e;
       store = i .store ∙ ap (λ n. n .after) e;
       roots-left = i .roots-left ∙ ap (λ n. n .roots) e;
       edges-left = i .edges-left;

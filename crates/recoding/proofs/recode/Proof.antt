@@ -68,7 +68,7 @@ returns-2 c =
     let p = planned l in
     recodes (start p .args .f .now) (p .plan-levels .result) (p .plan-levels .ensures .0) _ _ (l .levels .given .1)
     _ _ (p .plan-levels .ensures .1) refl
-    (p .before .before .if1 .left) _ _ _ (c .before .before .reload .ensures)
+    (p .before .before .if1 .left) _ _ _ (c .before .before .reload .ensures .file)
 
 same-length-3 : tie.Need-same-length-3
 same-length-3 c = c .before .before .clear-bytes2 .kept .0

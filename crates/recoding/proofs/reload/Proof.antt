@@ -265,8 +265,10 @@ returns c =
     .before .before .before .before in
     let t = taken l in
     let a = start t .args in
-    reloads (a .f .now) (a .list .now) (a .levels) (t .load .result) (t .load .ensures .answer) _ (l .loaded .given .1)
-    (left t) (t .load .ensures .lists) (stored t) (t .load .ensures .store) _ _ _ (c .before .before .write-back .ensures)
+    record {
+      file = reloads (a .f .now) (a .list .now) (a .levels) (t .load .result) (t .load .ensures .answer) _ (l .loaded .given .1)
+          (left t) (t .load .ensures .lists) (stored t) (t .load .ensures .store) _ _ _ (c .before .before .write-back .ensures .file);
+    }
 
 same-length-2 : tie.Need-same-length-2
 same-length-2 c = c .before .before .clear-bytes .kept .0
@@ -276,8 +278,10 @@ returns-2 c =
     let l = c .before .before .before .before .before in
     let t = taken-2 l in
     let a = start t .args in
-    reloads-none (a .f .now) (a .list .now) (a .levels) (t .load .result) (t .load .ensures .answer) _ _ (l .loaded2 .given .1) _ _
-    (c .before .before .clear-bytes .ensures)
+    record {
+      file = reloads-none (a .f .now) (a .list .now) (a .levels) (t .load .result) (t .load .ensures .answer) _ _ (l .loaded2 .given .1) _ _
+          (c .before .before .clear-bytes .ensures);
+    }
 
 pub reload-spec : {M : Type 1} → statement M
 reload-spec =

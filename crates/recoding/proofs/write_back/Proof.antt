@@ -6,7 +6,7 @@ use Rattle.store.specs.Store.{Store, store}
 use Rattle.calls.specs.Calls.{Export}
 use Rattle.exporter.specs.Promise.{ofExported}
 use Rattle.header.specs.Kinds.{ofHeader}
-use Rattle.recoding.specs.Recode.{Recoded, Exporting, exportWith, ofRead}
+use Rattle.recoding.specs.Recode.{Recoded, ExportingAgain, exportWith, ofRead}
 use Rattle.recoding.proofs.Passing.{text-settings, passed-is, passed-long, order-fits, order-is, order-long, exporting}
 use Rattle.recoding.proofs.write_back.Statement.{statement}
 use Rattle.recoding.proofs.write_back.Tie as tie
@@ -112,7 +112,7 @@ abbrev σ : tie.Start → Store
 
 -- what the export leaves, whatever its answer
 exports : (c : tie.After-export) (x : Recoded) → x ≡ ofRead (ofExported (c .export .result))
-    → Exporting (named-export (start (counted (parts c)))) (σ (start (counted (parts c)))) x
+    → ExportingAgain (named-export (start (counted (parts c)))) (σ (start (counted (parts c)))) x
     (c .export .last .1 .1 .1 .1 .1 .1 .1 .1 .1 .1 .1 .1 .1 .1 .1 .1 .1 .0)
 exports c x q =
     let p = parts c in
@@ -136,8 +136,10 @@ same-length c =
 
 returns : tie.Need-returns
 returns c =
-    exports (c .before .before .before .before .before .before .before) _ (ap (λ r. ofRead (ofExported r)) (sym
-    (c .before .exported .given .1)))
+    record {
+      file = exports (c .before .before .before .before .before .before .before) _ (ap (λ r. ofRead (ofExported r)) (sym
+          (c .before .exported .given .1)));
+    }
 
 same-length-2 : tie.Need-same-length-2
 same-length-2 c =
@@ -145,8 +147,10 @@ same-length-2 c =
 
 returns-2 : tie.Need-returns-2
 returns-2 c =
-    exports (c .before .before .before .before .before .before .before) _ (ap (λ r. ofRead (ofExported r)) (sym
-    (c .before .exported2 .given .1)))
+    record {
+      file = exports (c .before .before .before .before .before .before .before) _ (ap (λ r. ofRead (ofExported r)) (sym
+          (c .before .exported2 .given .1)));
+    }
 
 pub write-back-spec : {M : Type 1} → statement M
 write-back-spec =

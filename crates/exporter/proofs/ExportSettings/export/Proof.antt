@@ -11,7 +11,7 @@ use Rattle.exporter.specs.declared.Exported.{Exported}
 use Rattle.exporter.specs.declared.Exported.the-variants.{Written, Refused}
 use Rattle.exporter.specs.Settings.{ofSettings}
 use Rattle.exported.specs.Export.{exportFault}
-use Rattle.exporter.specs.Promise.{Exports}
+use Rattle.exporter.specs.Promise.{ExportsBy}
 use Rattle.exporter.proofs.Promised.{own-zeros, vars-filled, promised-none, promised-file}
 use Rattle.exporter.proofs.ExportSettings.export.Statement.{statement}
 use Rattle.exporter.proofs.ExportSettings.export.Tie as tie
@@ -30,7 +30,7 @@ fault s slots numbers out = exportFault (σ s) (s .args .roots .now) (s .args .o
 
 abbrev Promised : tie.Start → Exported → List ℕ → Type 0
 Promised s r out =
-    Exports (fault s (length (s .args .slots .now)) (length (s .args .numbers .now)) (length (s .args .out .now))) (ofSettings (s .args .self)) (σ s)
+    ExportsBy (fault s (length (s .args .slots .now)) (length (s .args .numbers .now)) (length (s .args .out .now))) (ofSettings (s .args .self)) (σ s)
     (s .args .roots .now) (s .args .order .now) (names s) (length (s .args .out .now)) r out
 
 -- the way back, from after a call to after the one before it, and to the start

@@ -1,0 +1,34 @@
+-- What the steps of `recode` promise, over the parts that are lent to them.
+use Prim.Native.Nat.{ℕ}
+use mathlib.Core.List.{List}
+use lib.IntN.{ℤ}
+use lib.ListN.{length}
+use Rattle.codes.specs.Lent.{Part, old, new}
+use Rattle.store.specs.Lent.{oldStore}
+use Rattle.header.specs.declared.DumpHeader.{DumpHeader}
+use Rattle.header.specs.Kinds.{ofHeader}
+use Rattle.calls.specs.Load.{Loaded}
+use Rattle.calls.specs.Calls.{Export}
+use Rattle.recoding.specs.Recode.{loadedAt, exportWith, ExportingAgain, Reloads}
+use Rattle.recoding.specs.declared.Recoded.{Recoded}
+use Rattle.recoding.specs.Kinds.{ofRecoded}
+
+module _ (f : Part (List ℕ)) (h : DumpHeader) (levels count : ℕ) (level : Part (List ℕ)) (then els : Part (List ℤ)) (next heads : Part (List ℕ))
+    (roots : Part (List ℤ)) (ids permids names lens rootnames rootlens out : Part (List ℕ)) where
+  -- the export of what was loaded, with its lists
+  abbrev again : Export
+  again =
+      exportWith (old f) (ofHeader h) (old roots) (old ids) (old permids) (old names) (old lens) (old rootnames) (old rootlens) (length (old out))
+
+  -- 'passes on variable names where all are present, root names and the `.dd` value, writes mode A, version 2.0'
+  pub record WriteBackPromise (r : Recoded) : Type 0 where
+    pub file : ExportingAgain again (oldStore levels count level then els next heads) (ofRecoded r) (new out)
+
+module _ (f list : Part (List ℕ)) (levels : ℕ) (out : Part (List ℕ)) where
+  -- the file, loaded at the levels of the list into an empty store
+  abbrev loaded : Loaded
+  loaded = loadedAt (old f) (old list) levels
+
+  -- the text of what was loaded, or the load's refusal
+  pub record ReloadPromise (r : Recoded) : Type 0 where
+    pub file : Reloads (old f) loaded (loaded .answer) (length (old out)) (ofRecoded r) (new out)

@@ -120,7 +120,7 @@ module _ {σ : Store} {roots : List ℤ} {order : List ℕ} {p : Lent} {room mar
     -- the tables are filled
     pub filled : {numbers seats : List ℕ} → Numbers ns numbers → length numbers ≡ marks → Seats (supportOf σ (take n nodes)) seats
         → varLimit ≤ length seats → Filled σ ns numbers seats
-    filled N long S more = record { numbered = N; seatedLevels = rw nodes-front at S; numbers-long = omega (arith, A .numbers-long); seats-long = more }
+    filled N long S more = record { numbered = N; seated = rw nodes-front at S; numbers-long = omega (arith, A .numbers-long); seats-long = more }
 
     -- the lines can be written by them, and are those of the nodes
     pub lined : {numbers seats : List ℕ} → Filled σ ns numbers seats → Lined (slots (σ .level) (σ .then) (σ .els)) (take n nodes) numbers seats

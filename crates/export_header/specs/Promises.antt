@@ -11,7 +11,7 @@ use Rattle.codes.specs.Lent.{Part, old}
 use Rattle.read_text.specs.Text.{place}
 use Rattle.header_keys.specs.declared.Key.the-variants.{Dd}
 use Rattle.export_names.specs.Names.{nameAt, namesAt, nameListFits}
-use Rattle.writers.specs.Written.{Fits, Written}
+use Rattle.writers.specs.Written.{FitsOut, Written}
 use Rattle.export_nodes.specs.Tables.{lineNumberOf}
 use Rattle.heading.specs.Lines.{line, linesText}
 use Rattle.heading.specs.Heading.{unlessEmpty, rootLines, headText}
@@ -28,7 +28,7 @@ rootsText roots numbers names = linesText (rootLines (map (lineNumberOf numbers)
 -- the name lies inside the lent bytes, and there is room for its line
 pub record DiagramAsks (out : RefT (List ℕ)) (at : ℕ) (bytes : RefT (List ℕ)) (start len : ℕ) : Type 0 where
   pub inside : start + len ≤ length (now bytes)
-  pub room : Fits out at (diagramText (nameAt (now bytes) (place start len)))
+  pub room : FitsOut out at (diagramText (nameAt (now bytes) (place start len)))
 
 -- the line of the diagram's name is written
 abbrev pub DiagramPromise : Part (List ℕ) → ℕ → Part (List ℕ) → ℕ → ℕ → ℕ → Type 0
@@ -38,7 +38,7 @@ DiagramPromise out at bytes start len r = Written out at (diagramText (nameAt (o
 pub record RootsAsks (out : RefT (List ℕ)) (at : ℕ) (roots : RefT (List ℤ)) (numbers bytes starts lens : RefT (List ℕ)) : Type 0 where
   pub rooted : Rooted (now roots) (now numbers)
   pub names-fit : nameListFits (length (now roots)) (now bytes) (now starts) (now lens) ≡ true
-  pub room : Fits out at (rootsText (now roots) (now numbers) (namesAt (now bytes) (now starts) (now lens)))
+  pub room : FitsOut out at (rootsText (now roots) (now numbers) (namesAt (now bytes) (now starts) (now lens)))
 
 -- the lines of the roots are written
 abbrev pub RootsPromise : Part (List ℕ) → ℕ → Part (List ℤ) → Part (List ℕ) → Part (List ℕ) → Part (List ℕ) → Part (List ℕ) → ℕ → Type 0
@@ -52,7 +52,7 @@ pub record HeaderAsks (version : DDDMPVersion) (ascii : Bool) (out : RefT (List 
   pub rooted : Rooted (now roots) (now numbers)
   pub names : NamesFit (lent (now bytes) (now starts) (now lens) (now rootstarts) (now rootlens) (place ddstart ddlen)) (length (now order)) (length (now roots))
   pub counted : nsuppvars ≡ length (seatedLevels (now seats))
-  pub room : Fits out at
+  pub room : FitsOut out at
       (headText
       (headingBy version ascii (lent (now bytes) (now starts) (now lens) (now rootstarts) (now rootlens) (place ddstart ddlen)) nnodes (now order) (now seats)
       (now roots) (now numbers)))

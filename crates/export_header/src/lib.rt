@@ -6,7 +6,7 @@ ghost use Rattle.codes.specs.Lent.{old};
 ghost use Rattle.read_text.specs.Text.{place};
 ghost use Rattle.header_keys.specs.declared.Key.the-variants.{Ver, Mode};
 ghost use Rattle.export_names.specs.Names.{nameAt, fitPlace};
-ghost use Rattle.writers.specs.Written.{Fits, Written};
+ghost use Rattle.writers.specs.Written.{FitsOut, Written};
 ghost use Rattle.heading.specs.Lines.{line, lineText, linesText};
 ghost use Rattle.heading.specs.Heading.{versionText, modeText, introLines};
 ghost use Rattle.export_header.specs.Promises.{DiagramAsks, DiagramPromise, RootsAsks, RootsPromise, HeaderAsks, HeaderPromise};
@@ -16,7 +16,7 @@ use edges::Index;
 
 // Writes `.ver`.
 fn write_version(version: DDDMPVersion, out: &mut [u8], at: usize) -> usize
-    requires { ⌜ Fits out at (lineText (line Ver (versionText version ∷ []))) ⌝ }
+    requires { ⌜ FitsOut out at (lineText (line Ver (versionText version ∷ []))) ⌝ }
     ensures { λ r. ⌜ Written out at (lineText (line Ver (versionText version ∷ []))) r ⌝ }
 {
     match version {
@@ -27,7 +27,7 @@ fn write_version(version: DDDMPVersion, out: &mut [u8], at: usize) -> usize
 
 // Writes `.mode`.
 fn write_mode(ascii: bool, out: &mut [u8], at: usize) -> usize
-    requires { ⌜ Fits out at (lineText (line Mode (modeText ascii ∷ []))) ⌝ }
+    requires { ⌜ FitsOut out at (lineText (line Mode (modeText ascii ∷ []))) ⌝ }
     ensures { λ r. ⌜ Written out at (lineText (line Mode (modeText ascii ∷ []))) r ⌝ }
 {
     if ascii {
@@ -60,7 +60,7 @@ fn write_intro(
     len: u32,
 ) -> usize
     requires { ⌜ fitPlace true (now bytes) (place start len) ≡ true ⌝ }
-    requires { ⌜ Fits out at (linesText (introLines version ascii (nameAt (now bytes) (place start len)))) ⌝ }
+    requires { ⌜ FitsOut out at (linesText (introLines version ascii (nameAt (now bytes) (place start len)))) ⌝ }
     ensures { λ r. ⌜ Written out at (linesText (introLines version ascii (nameAt (old bytes) (place start len)))) r ⌝ }
 {
     let mode_at = write_version(version, out, at);

@@ -6,7 +6,7 @@ ghost use lib.IntN.{natAbs};
 ghost use Rattle.codes.specs.Limits.{nodeLimit};
 ghost use Rattle.store.specs.Store.{slots};
 ghost use Rattle.codes.specs.Lent.{old};
-ghost use Rattle.writers.specs.Written.{Fits, Written};
+ghost use Rattle.writers.specs.Written.{FitsOut, Written};
 ghost use Rattle.node_writers.specs.Encoded.{nodeBytes};
 ghost use Rattle.export_nodes.specs.Tables.{lineNumberOf, Numbered, linesBy, seatBy, innerBy, nodeLineBy, Seated, Inner, Lined};
 use edges::Edge;
@@ -51,7 +51,7 @@ fn put_inner(
     node: Index,
 ) -> usize
     requires { ⌜ (2 ≤ node) × (n ≤ nodeLimit) × Inner (slots (now level) (now then) (now els)) (now numbers) (now seats) n node ⌝ }
-    requires { ⌜ Fits out at (innerBy ascii (slots (now level) (now then) (now els)) (now numbers) (now seats) n node) ⌝ }
+    requires { ⌜ FitsOut out at (innerBy ascii (slots (now level) (now then) (now els)) (now numbers) (now seats) n node) ⌝ }
     ensures { λ r. ⌜ Written out at (innerBy ascii (slots (old level) (old then) (old els)) (old numbers) (old seats) n node) r ⌝ }
 {
     let i = node as usize - 1;
@@ -81,7 +81,7 @@ fn put_node(
     node: Index,
 ) -> usize
     requires { ⌜ (1 ≤ node) × (n ≤ nodeLimit) × (2 ≤ node → Inner (slots (now level) (now then) (now els)) (now numbers) (now seats) n node) ⌝ }
-    requires { ⌜ Fits out at (nodeLineBy ascii (slots (now level) (now then) (now els)) (now numbers) (now seats) n node) ⌝ }
+    requires { ⌜ FitsOut out at (nodeLineBy ascii (slots (now level) (now then) (now els)) (now numbers) (now seats) n node) ⌝ }
     ensures { λ r. ⌜ Written out at (nodeLineBy ascii (slots (old level) (old then) (old els)) (old numbers) (old seats) n node) r ⌝ }
 {
     if node != 1 {
@@ -106,7 +106,7 @@ pub fn write_nodes(
     at: usize,
 ) -> usize
     requires { ⌜ Lined (slots (now level) (now then) (now els)) (now nodes) (now numbers) (now seats) ⌝ }
-    requires { ⌜ Fits out at (nodeBytes ascii (linesBy (slots (now level) (now then) (now els)) (now numbers) (now seats) (now nodes))) ⌝ }
+    requires { ⌜ FitsOut out at (nodeBytes ascii (linesBy (slots (now level) (now then) (now els)) (now numbers) (now seats) (now nodes))) ⌝ }
     ensures { λ r. ⌜ Written out at (nodeBytes ascii (linesBy (slots (old level) (old then) (old els)) (old numbers) (old seats) (old nodes))) r ⌝ }
 {
     let mut next = at;

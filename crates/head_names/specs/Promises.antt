@@ -12,7 +12,7 @@ use Rattle.header_keys.specs.declared.Key.the-variants.{Rootnames}
 use Rattle.variable_order.specs.Order.{isOrder}
 use Rattle.export_names.specs.Names.{namesAt, nameListFits}
 use Rattle.writers.specs.Words.{spaced}
-use Rattle.writers.specs.Written.{Fits, Written}
+use Rattle.writers.specs.Written.{FitsOut, Written}
 use Rattle.heading.specs.Lines.{line, linesText}
 use Rattle.heading.specs.Heading.{idsFrom, variablesFrom, chosenNames, unlessEmpty, namedLines}
 use Rattle.heading.specs.Tables.{seatedLevels, Seatable, Ordered, Inside}
@@ -38,7 +38,7 @@ module _ (out : RefT (List ℕ)) (at : ℕ) (bytes starts lens : RefT (List ℕ)
     pub inside : Inside (now bytes) (now starts) (now lens)
     pub named : length (now lens) ≡ length (now order)
     pub seatable : Seatable (now order) (now seats)
-    pub room : Fits out at (suppNames lentNames (now order) (now seats))
+    pub room : FitsOut out at (suppNames lentNames (now order) (now seats))
 
   -- a name inside the lent bytes for each variable, an order, each level's variable, and room
   pub record OrderedNamesAsks (order vars : RefT (List ℕ)) : Type 0 where
@@ -47,18 +47,18 @@ module _ (out : RefT (List ℕ)) (at : ℕ) (bytes starts lens : RefT (List ℕ)
     pub is-order : isOrder (length (now order)) (now order) ≡ true
     pub vars-there : Seats (now order) (now vars)
     pub vars-long : length (now order) ≤ length (now vars)
-    pub room : Fits out at (orderedNames lentNames (now order))
+    pub room : FitsOut out at (orderedNames lentNames (now order))
 
   -- 'Names are lent for all variables or none'; the tables of the levels, and room
   pub record NamesAsks (version : DDDMPVersion) (order vars seats : RefT (List ℕ)) : Type 0 where
     pub names-fit : nameListFits (length (now order)) (now bytes) (now starts) (now lens) ≡ true
     pub ordered : Ordered (now order) (now vars) (now seats)
-    pub room : Fits out at (linesText (namedLines version (seatedLevels (now seats)) (now order) lentNames))
+    pub room : FitsOut out at (linesText (namedLines version (seatedLevels (now seats)) (now order) lentNames))
 
   -- each name lies inside the lent bytes, and there is room for their line
   pub record RootnamesAsks : Type 0 where
     pub inside : Inside (now bytes) (now starts) (now lens)
-    pub room : Fits out at (rootnames lentNames)
+    pub room : FitsOut out at (rootnames lentNames)
 
 module _ (out : Part (List ℕ)) (at : ℕ) (bytes starts lens : Part (List ℕ)) where
   abbrev oldNames : List (List ℕ)
@@ -73,8 +73,8 @@ module _ (out : Part (List ℕ)) (at : ℕ) (bytes starts lens : Part (List ℕ)
   OrderedNamesPromise order r = Written out at (orderedNames oldNames (old order)) r
 
   -- 'with no variables the name lines are written empty'
-  abbrev pub NamesPromise : DDDMPVersion → Part (List ℕ) → Part (List ℕ) → ℕ → Type 0
-  NamesPromise version order seats r = Written out at (linesText (namedLines version (seatedLevels (old seats)) (old order) oldNames)) r
+  abbrev pub NameLinesPromise : DDDMPVersion → Part (List ℕ) → Part (List ℕ) → ℕ → Type 0
+  NameLinesPromise version order seats r = Written out at (linesText (namedLines version (seatedLevels (old seats)) (old order) oldNames)) r
 
   -- 'with no roots `.rootnames` is left out'
   abbrev pub RootnamesPromise : ℕ → Type 0

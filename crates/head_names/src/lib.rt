@@ -6,18 +6,18 @@ ghost use Rattle.codes.specs.Lent.{old};
 ghost use Rattle.read_text.specs.Text.{place};
 ghost use Rattle.export_names.specs.Names.{nameAt, namesAt};
 ghost use Rattle.writers.specs.Words.{spaced};
-ghost use Rattle.writers.specs.Written.{Fits, Written};
+ghost use Rattle.writers.specs.Written.{FitsOut, Written};
 ghost use Rattle.heading.specs.Lines.{keyedText, linesText};
 ghost use Rattle.heading.specs.Heading.{varnameLines};
 ghost use Rattle.heading.specs.Tables.{Inside};
 ghost use Rattle.head_names.specs.Promises.{SuppNamesAsks, SuppNamesPromise, OrderedNamesAsks, OrderedNamesPromise};
-ghost use Rattle.head_names.specs.Promises.{NamesAsks, NamesPromise, RootnamesAsks, RootnamesPromise};
+ghost use Rattle.head_names.specs.Promises.{NamesAsks, NameLinesPromise, RootnamesAsks, RootnamesPromise};
 use codes::DDDMPVersion;
 
 // Writes the name at a place.
 pub fn put_place(out: &mut [u8], at: usize, bytes: &[u8], start: u32, len: u32) -> usize
     requires { ⌜ start + len ≤ length (now bytes) ⌝ }
-    requires { ⌜ Fits out at (nameAt (now bytes) (place start len)) ⌝ }
+    requires { ⌜ FitsOut out at (nameAt (now bytes) (place start len)) ⌝ }
     ensures { λ r. ⌜ Written out at (nameAt (old bytes) (place start len)) r ⌝ }
 {
     let first = start as usize;
@@ -35,7 +35,7 @@ fn put_name(
     i: usize,
 ) -> usize
     requires { ⌜ Inside (now bytes) (now starts) (now lens) × (i < length (now lens)) ⌝ }
-    requires { ⌜ Fits out at (0x20 ∷ getD (namesAt (now bytes) (now starts) (now lens)) i []) ⌝ }
+    requires { ⌜ FitsOut out at (0x20 ∷ getD (namesAt (now bytes) (now starts) (now lens)) i []) ⌝ }
     ensures { λ r. ⌜ Written out at (0x20 ∷ getD (namesAt (old bytes) (old starts) (old lens)) i []) r ⌝ }
 {
     let next = writers::text::put_byte(out, at, b' ');
@@ -45,7 +45,7 @@ fn put_name(
 // Writes all names of a list, in its order.
 fn put_names(out: &mut [u8], at: usize, bytes: &[u8], starts: &[u32], lens: &[u32]) -> usize
     requires { ⌜ Inside (now bytes) (now starts) (now lens) ⌝ }
-    requires { ⌜ Fits out at (spaced (namesAt (now bytes) (now starts) (now lens))) ⌝ }
+    requires { ⌜ FitsOut out at (spaced (namesAt (now bytes) (now starts) (now lens))) ⌝ }
     ensures { λ r. ⌜ Written out at (spaced (namesAt (old bytes) (old starts) (old lens))) r ⌝ }
 {
     let mut next = at;
@@ -67,7 +67,7 @@ fn write_list(
     lens: &[u32],
 ) -> usize
     requires { ⌜ Inside (now bytes) (now starts) (now lens) ⌝ }
-    requires { ⌜ Fits out at (keyedText (now key) (namesAt (now bytes) (now starts) (now lens))) ⌝ }
+    requires { ⌜ FitsOut out at (keyedText (now key) (namesAt (now bytes) (now starts) (now lens))) ⌝ }
     ensures { λ r. ⌜ Written out at (keyedText (old key) (namesAt (old bytes) (old starts) (old lens))) r ⌝ }
 {
     let names_at = writers::text::put_bytes(out, at, key);
@@ -132,7 +132,7 @@ fn write_varnames(
     lens: &[u32],
 ) -> usize
     requires { ⌜ Inside (now bytes) (now starts) (now lens) ⌝ }
-    requires { ⌜ Fits out at (linesText (varnameLines version (namesAt (now bytes) (now starts) (now lens)))) ⌝ }
+    requires { ⌜ FitsOut out at (linesText (varnameLines version (namesAt (now bytes) (now starts) (now lens)))) ⌝ }
     ensures { λ r. ⌜ Written out at (linesText (varnameLines version (namesAt (old bytes) (old starts) (old lens)))) r ⌝ }
 {
     match version {
@@ -154,7 +154,7 @@ pub fn write_names(
     seats: &[u16],
 ) -> usize
     requires { ⌜ NamesAsks out at bytes starts lens version order vars seats ⌝ }
-    ensures { λ r. ⌜ NamesPromise out at bytes starts lens version order seats r ⌝ }
+    ensures { λ r. ⌜ NameLinesPromise out at bytes starts lens version order seats r ⌝ }
 {
     // With no variables there are no names either, and their lines are written empty.
     if lens.len() != order.len() {

@@ -7,7 +7,7 @@ ghost use lib.IntN.{natAbs};
 ghost use Rattle.codes.specs.Lent.{old};
 ghost use Rattle.writers.specs.Decimal.{decimal, edgeText};
 ghost use Rattle.writers.specs.Words.{spaced};
-ghost use Rattle.writers.specs.Written.{Fits, Written};
+ghost use Rattle.writers.specs.Written.{FitsOut, Written};
 ghost use Rattle.reached.specs.Walk.{isIn};
 ghost use Rattle.export_nodes.specs.Tables.{lineNumberOf, Numbered};
 ghost use Rattle.heading.specs.Lines.{keyedText, linesText};
@@ -18,7 +18,7 @@ use edges::Index;
 
 // Writes a number with a space before it.
 fn put_spaced(out: &mut [u8], at: usize, n: u64) -> usize
-    requires { ⌜ Fits out at (0x20 ∷ decimal n) ⌝ }
+    requires { ⌜ FitsOut out at (0x20 ∷ decimal n) ⌝ }
     ensures { λ r. ⌜ Written out at (0x20 ∷ decimal n) r ⌝ }
 {
     let next = writers::text::put_byte(out, at, b' ');
@@ -27,7 +27,7 @@ fn put_spaced(out: &mut [u8], at: usize, n: u64) -> usize
 
 // Writes a line of a key and a number.
 pub fn write_count(out: &mut [u8], at: usize, key: &[u8], n: usize) -> usize
-    requires { ⌜ Fits out at (keyedText (now key) (decimal n ∷ [])) ⌝ }
+    requires { ⌜ FitsOut out at (keyedText (now key) (decimal n ∷ [])) ⌝ }
     ensures { λ r. ⌜ Written out at (keyedText (old key) (decimal n ∷ [])) r ⌝ }
 {
     let n_at = writers::text::put_bytes(out, at, key);
@@ -43,7 +43,7 @@ pub fn write_counts(
     nvars: usize,
     nsuppvars: usize,
 ) -> usize
-    requires { ⌜ Fits out at (linesText (countLines nnodes nvars nsuppvars)) ⌝ }
+    requires { ⌜ FitsOut out at (linesText (countLines nnodes nvars nsuppvars)) ⌝ }
     ensures { λ r. ⌜ Written out at (linesText (countLines nnodes nvars nsuppvars)) r ⌝ }
 {
     let nvars_at = write_count(out, at, b".nnodes", nnodes);
@@ -62,7 +62,7 @@ pub fn in_support(order: &[u16], seats: &[u16], v: usize) -> bool
 // Writes the support variables.
 fn put_ids(out: &mut [u8], at: usize, order: &[u16], seats: &[u16]) -> usize
     requires { ⌜ Seatable (now order) (now seats) ⌝ }
-    requires { ⌜ Fits out at (spaced (map decimal (idsFrom (seatedLevels (now seats)) 0 (now order)))) ⌝ }
+    requires { ⌜ FitsOut out at (spaced (map decimal (idsFrom (seatedLevels (now seats)) 0 (now order)))) ⌝ }
     ensures { λ r. ⌜ Written out at (spaced (map decimal (idsFrom (seatedLevels (old seats)) 0 (old order)))) r ⌝ }
 {
     let mut next = at;
@@ -79,7 +79,7 @@ fn put_ids(out: &mut [u8], at: usize, order: &[u16], seats: &[u16]) -> usize
 // Writes their levels, in the order of the variables.
 fn put_permids(out: &mut [u8], at: usize, order: &[u16], seats: &[u16]) -> usize
     requires { ⌜ Seatable (now order) (now seats) ⌝ }
-    requires { ⌜ Fits out at (spaced (map decimal (permidsOf (seatedLevels (now seats)) (now order)))) ⌝ }
+    requires { ⌜ FitsOut out at (spaced (map decimal (permidsOf (seatedLevels (now seats)) (now order)))) ⌝ }
     ensures { λ r. ⌜ Written out at (spaced (map decimal (permidsOf (seatedLevels (old seats)) (old order)))) r ⌝ }
 {
     let mut next = at;
@@ -96,7 +96,7 @@ fn put_permids(out: &mut [u8], at: usize, order: &[u16], seats: &[u16]) -> usize
 // Writes `.ids` and `.permids`. `vars` isn't read: it belongs to what `Ordered` says.
 pub fn write_ids(out: &mut [u8], at: usize, order: &[u16], vars: &[u16], seats: &[u16]) -> usize
     requires { ⌜ Ordered (now order) (now vars) (now seats) ⌝ }
-    requires { ⌜ Fits out at (linesText (idLines (seatedLevels (now seats)) (now order))) ⌝ }
+    requires { ⌜ FitsOut out at (linesText (idLines (seatedLevels (now seats)) (now order))) ⌝ }
     ensures { λ r. ⌜ Written out at (linesText (idLines (seatedLevels (old seats)) (old order))) r ⌝ }
 {
     let ids_at = writers::text::put_bytes(out, at, b".ids");
@@ -109,7 +109,7 @@ pub fn write_ids(out: &mut [u8], at: usize, order: &[u16], vars: &[u16], seats: 
 // Writes a root, as the number of its line, with a space before it.
 fn put_root(out: &mut [u8], at: usize, root: Edge, numbers: &[Index]) -> usize
     requires { ⌜ Numbered (now numbers) (natAbs root) ⌝ }
-    requires { ⌜ Fits out at (0x20 ∷ edgeText (lineNumberOf (now numbers) root)) ⌝ }
+    requires { ⌜ FitsOut out at (0x20 ∷ edgeText (lineNumberOf (now numbers) root)) ⌝ }
     ensures { λ r. ⌜ Written out at (0x20 ∷ edgeText (lineNumberOf (old numbers) root)) r ⌝ }
 {
     let next = writers::text::put_byte(out, at, b' ');
@@ -119,7 +119,7 @@ fn put_root(out: &mut [u8], at: usize, root: Edge, numbers: &[Index]) -> usize
 // Writes the roots, as numbers of lines.
 pub fn put_roots(out: &mut [u8], at: usize, roots: &[Edge], numbers: &[Index]) -> usize
     requires { ⌜ Rooted (now roots) (now numbers) ⌝ }
-    requires { ⌜ Fits out at (spaced (map edgeText (map (lineNumberOf (now numbers)) (now roots)))) ⌝ }
+    requires { ⌜ FitsOut out at (spaced (map edgeText (map (lineNumberOf (now numbers)) (now roots)))) ⌝ }
     ensures { λ r. ⌜ Written out at (spaced (map edgeText (map (lineNumberOf (old numbers)) (old roots)))) r ⌝ }
 {
     let mut next = at;

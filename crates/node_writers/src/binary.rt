@@ -5,7 +5,7 @@ ghost use Prim.Native.Nat.{_-_, _<_};
 ghost use lib.IntN.{natAbs};
 ghost use Rattle.codes.specs.declared.Code.the-variants.{Terminal};
 ghost use Rattle.writers.specs.Binary.{escaped};
-ghost use Rattle.writers.specs.Written.{Fits, Written};
+ghost use Rattle.writers.specs.Written.{FitsOut, Written};
 ghost use Rattle.node_writers.specs.Encoded.{codeBits, codeByte, numberFor, childCode, smaller, variableCode, innerBytes};
 use codes::Code;
 use edges::Edge;
@@ -89,7 +89,7 @@ fn variable_code(p: u16, seat: u16) -> Code
 
 // Writes the number that follows a code.
 fn put_number(out: &mut [u8], at: usize, code: Code, absolute: u16, distance: u16) -> usize
-    requires { ⌜ Fits out at (numberFor code absolute distance) ⌝ }
+    requires { ⌜ FitsOut out at (numberFor code absolute distance) ⌝ }
     ensures { λ r. ⌜ Written out at (numberFor code absolute distance) r ⌝ }
 {
     match code {
@@ -102,7 +102,7 @@ fn put_number(out: &mut [u8], at: usize, code: Code, absolute: u16, distance: u1
 
 // Writes the terminal's line.
 pub fn put_terminal(out: &mut [u8], at: usize) -> usize
-    requires { ⌜ Fits out at (escaped (codeByte Terminal Terminal false Terminal)) ⌝ }
+    requires { ⌜ FitsOut out at (escaped (codeByte Terminal Terminal false Terminal)) ⌝ }
     ensures { λ r. ⌜ Written out at (escaped (codeByte Terminal Terminal false Terminal)) r ⌝ }
 {
     let code = node_code(Code::Terminal, Code::Terminal, false, Code::Terminal);
@@ -112,7 +112,7 @@ pub fn put_terminal(out: &mut [u8], at: usize) -> usize
 // Writes a line of a support position and two children, by the seat that its variable may count down from.
 pub fn put_inner(out: &mut [u8], at: usize, n: Index, p: u16, t: Edge, e: Edge, seat: u16) -> usize
     requires { ⌜ (natAbs t < n) × (natAbs e < n) ⌝ }
-    requires { ⌜ Fits out at (innerBytes n p t e seat) ⌝ }
+    requires { ⌜ FitsOut out at (innerBytes n p t e seat) ⌝ }
     ensures { λ r. ⌜ Written out at (innerBytes n p t e seat) r ⌝ }
 {
     let then = edges::magnitude(t);

@@ -1,7 +1,7 @@
 // A node line of text.
 ghost use mathlib.Core.List.{_∷_};
 ghost use Rattle.writers.specs.Decimal.{decimal, edgeText};
-ghost use Rattle.writers.specs.Written.{Fits, Written};
+ghost use Rattle.writers.specs.Written.{FitsOut, Written};
 ghost use Rattle.node_lines.specs.Line.{terminal, inner};
 ghost use Rattle.node_writers.specs.Encoded.{textBytes};
 use edges::Edge;
@@ -9,7 +9,7 @@ use edges::Index;
 
 // Writes the terminal's line.
 pub fn put_terminal(out: &mut [u8], at: usize, n: Index) -> usize
-    requires { ⌜ Fits out at (textBytes n terminal) ⌝ }
+    requires { ⌜ FitsOut out at (textBytes n terminal) ⌝ }
     ensures { λ r. ⌜ Written out at (textBytes n terminal) r ⌝ }
 {
     let next = writers::text::put_decimal(out, at, n as u64);
@@ -18,7 +18,7 @@ pub fn put_terminal(out: &mut [u8], at: usize, n: Index) -> usize
 
 // Writes a number after a space.
 fn put_number(out: &mut [u8], at: usize, n: u16) -> usize
-    requires { ⌜ Fits out at (0x20 ∷ decimal n) ⌝ }
+    requires { ⌜ FitsOut out at (0x20 ∷ decimal n) ⌝ }
     ensures { λ r. ⌜ Written out at (0x20 ∷ decimal n) r ⌝ }
 {
     let next = writers::text::put_byte(out, at, b' ');
@@ -27,7 +27,7 @@ fn put_number(out: &mut [u8], at: usize, n: u16) -> usize
 
 // Writes an edge after a space.
 fn put_edge(out: &mut [u8], at: usize, e: Edge) -> usize
-    requires { ⌜ Fits out at (0x20 ∷ edgeText e) ⌝ }
+    requires { ⌜ FitsOut out at (0x20 ∷ edgeText e) ⌝ }
     ensures { λ r. ⌜ Written out at (0x20 ∷ edgeText e) r ⌝ }
 {
     let next = writers::text::put_byte(out, at, b' ');
@@ -36,7 +36,7 @@ fn put_edge(out: &mut [u8], at: usize, e: Edge) -> usize
 
 // Writes a line of a support position and two children.
 pub fn put_inner(out: &mut [u8], at: usize, n: Index, p: u16, t: Edge, e: Edge) -> usize
-    requires { ⌜ Fits out at (textBytes n (inner p t e)) ⌝ }
+    requires { ⌜ FitsOut out at (textBytes n (inner p t e)) ⌝ }
     ensures { λ r. ⌜ Written out at (textBytes n (inner p t e)) r ⌝ }
 {
     let variable = writers::text::put_decimal(out, at, n as u64);

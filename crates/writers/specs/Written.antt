@@ -8,8 +8,8 @@ use denote.Ref.{RefT, now}
 use Rattle.codes.specs.Lent.{Part, old, new}
 
 -- there is room for the bytes w
-abbrev pub Fits : RefT (List ℕ) → ℕ → List ℕ → Type 0
-Fits out at w = at + length w ≤ length (now out)
+abbrev pub FitsOut : RefT (List ℕ) → ℕ → List ℕ → Type 0
+FitsOut out at w = at + length w ≤ length (now out)
 
 -- the bytes w stand in `after` from `at` on, and all else is as in `before`; `end` is the position after them
 pub record Wrote (before : List ℕ) (at : ℕ) (w : List ℕ) (end : ℕ) (after : List ℕ) : Type 0 where

@@ -2,11 +2,11 @@
 ghost use mathlib.Core.Path.{_≡_};
 ghost use Prim.Native.Nat.{_+_, _*_, _<_};
 ghost use Rattle.writers.specs.Binary.{escaped, escapedAll, groupsBy, sevenBit};
-ghost use Rattle.writers.specs.Written.{Fits, Written};
+ghost use Rattle.writers.specs.Written.{FitsOut, Written};
 
 // Writes a byte, escaped where it must be.
 pub fn write_escaped(out: &mut [u8], at: usize, b: u8) -> usize
-    requires { ⌜ Fits out at (escaped b) ⌝ }
+    requires { ⌜ FitsOut out at (escaped b) ⌝ }
     ensures { λ r. ⌜ Written out at (escaped b) r ⌝ }
 {
     let code = match b {
@@ -34,7 +34,7 @@ fn group(bits: u64, more: u8) -> u8
 
 // Writes a number in 7-bit groups, highest first: each but the last says that more follow, and the last says what `more` does.
 fn put_groups(out: &mut [u8], at: usize, more: u8, n: u64) -> usize
-    requires { ⌜ (more < 2) × Fits out at (escapedAll (groupsBy 9 more n)) ⌝ }
+    requires { ⌜ (more < 2) × FitsOut out at (escapedAll (groupsBy 9 more n)) ⌝ }
     ensures { λ r. ⌜ Written out at (escapedAll (groupsBy 9 more n)) r ⌝ }
 {
     if n < 128 {
@@ -46,7 +46,7 @@ fn put_groups(out: &mut [u8], at: usize, more: u8, n: u64) -> usize
 
 // Encodes a number in 7-bit groups and writes it, escaped.
 pub fn encode_7bit(out: &mut [u8], at: usize, n: u64) -> usize
-    requires { ⌜ Fits out at (sevenBit n) ⌝ }
+    requires { ⌜ FitsOut out at (sevenBit n) ⌝ }
     ensures { λ r. ⌜ Written out at (sevenBit n) r ⌝ }
 {
     put_groups(out, at, 0, n)

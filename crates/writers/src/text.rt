@@ -5,7 +5,7 @@ ghost use mathlib.Core.List.{[], _∷_};
 ghost use lib.ListN.{length};
 ghost use Rattle.codes.specs.Lent.{old};
 ghost use Rattle.writers.specs.Decimal.{decimal, edgeText};
-ghost use Rattle.writers.specs.Written.{Fits, Written};
+ghost use Rattle.writers.specs.Written.{FitsOut, Written};
 use edges::Edge;
 
 // Writes one byte.
@@ -19,7 +19,7 @@ pub fn put_byte(out: &mut [u8], at: usize, b: u8) -> usize
 
 // Writes bytes as they are.
 pub fn put_bytes(out: &mut [u8], at: usize, bytes: &[u8]) -> usize
-    requires { ⌜ Fits out at (now bytes) ⌝ }
+    requires { ⌜ FitsOut out at (now bytes) ⌝ }
     ensures { λ r. ⌜ Written out at (old bytes) r ⌝ }
 {
     let mut i: usize = 0;
@@ -40,7 +40,7 @@ fn digit(n: u64) -> u8
 
 // Writes a number in decimal digits.
 pub fn put_decimal(out: &mut [u8], at: usize, n: u64) -> usize
-    requires { ⌜ Fits out at (decimal n) ⌝ }
+    requires { ⌜ FitsOut out at (decimal n) ⌝ }
     ensures { λ r. ⌜ Written out at (decimal n) r ⌝ }
 {
     if n < 10 {
@@ -54,7 +54,7 @@ pub fn put_decimal(out: &mut [u8], at: usize, n: u64) -> usize
 
 // Writes an edge: a minus, where it has one, and its node's number.
 pub fn put_edge(out: &mut [u8], at: usize, e: Edge) -> usize
-    requires { ⌜ Fits out at (edgeText e) ⌝ }
+    requires { ⌜ FitsOut out at (edgeText e) ⌝ }
     ensures { λ r. ⌜ Written out at (edgeText e) r ⌝ }
 {
     let n = edges::magnitude(e) as u64;

@@ -14,71 +14,98 @@ use Rattle.dddmp.proofs.Loading.{parts-alike, before-is, ready-readable
 use Rattle.dddmp.proofs.load.Statement.{statement}
 use Rattle.dddmp.proofs.load.Tie as tie
 
--- the function's entry and its calls, seen from its return
-abbrev start : tie.After-slice-known32 → tie.Start
-start c = c .before .before .before .before .before .before .before .before .before .before .before .before .before .before .before .before .before .before .before .before .before .before .before .before .before .before .before .before .before .before .before .before .before .before .before .before .before .before .before .before .before .before .before .before .before .before .before .before .before .before .before .before .before .before .before .before .before .before .before .before .before .before .before .before .before .before .before .before .before .before .before .before .before .before .before .before .before .before .before .before .before .before .before .before .before .before .before .before .before .before .before .before .before .before .before .before .before .before .before
-
+-- places of the course, each a few steps back from a later one
 abbrev finished : tie.After-slice-known32 → tie.After-finish
-finished c = c .before .before .before .before .before .before .before .before .before .before .before .before .before .before .before .before
+finished p = p .before .before .before .before .before .before .before .before .before .before .before .before .before .before .before .before
 
 abbrev noded : tie.After-slice-known32 → tie.After-load-nodes
-noded c = c .before .before .before .before .before .before .before .before .before .before .before .before .before .before .before .before .before .before .before .before .before .before .before .before .before .before .before .before .before .before .before .before .before .before .before .before .before
+noded p =
+    finished p .before .before .before .before .before .before .before .before .before .before .before .before .before .before .before .before .before
+    .before .before .before .before
+
+abbrev readied-nodes : tie.After-load-nodes-arg9 → tie.After-check-list
+readied-nodes p = p .before .before .before .before .before .before .before .before .before
 
 abbrev readied : tie.After-slice-known32 → tie.After-check-list
-readied c = c .before .before .before .before .before .before .before .before .before .before .before .before .before .before .before .before .before .before .before .before .before .before .before .before .before .before .before .before .before .before .before .before .before .before .before .before .before .before .before .before .before .before .before .before .before .before .before
+readied p = readied-nodes (noded p .before)
+
+abbrev at-check-scratch : tie.After-check-list → tie.After-check-scratch
+at-check-scratch p = p .before
 
 abbrev roomed : tie.After-slice-known32 → tie.After-check-scratch
-roomed c = c .before .before .before .before .before .before .before .before .before .before .before .before .before .before .before .before .before .before .before .before .before .before .before .before .before .before .before .before .before .before .before .before .before .before .before .before .before .before .before .before .before .before .before .before .before .before .before .before
+roomed p = at-check-scratch (readied p)
+
+abbrev roomed-nodes : tie.After-load-nodes-arg9 → tie.After-check-scratch
+roomed-nodes p = at-check-scratch (readied-nodes p)
+
+abbrev at-load : tie.After-check-scratch → tie.After-load
+at-load p =
+    p .before .before .before .before .before .before .before .before .before .before .before .before .before .before .before .before .before .before
 
 abbrev headed : tie.After-slice-known32 → tie.After-load
-headed c = c .before .before .before .before .before .before .before .before .before .before .before .before .before .before .before .before .before .before .before .before .before .before .before .before .before .before .before .before .before .before .before .before .before .before .before .before .before .before .before .before .before .before .before .before .before .before .before .before .before .before .before .before .before .before .before .before .before .before .before .before .before .before .before .before .before .before
+headed p = at-load (roomed p)
+
+abbrev headed-nodes : tie.After-load-nodes-arg9 → tie.After-load
+headed-nodes p = at-load (roomed-nodes p)
+
+abbrev at-length-fault : tie.After-load-arg9 → tie.After-length-fault
+at-length-fault p = p .before .before .before .before .before .before .before .before .before
+
+abbrev measured-nodes : tie.After-load-nodes-arg9 → tie.After-length-fault
+measured-nodes p = at-length-fault (headed-nodes p .before)
 
 abbrev measured : tie.After-slice-known32 → tie.After-length-fault
-measured c = c .before .before .before .before .before .before .before .before .before .before .before .before .before .before .before .before .before .before .before .before .before .before .before .before .before .before .before .before .before .before .before .before .before .before .before .before .before .before .before .before .before .before .before .before .before .before .before .before .before .before .before .before .before .before .before .before .before .before .before .before .before .before .before .before .before .before .before .before .before .before .before .before .before .before .before .before
+measured p = measured-nodes (noded p .before)
+
+abbrev at-store-fault : tie.After-length-fault → tie.After-store-fault
+at-store-fault p = p .before
 
 abbrev judged : tie.After-slice-known32 → tie.After-store-fault
-judged c = c .before .before .before .before .before .before .before .before .before .before .before .before .before .before .before .before .before .before .before .before .before .before .before .before .before .before .before .before .before .before .before .before .before .before .before .before .before .before .before .before .before .before .before .before .before .before .before .before .before .before .before .before .before .before .before .before .before .before .before .before .before .before .before .before .before .before .before .before .before .before .before .before .before .before .before .before .before
+judged p = at-store-fault (measured p)
+
+abbrev judged-nodes : tie.After-load-nodes-arg9 → tie.After-store-fault
+judged-nodes p = at-store-fault (measured-nodes p)
+
+abbrev at-lists-fault : tie.After-store-fault → tie.After-lists-fault
+at-lists-fault p = p .before .before .before .before .before .before .before
 
 abbrev counted : tie.After-slice-known32 → tie.After-lists-fault
-counted c = c .before .before .before .before .before .before .before .before .before .before .before .before .before .before .before .before .before .before .before .before .before .before .before .before .before .before .before .before .before .before .before .before .before .before .before .before .before .before .before .before .before .before .before .before .before .before .before .before .before .before .before .before .before .before .before .before .before .before .before .before .before .before .before .before .before .before .before .before .before .before .before .before .before .before .before .before .before .before .before .before .before .before .before .before
+counted p = at-lists-fault (judged p)
+
+abbrev counted-nodes : tie.After-load-nodes-arg9 → tie.After-lists-fault
+counted-nodes p = at-lists-fault (judged-nodes p)
+
+abbrev at-start : tie.After-lists-fault → tie.Start
+at-start p = p .before .before .before .before .before .before .before .before .before .before .before .before .before .before .before
+
+-- the function's entry and its calls, seen from its return
+abbrev start : tie.After-slice-known32 → tie.Start
+start p = at-start (counted p)
 
 -- and seen from where the nodes are read
 abbrev start-nodes : tie.After-load-nodes-arg9 → tie.Start
-start-nodes c = c .before .before .before .before .before .before .before .before .before .before .before .before .before .before .before .before .before .before .before .before .before .before .before .before .before .before .before .before .before .before .before .before .before .before .before .before .before .before .before .before .before .before .before .before .before .before .before .before .before .before .before .before .before .before .before .before .before .before .before .before .before
-
-abbrev readied-nodes : tie.After-load-nodes-arg9 → tie.After-check-list
-readied-nodes c = c .before .before .before .before .before .before .before .before .before
-
-abbrev roomed-nodes : tie.After-load-nodes-arg9 → tie.After-check-scratch
-roomed-nodes c = c .before .before .before .before .before .before .before .before .before .before
-
-abbrev headed-nodes : tie.After-load-nodes-arg9 → tie.After-load
-headed-nodes c = c .before .before .before .before .before .before .before .before .before .before .before .before .before .before .before .before .before .before .before .before .before .before .before .before .before .before .before .before
-
-abbrev measured-nodes : tie.After-load-nodes-arg9 → tie.After-length-fault
-measured-nodes c = c .before .before .before .before .before .before .before .before .before .before .before .before .before .before .before .before .before .before .before .before .before .before .before .before .before .before .before .before .before .before .before .before .before .before .before .before .before .before
-
-abbrev judged-nodes : tie.After-load-nodes-arg9 → tie.After-store-fault
-judged-nodes c = c .before .before .before .before .before .before .before .before .before .before .before .before .before .before .before .before .before .before .before .before .before .before .before .before .before .before .before .before .before .before .before .before .before .before .before .before .before .before .before
-
-abbrev counted-nodes : tie.After-load-nodes-arg9 → tie.After-lists-fault
-counted-nodes c = c .before .before .before .before .before .before .before .before .before .before .before .before .before .before .before .before .before .before .before .before .before .before .before .before .before .before .before .before .before .before .before .before .before .before .before .before .before .before .before .before .before .before .before .before .before .before
+start-nodes p = at-start (counted-nodes p)
 
 -- what was lent
 abbrev given : tie.Start → Parts
-given s = parts (s .args .ids .now) (s .args .order .now) (s .args .permids .now) (s .args .auxids .now) (s .args .names .now) (s .args .lens .now) (s .args .roots .now) (s .args .rootnames .now) (s .args .rootlens .now) (s .args .edges .now) (s .args .seats .now)
+given s =
+    parts (s .args .ids .now) (s .args .order .now) (s .args .permids .now) (s .args .auxids .now) (s .args .names .now) (s .args .lens .now)
+    (s .args .roots .now) (s .args .rootnames .now) (s .args .rootlens .now) (s .args .edges .now) (s .args .seats .now)
 
 abbrev kept : tie.Start → Store
 kept s = store (s .args .levels) (s .args .count .now) (s .args .level .now) (s .args .then .now) (s .args .els .now) (s .args .next .now) (s .args .heads .now)
 
 -- what is found before the header
-found : (c : tie.After-slice-known32) → measured c .length-fault .result ≡ beforeHeader (loadInto (start c .args .f .now) (start c .args .list .now) (given (start c))) (kept (start c))
+found : (c : tie.After-slice-known32)
+    → measured c .length-fault .result ≡ beforeHeader (loadInto (start c .args .f .now) (start c .args .list .now) (given (start c))) (kept (start c))
 found c =
     before-is (start c .args .f .now) (start c .args .list .now) (given (start c)) (kept (start c))
     (counted c .lists-fault .result) (judged c .store-fault .result) (measured c .length-fault .result)
     (counted c .lists-fault .ensures) (judged c .store-fault .ensures) (measured c .length-fault .ensures)
 
-found-nodes : (c : tie.After-load-nodes-arg9) → measured-nodes c .length-fault .result ≡ beforeHeader (loadInto (start-nodes c .args .f .now) (start-nodes c .args .list .now) (given (start-nodes c))) (kept (start-nodes c))
+found-nodes : (c : tie.After-load-nodes-arg9)
+    → measured-nodes c .length-fault .result ≡ beforeHeader
+    (loadInto (start-nodes c .args .f .now) (start-nodes c .args .list .now) (given (start-nodes c))) (kept (start-nodes c))
 found-nodes c =
     before-is (start-nodes c .args .f .now) (start-nodes c .args .list .now) (given (start-nodes c)) (kept (start-nodes c))
     (counted-nodes c .lists-fault .result) (judged-nodes c .store-fault .result) (measured-nodes c .length-fault .result)
@@ -94,7 +121,7 @@ length-fault-requires : tie.Need-length-fault-requires
 length-fault-requires c κs = tt
 
 load-requires : tie.Need-load-requires
-load-requires c κs = length-may _ (c .before .before .before .before .before .before .before .before .before .before .before .before .before .before .before .before .before .before .before .before .before .before .before .before .before .before .before .before .before .before .before .before .args .f .now) (c .before .before .before .before .before .before .before .before .before .length-fault .ensures)
+load-requires c κs = length-may _ (at-start (at-lists-fault (at-length-fault c .before)) .args .f .now) (at-length-fault c .length-fault .ensures)
 
 check-scratch-requires : tie.Need-check-scratch-requires
 check-scratch-requires c κs = tt
@@ -161,31 +188,45 @@ same-length-16 : tie.Need-same-length-16
 same-length-16 c = noded c .load-nodes .kept .1 .1 .1 .1 .1 .1 .1 .1 .1 .1 .1 .1 .0
 
 -- the answer of the load, as the stages give it
-answered : (c : tie.After-slice-known32) → ofLoaded (noded c .load-nodes .result) ≡ loadOf (loadInto (start c .args .f .now) (start c .args .list .now) (given (start c))) (kept (start c)) .answer
+answered : (c : tie.After-slice-known32)
+    → ofLoaded (noded c .load-nodes .result) ≡ loadOf (loadInto (start c .args .f .now) (start c .args .list .now) (given (start c)))
+    (kept (start c)) .answer
 answered c =
     answer-left (start c .args .f .now) (start c .args .list .now) (given (start c)) (kept (start c))
     (measured c .length-fault .result) (found c)
     (ofLoaded (headed c .load .result)) (ofLoaded (roomed c .check-scratch .result)) (ofLoaded (readied c .check-list .result))
     (headed c .load .ensures .answer) (roomed c .check-scratch .ensures) (readied c .check-list .ensures)
-    (headed c .load .last .1 .1 .1 .1 .1 .1 .1 .1 .0) (headed c .load .ensures .roots-left) (ofLoaded (noded c .load-nodes .result)) (noded c .load-nodes .ensures .answer)
+    (headed c .load .last .1 .1 .1 .1 .1 .1 .1 .1 .0) (headed c .load .ensures .roots-left) (ofLoaded (noded c .load-nodes .result))
+    (noded c .load-nodes .ensures .answer)
 
 -- the store after it
-stored : (c : tie.After-slice-known32) → (store (start c .args .levels) (noded c .load-nodes .last .1 .1 .1 .1 .0) (noded c .load-nodes .last .1 .1 .1 .1 .1 .0) (noded c .load-nodes .last .1 .1 .1 .1 .1 .1 .0) (noded c .load-nodes .last .1 .1 .1 .1 .1 .1 .1 .0) (noded c .load-nodes .last .1 .1 .1 .1 .1 .1 .1 .1 .0) (noded c .load-nodes .last .1 .1 .1 .1 .1 .1 .1 .1 .1 .0)) ≡ loadOf (loadInto (start c .args .f .now) (start c .args .list .now) (given (start c))) (kept (start c)) .after
+stored : (c : tie.After-slice-known32)
+    → (store (start c .args .levels) (noded c .load-nodes .last .1 .1 .1 .1 .0) (noded c .load-nodes .last .1 .1 .1 .1 .1 .0)
+    (noded c .load-nodes .last .1 .1 .1 .1 .1 .1 .0) (noded c .load-nodes .last .1 .1 .1 .1 .1 .1 .1 .0)
+    (noded c .load-nodes .last .1 .1 .1 .1 .1 .1 .1 .1 .0) (noded c .load-nodes .last .1 .1 .1 .1 .1 .1 .1 .1 .1 .0)) ≡ loadOf
+    (loadInto (start c .args .f .now) (start c .args .list .now) (given (start c))) (kept (start c)) .after
 stored c =
     store-left (start c .args .f .now) (start c .args .list .now) (given (start c)) (kept (start c))
     (measured c .length-fault .result) (found c)
     (ofLoaded (headed c .load .result)) (ofLoaded (roomed c .check-scratch .result)) (ofLoaded (readied c .check-list .result))
     (headed c .load .ensures .answer) (roomed c .check-scratch .ensures) (readied c .check-list .ensures)
-    (headed c .load .last .1 .1 .1 .1 .1 .1 .1 .1 .0) (headed c .load .ensures .roots-left) (store (start c .args .levels) (noded c .load-nodes .last .1 .1 .1 .1 .0) (noded c .load-nodes .last .1 .1 .1 .1 .1 .0) (noded c .load-nodes .last .1 .1 .1 .1 .1 .1 .0) (noded c .load-nodes .last .1 .1 .1 .1 .1 .1 .1 .0) (noded c .load-nodes .last .1 .1 .1 .1 .1 .1 .1 .1 .0) (noded c .load-nodes .last .1 .1 .1 .1 .1 .1 .1 .1 .1 .0)) (noded c .load-nodes .ensures .store)
+    (headed c .load .last .1 .1 .1 .1 .1 .1 .1 .1 .0) (headed c .load .ensures .roots-left)
+    (store (start c .args .levels) (noded c .load-nodes .last .1 .1 .1 .1 .0) (noded c .load-nodes .last .1 .1 .1 .1 .1 .0)
+    (noded c .load-nodes .last .1 .1 .1 .1 .1 .1 .0) (noded c .load-nodes .last .1 .1 .1 .1 .1 .1 .1 .0)
+    (noded c .load-nodes .last .1 .1 .1 .1 .1 .1 .1 .1 .0) (noded c .load-nodes .last .1 .1 .1 .1 .1 .1 .1 .1 .1 .0))
+    (noded c .load-nodes .ensures .store)
 
 -- the roots
-rooted : (c : tie.After-slice-known32) → (noded c .load-nodes .last .1 .1 .1 .1 .1 .1 .1 .1 .1 .1 .0) ≡ loadOf (loadInto (start c .args .f .now) (start c .args .list .now) (given (start c))) (kept (start c)) .roots
+rooted : (c : tie.After-slice-known32)
+    → (noded c .load-nodes .last .1 .1 .1 .1 .1 .1 .1 .1 .1 .1 .0) ≡ loadOf
+    (loadInto (start c .args .f .now) (start c .args .list .now) (given (start c))) (kept (start c)) .roots
 rooted c =
     roots-left (start c .args .f .now) (start c .args .list .now) (given (start c)) (kept (start c))
     (measured c .length-fault .result) (found c)
     (ofLoaded (headed c .load .result)) (ofLoaded (roomed c .check-scratch .result)) (ofLoaded (readied c .check-list .result))
     (headed c .load .ensures .answer) (roomed c .check-scratch .ensures) (readied c .check-list .ensures)
-    (headed c .load .last .1 .1 .1 .1 .1 .1 .1 .1 .0) (headed c .load .ensures .roots-left) (noded c .load-nodes .last .1 .1 .1 .1 .1 .1 .1 .1 .1 .1 .0) (noded c .load-nodes .ensures .roots-left)
+    (headed c .load .last .1 .1 .1 .1 .1 .1 .1 .1 .0) (headed c .load .ensures .roots-left)
+    (noded c .load-nodes .last .1 .1 .1 .1 .1 .1 .1 .1 .1 .1 .0) (noded c .load-nodes .ensures .roots-left)
 
 returns : tie.Need-returns
 returns c = record {
@@ -195,32 +236,43 @@ returns c = record {
       parts-alike
       (list-left (start c .args .f .now) (start c .args .list .now) (given (start c)) (kept (start c))
       (measured c .length-fault .result) (found c) (ofLoaded (noded c .load-nodes .result)) (answered c)
-      (length (start c .args .ids .now)) (λ x. x .ids) refl (headed c .load .last .1 .1 .0) (headed c .load .ensures .ids-left) (finished c .finish .last .1 .0) (finished c .finish .ensures .ids-left))
+      (length (start c .args .ids .now)) (λ x. x .ids) refl (headed c .load .last .1 .1 .0) (headed c .load .ensures .ids-left)
+      (finished c .finish .last .1 .0) (finished c .finish .ensures .ids-left))
       (list-left (start c .args .f .now) (start c .args .list .now) (given (start c)) (kept (start c))
       (measured c .length-fault .result) (found c) (ofLoaded (noded c .load-nodes .result)) (answered c)
-      (length (start c .args .order .now)) (λ x. x .order) refl (headed c .load .last .1 .1 .1 .0) (headed c .load .ensures .order-left) (finished c .finish .last .1 .1 .0) (finished c .finish .ensures .order-left))
+      (length (start c .args .order .now)) (λ x. x .order) refl (headed c .load .last .1 .1 .1 .0) (headed c .load .ensures .order-left)
+      (finished c .finish .last .1 .1 .0) (finished c .finish .ensures .order-left))
       (list-left (start c .args .f .now) (start c .args .list .now) (given (start c)) (kept (start c))
       (measured c .length-fault .result) (found c) (ofLoaded (noded c .load-nodes .result)) (answered c)
-      (length (start c .args .permids .now)) (λ x. x .permids) refl (headed c .load .last .1 .1 .1 .1 .0) (headed c .load .ensures .permids-left) (finished c .finish .last .1 .1 .1 .0) (finished c .finish .ensures .permids-left))
+      (length (start c .args .permids .now)) (λ x. x .permids) refl (headed c .load .last .1 .1 .1 .1 .0) (headed c .load .ensures .permids-left)
+      (finished c .finish .last .1 .1 .1 .0) (finished c .finish .ensures .permids-left))
       (list-left (start c .args .f .now) (start c .args .list .now) (given (start c)) (kept (start c))
       (measured c .length-fault .result) (found c) (ofLoaded (noded c .load-nodes .result)) (answered c)
-      (length (start c .args .auxids .now)) (λ x. x .auxids) refl (headed c .load .last .1 .1 .1 .1 .1 .0) (headed c .load .ensures .auxids-left) (finished c .finish .last .1 .1 .1 .1 .0) (finished c .finish .ensures .auxids-left))
+      (length (start c .args .auxids .now)) (λ x. x .auxids) refl (headed c .load .last .1 .1 .1 .1 .1 .0) (headed c .load .ensures .auxids-left)
+      (finished c .finish .last .1 .1 .1 .1 .0) (finished c .finish .ensures .auxids-left))
       (list-left (start c .args .f .now) (start c .args .list .now) (given (start c)) (kept (start c))
       (measured c .length-fault .result) (found c) (ofLoaded (noded c .load-nodes .result)) (answered c)
-      (length (start c .args .names .now)) (λ x. map startOf (x .names)) refl (headed c .load .last .1 .1 .1 .1 .1 .1 .0) (headed c .load .ensures .names-left) (finished c .finish .last .1 .1 .1 .1 .1 .0) (finished c .finish .ensures .names-left))
+      (length (start c .args .names .now)) (λ x. map startOf (x .names)) refl (headed c .load .last .1 .1 .1 .1 .1 .1 .0)
+      (headed c .load .ensures .names-left) (finished c .finish .last .1 .1 .1 .1 .1 .0) (finished c .finish .ensures .names-left))
       (list-left (start c .args .f .now) (start c .args .list .now) (given (start c)) (kept (start c))
       (measured c .length-fault .result) (found c) (ofLoaded (noded c .load-nodes .result)) (answered c)
-      (length (start c .args .lens .now)) (λ x. map lenOf (x .names)) refl (headed c .load .last .1 .1 .1 .1 .1 .1 .1 .0) (headed c .load .ensures .lens-left) (finished c .finish .last .1 .1 .1 .1 .1 .1 .0) (finished c .finish .ensures .lens-left))
+      (length (start c .args .lens .now)) (λ x. map lenOf (x .names)) refl (headed c .load .last .1 .1 .1 .1 .1 .1 .1 .0)
+      (headed c .load .ensures .lens-left) (finished c .finish .last .1 .1 .1 .1 .1 .1 .0) (finished c .finish .ensures .lens-left))
       (rooted c)
       (list-left (start c .args .f .now) (start c .args .list .now) (given (start c)) (kept (start c))
       (measured c .length-fault .result) (found c) (ofLoaded (noded c .load-nodes .result)) (answered c)
-      (length (start c .args .rootnames .now)) (λ x. map startOf (x .rootnames)) refl (headed c .load .last .1 .1 .1 .1 .1 .1 .1 .1 .1 .0) (headed c .load .ensures .rootnames-left) (finished c .finish .last .1 .1 .1 .1 .1 .1 .1 .0) (finished c .finish .ensures .rootnames-left))
+      (length (start c .args .rootnames .now)) (λ x. map startOf (x .rootnames)) refl (headed c .load .last .1 .1 .1 .1 .1 .1 .1 .1 .1 .0)
+      (headed c .load .ensures .rootnames-left) (finished c .finish .last .1 .1 .1 .1 .1 .1 .1 .0) (finished c .finish .ensures .rootnames-left))
       (list-left (start c .args .f .now) (start c .args .list .now) (given (start c)) (kept (start c))
       (measured c .length-fault .result) (found c) (ofLoaded (noded c .load-nodes .result)) (answered c)
-      (length (start c .args .rootlens .now)) (λ x. map lenOf (x .rootnames)) refl (headed c .load .last .1 .1 .1 .1 .1 .1 .1 .1 .1 .1 .0) (headed c .load .ensures .rootlens-left) (finished c .finish .last .1 .1 .1 .1 .1 .1 .1 .1 .0) (finished c .finish .ensures .rootlens-left))
+      (length (start c .args .rootlens .now)) (λ x. map lenOf (x .rootnames)) refl (headed c .load .last .1 .1 .1 .1 .1 .1 .1 .1 .1 .1 .0)
+      (headed c .load .ensures .rootlens-left) (finished c .finish .last .1 .1 .1 .1 .1 .1 .1 .1 .0) (finished c .finish .ensures .rootlens-left))
       (noded c .load-nodes .ensures .edges-left)
       (noded c .load-nodes .ensures .seats-left);
 }
 
 pub load-spec : {M : Type 1} → statement M
-load-spec = tie.close (tie.spec lists-fault-requires store-fault-requires length-fault-requires load-requires check-scratch-requires check-list-requires load-nodes-requires finish-requires same-length same-length-2 same-length-3 same-length-4 same-length-5 same-length-6 same-length-7 same-length-8 same-length-9 same-length-10 same-length-11 same-length-12 same-length-13 same-length-14 same-length-15 same-length-16 returns)
+load-spec =
+    tie.close (tie.spec lists-fault-requires store-fault-requires length-fault-requires load-requires check-scratch-requires check-list-requires
+    load-nodes-requires finish-requires same-length same-length-2 same-length-3 same-length-4 same-length-5 same-length-6 same-length-7 same-length-8
+    same-length-9 same-length-10 same-length-11 same-length-12 same-length-13 same-length-14 same-length-15 same-length-16 returns)

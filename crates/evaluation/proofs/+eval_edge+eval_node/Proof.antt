@@ -52,6 +52,15 @@ edge-claims t = (magnitude-reads.Asked, magnitude-reads.Learnt, eval-node-below 
 abbrev node-claims : ℕ → eval-node-lts.Claims
 node-claims t = (descend-reads.Asked, descend-reads.Learnt, eval-edge-below t, eval-edge.Post)
 
+-- places of the course, each a few steps back from a later one
+abbrev eval-edge-at-start : {t : ℕ} → eval-edge-lts.After-is-minus (edge-claims t) (eval-edge-at t) eval-edge.Post
+    → eval-edge-lts.Start (edge-claims t) (eval-edge-at t) eval-edge.Post
+eval-edge-at-start p = p .before .before .before .before .before
+
+abbrev eval-node-at-start : {t : ℕ} → eval-node-lts.After-descend (node-claims t) (eval-node-at t) eval-node.Post
+    → eval-node-lts.Start (node-claims t) (eval-node-at t) eval-node.Post
+eval-node-at-start p = p .before .before .before .before
+
 eval-edge-magnitude-requires : (t : ℕ) → eval-edge-lts.Need-magnitude-requires (edge-claims t) (eval-edge-at t) eval-edge.Post
 eval-edge-magnitude-requires t c κs = search needs
 
@@ -61,8 +70,8 @@ magnitude-is : (t : ℕ) (c : eval-edge-lts.After-magnitude (edge-claims t) (eva
 magnitude-is t c = c .magnitude .ensures ∙ ap natAbs (walk-back (c .before .before .before .args .e) (c .before .before .before .pre .1))
 
 sign-is : (t : ℕ) (c : eval-edge-lts.After-is-minus (edge-claims t) (eval-edge-at t) eval-edge.Post)
-    → c .is-minus .result ≡ minus (c .before .before .before .before .before .args .e)
-sign-is t c = c .is-minus .ensures ∙ ap minus (walk-back (c .before .before .before .before .before .args .e) (c .before .before .before .before .before .pre .1))
+    → c .is-minus .result ≡ minus (eval-edge-at-start c .args .e)
+sign-is t c = c .is-minus .ensures ∙ ap minus (walk-back (eval-edge-at-start c .args .e) (eval-edge-at-start c .pre .1))
 
 eval-edge-eval-node-requires : (t : ℕ) → eval-edge-lts.Need-eval-node-requires (edge-claims t) (eval-edge-at t) eval-edge.Post
 eval-edge-eval-node-requires t c κs =
@@ -74,11 +83,13 @@ eval-edge-is-minus-requires t c κs = search needs
 
 eval-edge-returns : (t : ℕ) → eval-edge-lts.Need-returns (edge-claims t) (eval-edge-at t) eval-edge.Post
 eval-edge-returns t c =
-    edge-minus _ _ (c .before .before .before .before .before .before .args .e) _ _ (magnitude-is t (c .before .before .before)) (c .before .before .eval-node .ensures) (sym (sign-is t (c .before)) ∙ c .if1 .taken)
+    edge-minus _ _ (eval-edge-at-start (c .before) .args .e) _ _ (magnitude-is t (c .before .before .before)) (c .before .before .eval-node .ensures)
+    (sym (sign-is t (c .before)) ∙ c .if1 .taken)
 
 eval-edge-returns-2 : (t : ℕ) → eval-edge-lts.Need-returns-2 (edge-claims t) (eval-edge-at t) eval-edge.Post
 eval-edge-returns-2 t c =
-    edge-plain _ _ (c .before .before .before .before .before .before .args .e) _ _ (magnitude-is t (c .before .before .before)) (c .before .before .eval-node .ensures) (sym (sign-is t (c .before)) ∙ c .if1 .left)
+    edge-plain _ _ (eval-edge-at-start (c .before) .args .e) _ _ (magnitude-is t (c .before .before .before)) (c .before .before .eval-node .ensures)
+    (sym (sign-is t (c .before)) ∙ c .if1 .left)
 
 eval-node-returns : (t : ℕ) → eval-node-lts.Need-returns (node-claims t) (eval-node-at t) eval-node.Post
 eval-node-returns t c = sym (node-leaf _ _ (c .before .before .before .args .n) (c .if1 .taken))
@@ -88,13 +99,13 @@ eval-node-descend-requires t c κs = (c .if1 .left, c .before .before .before .p
 
 -- the edge that the stretch led to, as the call reads it
 leads : (t : ℕ) (c : eval-node-lts.After-descend (node-claims t) (eval-node-at t) eval-node.Post)
-    → let s = c .before .before .before .before .args in
+    → let s = eval-node-at-start c .args in
     LeadsDown (slots (s .level .now) (s .then .now) (s .els .now)) (settingOf (s .setting .now)) (s .n) (toZ w16 (ofZ w16 (c .descend .result)))
-leads t c = leads-back _ (c .before .before .before .before .pre .1 .small) (c .descend .ensures)
+leads t c = leads-back _ (eval-node-at-start c .pre .1 .small) (c .descend .ensures)
 
 eval-node-eval-edge-requires : (t : ℕ) → eval-node-lts.Need-eval-edge-requires (node-claims t) (eval-node-at t) eval-node.Post
 eval-node-eval-edge-requires t c κs =
-    let s = c .before .before .before .before in
+    let s = eval-node-at-start c in
     (omega (arith, s .pre .0, leads t c .lower), walks-lower (s .pre .1) _ (omega (arith, leads t c .lower)))
 
 eval-node-returns-2 : (t : ℕ) → eval-node-lts.Need-returns-2 (node-claims t) (eval-node-at t) eval-node.Post

@@ -6,6 +6,10 @@ use Rattle.evaluation.proofs.Walk.{fits, chosen-then, chosen-else}
 use Rattle.evaluation.proofs.child_at.Statement.{statement}
 use Rattle.evaluation.proofs.child_at.Tie as tie
 
+-- places of the course, each a few steps back from a later one
+abbrev at-start : tie.After-shared-slice-known2 → tie.Start
+at-start p = p .before .before
+
 sub-i : tie.Need-sub-i
 sub-i c = search needs
 
@@ -19,7 +23,7 @@ cast-l : tie.Need-cast-l
 cast-l c = omega (arith, c .shared-slice-known .given (c .before .args .n - 1))
 
 shared-slice-read-if1 : tie.Need-shared-slice-read-if1
-shared-slice-read-if1 c = fits (c .before .before .pre .1) (c .before .before .pre .0) .level-low
+shared-slice-read-if1 c = fits (at-start c .pre .1) (at-start c .pre .0) .level-low
 
 mul-result : tie.Need-mul-result
 mul-result c = search needs
@@ -34,10 +38,10 @@ shared-slice-copy-out-result-2 : tie.Need-shared-slice-copy-out-result-2
 shared-slice-copy-out-result-2 c = search needs
 
 returns : tie.Need-returns
-returns c = let s = c .before .before .before .before in chosen-then (s .pre .1) (s .pre .0) (c .before .if1 .taken)
+returns c = let s = at-start (c .before .before) in chosen-then (s .pre .1) (s .pre .0) (c .before .if1 .taken)
 
 returns-2 : tie.Need-returns-2
-returns-2 c = let s = c .before .before .before .before in chosen-else (s .pre .1) (s .pre .0) (c .before .if1 .left)
+returns-2 c = let s = at-start (c .before .before) in chosen-else (s .pre .1) (s .pre .0) (c .before .if1 .left)
 
 pub child-at-spec : {M : Type 1} → statement M
 child-at-spec =

@@ -20,35 +20,44 @@ Inv-loop level then els setting n at₀ odd₀ k₀ at odd k =
 abbrev μ-loop : tie.MeasureT-loop
 μ-loop level then els setting n at₀ odd₀ k₀ at odd k = 64 - k
 
+-- places of the course, each a few steps back from a later one
+abbrev at-loop : tie.After-child-at Inv-loop μ-loop → tie.At-loop Inv-loop μ-loop
+at-loop p = p .before .before .before
+
+abbrev at-start : tie.At-loop Inv-loop μ-loop → tie.Start Inv-loop μ-loop
+at-start p = p .before .before .before
+
 loop-holds : tie.Need-loop-holds Inv-loop μ-loop
 loop-holds c = passed-none (omega arith)
 
 signed-requires : tie.Need-signed-requires Inv-loop μ-loop
-signed-requires c κs = omega (arith, c .before .before .before .before .before .pre .1 .small)
+signed-requires c κs = omega (arith, at-start (c .before .before) .pre .1 .small)
 
 returns : tie.Need-returns Inv-loop μ-loop
 returns c =
-    let s = c .before .before .before .before .before .before in
+    let s = at-start (c .before .before .before) in
     let l = c .before .before .before .loop in
     leads-back _ (s .pre .1 .small) (passed-leads (l .inv) _ (omega (arith, s .pre .0)) (c .signed .ensures))
 
 child-at-requires : tie.Need-child-at-requires Inv-loop μ-loop
 child-at-requires c κs =
-    (c .if1 .left, walks-lower (c .before .before .before .before .before .pre .1) (c .before .before .loop .at) (omega arith))
+    (c .if1 .left, walks-lower (at-start (c .before .before) .pre .1) (c .before .before .loop .at) (omega arith))
 
 -- the child that the walk goes on from
 leads : (c : tie.After-child-at Inv-loop μ-loop)
-    → let s = c .before .before .before .before .before .before .args in
-    LeadsDown (slots (s .level .now) (s .then .now) (s .els .now)) (settingOf (s .setting .now)) (c .before .before .before .loop .at) (toZ w16 (ofZ w16 (c .child-at .result)))
+    → let s = at-start (at-loop c) .args in
+    LeadsDown (slots (s .level .now) (s .then .now) (s .els .now)) (settingOf (s .setting .now)) (at-loop c .loop .at)
+    (toZ w16 (ofZ w16 (c .child-at .result)))
 leads c =
-    let s = c .before .before .before .before .before .before in
-    child-leads (walks-lower (s .pre .1) (c .before .before .before .loop .at) (omega (arith, c .before .before .before .loop .inv .lower))) (c .before .if1 .left) _ _ (c .child-at .ensures)
+    let s = at-start (at-loop c) in
+    child-leads (walks-lower (s .pre .1) (at-loop c .loop .at) (omega (arith, at-loop c .loop .inv .lower))) (c .before .if1 .left) _ _
+    (c .child-at .ensures)
 
 is-minus-requires : tie.Need-is-minus-requires Inv-loop μ-loop
 is-minus-requires c κs = search needs
 
 node-of-requires : tie.Need-node-of-requires Inv-loop μ-loop
-node-of-requires c κs = omega (arith, leads (c .before) .lower, c .before .before .before .before .loop .inv .lower, c .before .before .before .before .before .before .before .pre .1 .small)
+node-of-requires c κs = omega (arith, leads (c .before) .lower, at-loop (c .before) .loop .inv .lower, at-start (at-loop (c .before)) .pre .1 .small)
 
 add-k : tie.Need-add-k Inv-loop μ-loop
 add-k c = omega arith
@@ -58,15 +67,15 @@ loop-less c = omega arith
 
 loop-again : tie.Need-loop-again Inv-loop μ-loop
 loop-again c =
-    let l = c .before .before .before .before .before .loop in
+    let l = at-loop (c .before .before) .loop in
     passed-more (l .inv) _ _ _ (leads (c .before .before)) (c .before .is-minus .ensures) (c .node-of .ensures)
 
 signed-requires-2 : tie.Need-signed-requires-2 Inv-loop μ-loop
-signed-requires-2 c κs = omega (arith, c .before .before .before .before .pre .1 .small)
+signed-requires-2 c κs = omega (arith, at-start (c .before) .pre .1 .small)
 
 returns-2 : tie.Need-returns-2 Inv-loop μ-loop
 returns-2 c =
-    let s = c .before .before .before .before .before in
+    let s = at-start (c .before .before) in
     let l = c .before .before .loop in
     leads-back _ (s .pre .1 .small) (passed-leads (l .inv) _ (omega (arith, l .inv .lower)) (c .signed2 .ensures))
 

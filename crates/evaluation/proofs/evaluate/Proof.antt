@@ -5,17 +5,31 @@ use Rattle.evaluation.proofs.Evaluating.{not-kept, not-root, not-settin
 use Rattle.evaluation.proofs.evaluate.Statement.{statement}
 use Rattle.evaluation.proofs.evaluate.Tie as tie
 
+-- places of the course, each a few steps back from a later one
+abbrev at-is-setting : tie.After-eval-edge → tie.After-is-setting
+at-is-setting p = p .before .before
+
+abbrev at-else1 : tie.After-is-setting → tie.Else1
+at-else1 p = p .before .before .before
+
+abbrev at-start : tie.After-keeps-rules → tie.Start
+at-start p = p .before .before .before .before .before
+
 keeps-rules-requires : tie.Need-keeps-rules-requires
 keeps-rules-requires c κs = search needs
 
 returns : tie.Need-returns
-returns c = record { answer = not-kept _ _ _ (c .before .before .before .before .before .before .fits .root) (c .before .keeps-rules .ensures) (c .if1 .taken) }
+returns c = record { answer = not-kept _ _ _ (at-start (c .before) .fits .root) (c .before .keeps-rules .ensures) (c .if1 .taken) }
 
 is-root-requires : tie.Need-is-root-requires
 is-root-requires c κs = search needs
 
 returns-2 : tie.Need-returns-2
-returns-2 c = record { answer = not-root _ _ _ (c .before .before .before .before .before .before .before .before .fits .root) (c .before .before .before .keeps-rules .ensures) (c .before .before .if1 .left) (c .before .is-root .ensures) (c .if2 .taken) }
+returns-2 c =
+    record {
+      answer = not-root _ _ _ (at-start (c .before .before .before) .fits .root) (c .before .before .before .keeps-rules .ensures)
+          (c .before .before .if1 .left) (c .before .is-root .ensures) (c .if2 .taken);
+    }
 
 is-setting-requires : tie.Need-is-setting-requires
 is-setting-requires c κs = search needs
@@ -27,9 +41,9 @@ returns-3 c = record {
       _
       _
       _
-      (c .before .before .before .before .before .before .before .before .before .before .fits .root)
-      (c .before .before .before .before .before .keeps-rules .ensures)
-      (c .before .before .before .before .if1 .left)
+      (at-start (at-else1 (c .before) .before) .fits .root)
+      (at-else1 (c .before) .before .keeps-rules .ensures)
+      (at-else1 (c .before) .if1 .left)
       (c .before .before .before .is-root .ensures)
       (c .before .before .if2 .left)
       (c .before .is-setting .ensures)
@@ -42,9 +56,9 @@ eval-edge-requires c κs =
     _
     _
     _
-    (c .before .before .before .before .before .before .before .before .before .before .fits .root)
-    (c .before .before .before .before .before .keeps-rules .ensures)
-    (c .before .before .before .before .if1 .left)
+    (at-start (at-else1 (c .before) .before) .fits .root)
+    (at-else1 (c .before) .before .keeps-rules .ensures)
+    (at-else1 (c .before) .if1 .left)
     (c .before .before .before .is-root .ensures)
     (c .before .before .if2 .left)
     (c .before .is-setting .ensures)
@@ -57,12 +71,12 @@ returns-4 c = record {
       _
       _
       _
-      (c .before .before .before .before .before .before .before .before .before .before .before .fits .root)
-      (c .before .before .before .before .before .before .keeps-rules .ensures)
-      (c .before .before .before .before .before .if1 .left)
-      (c .before .before .before .before .is-root .ensures)
-      (c .before .before .before .if2 .left)
-      (c .before .before .is-setting .ensures)
+      (at-start (at-else1 (at-is-setting c) .before) .fits .root)
+      (at-else1 (at-is-setting c) .before .keeps-rules .ensures)
+      (at-else1 (at-is-setting c) .if1 .left)
+      (at-is-setting c .before .before .is-root .ensures)
+      (at-is-setting c .before .if2 .left)
+      (at-is-setting c .is-setting .ensures)
       (c .before .if3 .left)
       (c .eval-edge .result)
       (c .eval-edge .ensures);

@@ -39,6 +39,13 @@ third d = d .before .before .before .before .before
 abbrev origin : tie.Else4 → tie.Start
 origin d = start (first (second (third d)))
 
+-- places of the course, each a few steps back from a later one
+abbrev at-else4 : tie.After-names-fit → tie.Else4
+at-else4 p = p .before
+
+abbrev at-else3 : tie.Then4 → tie.Else3
+at-else3 p = p .before .before .before .before .before
+
 -- what each test shows where it holds, and the last where it fails
 long : (d : tie.Else1)
     → longEnough (σ (start d)) (start d .args .roots .now) (names (start d)) (start d .args .slots) (start d .args .numbers) (start d .args .out) ≡ true
@@ -95,8 +102,8 @@ same-length c = c .before .before .before .is-order .kept .1 .1 .0
 
 returns-4 : tie.Need-returns-4
 returns-4 c = record {
-  answer = refused-order _ _ _ _ _ _ _ (long (first (second (c .before .before .before .before .before)))) (kept (second (c .before .before .before .before .before)))
-      (rooted (c .before .before .before .before .before))
+  answer = refused-order _ _ _ _ _ _ _ (long (first (second (at-else3 c)))) (kept (second (at-else3 c)))
+      (rooted (at-else3 c))
       (failed (c .before .before .before .is-order .ensures .0) (c .if4 .taken));
   vars-left = tt;
 }
@@ -105,7 +112,7 @@ names-fit-requires : tie.Need-names-fit-requires
 names-fit-requires c κs = search needs
 
 same-length-2 : tie.Need-same-length-2
-same-length-2 c = c .before .before .before .before .before .is-order .kept .1 .1 .0
+same-length-2 c = at-else4 (c .before) .before .before .before .is-order .kept .1 .1 .0
 
 returns-5 : tie.Need-returns-5
 returns-5 c = record {
@@ -115,14 +122,14 @@ returns-5 c = record {
 }
 
 same-length-3 : tie.Need-same-length-3
-same-length-3 c = c .before .before .before .before .before .is-order .kept .1 .1 .0
+same-length-3 c = at-else4 (c .before) .before .before .before .is-order .kept .1 .1 .0
 
 returns-6 : tie.Need-returns-6
 returns-6 c = record {
   answer = refused-none _ _ _ _ _ _ _ (long (first (second (third (c .before .before))))) (kept (second (third (c .before .before))))
       (rooted (third (c .before .before))) (ordered (c .before .before)) (named c);
-  vars-left = seats-there (c .before .before .before .before .before .is-order .result) _ _ (c .before .before .if4 .left)
-      (c .before .before .before .before .before .is-order .ensures .1);
+  vars-left = seats-there (at-else4 (c .before) .before .before .before .is-order .result) _ _ (c .before .before .if4 .left)
+      (at-else4 (c .before) .before .before .before .is-order .ensures .1);
 }
 
 pub export-fault-spec : {M : Type 1} → statement M

@@ -5,6 +5,10 @@ use Rattle.export_faults.proofs.Tests.{held, failed, first-fails, secon
 use Rattle.export_faults.proofs.names_fit.Statement.{statement}
 use Rattle.export_faults.proofs.names_fit.Tie as tie
 
+-- places of the course, each a few steps back from a later one
+abbrev at-list-fits : tie.After-diagram-fits → tie.After-list-fits
+at-list-fits p = p .before .before .before .before
+
 list-fits-requires : tie.Need-list-fits-requires
 list-fits-requires c κs = search needs
 
@@ -27,7 +31,7 @@ returns-3 : tie.Need-returns-3
 returns-3 c =
     c .diagram-fits .ensures
     ∙ last-decides _ _ _
-    (held (c .before .before .before .before .list-fits .ensures) (c .before .before .before .if1 .left))
+    (held (at-list-fits c .list-fits .ensures) (c .before .before .before .if1 .left))
     (held (c .before .before .list-fits2 .ensures) (c .before .if2 .left))
 
 pub names-fit-spec : {M : Type 1} → statement M

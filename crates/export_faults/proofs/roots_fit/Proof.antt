@@ -14,6 +14,10 @@ Inv-loop count roots i₀ i = RootsFrom count roots i
 abbrev μ-loop : tie.MeasureT-loop
 μ-loop count roots i₀ i = length roots - i
 
+-- places of the course, each a few steps back from a later one
+abbrev at-loop : tie.After-is-root Inv-loop μ-loop → tie.At-loop Inv-loop μ-loop
+at-loop p = p .before .before .before
+
 returns : tie.Need-returns Inv-loop μ-loop
 returns c = roots-many _ _ (omega arith)
 
@@ -32,7 +36,7 @@ is-root-requires c κs = search needs
 returns-2 : tie.Need-returns-2 Inv-loop μ-loop
 returns-2 c =
     roots-unfit _ _ _
-    (c .before .before .before .before .loop .inv)
+    (at-loop (c .before) .loop .inv)
     (c .before .before .before .loop-test .taken)
     (record { sfits = c .before .before .is-root-arg .given })
     (c .before .is-root .ensures)
@@ -47,7 +51,7 @@ loop-less c = search needs
 loop-again : tie.Need-loop-again Inv-loop μ-loop
 loop-again c =
     roots-more _ _ _
-    (c .before .before .before .before .loop .inv)
+    (at-loop (c .before) .loop .inv)
     (c .before .before .before .loop-test .taken)
     (record { sfits = c .before .before .is-root-arg .given })
     (c .before .is-root .ensures)

@@ -25,6 +25,50 @@ use Rattle.exported.proofs.FileParts.{head-room, body-room, end-room, file-writ
 use Rattle.export_file.proofs.write_file.Statement.{statement}
 use Rattle.export_file.proofs.write_file.Tie as tie
 
+-- places of the course, each a few steps back from a later one
+abbrev at-out2 : tie.After-put-bytes → tie.After-out2
+at-out2 p = p .before .before .before .before
+
+abbrev at-write-nodes : tie.After-out2 → tie.After-write-nodes
+at-write-nodes p = p .before
+
+abbrev bodied : tie.After-put-bytes → tie.After-write-nodes
+bodied p = at-write-nodes (at-out2 p)
+
+abbrev at-write-header : tie.After-seats4 → tie.After-write-header
+at-write-header p = p .before .before .before .before .before
+
+abbrev headed : tie.After-write-nodes → tie.After-write-header
+headed p = at-write-header (p .before .before)
+
+abbrev at-seat-levels : tie.After-seats3 → tie.After-seat-levels
+at-seat-levels p = p .before .before .before
+
+abbrev seated : tie.After-write-header → tie.After-seat-levels
+seated p = at-seat-levels (p .before .before)
+
+abbrev at-numbers : tie.After-seats → tie.After-numbers
+at-numbers p = p .before .before .before
+
+abbrev at-number-nodes : tie.After-numbers → tie.After-number-nodes
+at-number-nodes p = p .before .before .before
+
+abbrev numbered : tie.After-seat-levels → tie.After-number-nodes
+numbered p = at-number-nodes (at-numbers (p .before))
+
+abbrev number-nodes-before-put-bytes : tie.After-put-bytes → tie.After-number-nodes
+number-nodes-before-put-bytes p = numbered (seated (headed (bodied p)))
+
+abbrev at-start : tie.After-number-nodes-arg2 → tie.Start
+at-start p = p .before .before .before .before .before .before .before .before .before .before .before .before .before .before .before
+
+-- the way back, from after a call to after the one before it, and to the start
+abbrev start : tie.After-number-nodes → tie.Start
+start p = at-start (p .before)
+
+abbrev origin : tie.After-seat-levels → tie.Start
+origin p = start (numbered p)
+
 -- the store, the names and the settings of a call
 abbrev σ : tie.Start → Store
 σ s =
@@ -49,25 +93,6 @@ taken : (s : tie.Start)
     → Accepted (σ s) (s .args .roots .now) (s .args .order .now) (names s) (length (s .args .slots .now)) (length (s .args .numbers .now))
     (length (s .args .out .now))
 taken s = accepted _ _ _ _ _ _ _ (s .pre .taken)
-
--- the way back, from after a call to after the one before it, and to the start
-abbrev start : tie.After-number-nodes → tie.Start
-start d = d .before .before .before .before .before .before .before .before .before .before .before .before .before .before .before .before
-
-abbrev numbered : tie.After-seat-levels → tie.After-number-nodes
-numbered d = d .before .before .before .before .before .before .before
-
-abbrev seated : tie.After-write-header → tie.After-seat-levels
-seated d = d .before .before .before .before .before
-
-abbrev headed : tie.After-write-nodes → tie.After-write-header
-headed d = d .before .before .before .before .before .before .before
-
-abbrev bodied : tie.After-put-bytes → tie.After-write-nodes
-bodied d = d .before .before .before .before .before
-
-abbrev origin : tie.After-seat-levels → tie.Start
-origin d = start (numbered d)
 
 -- the lists of nodes and of numbers, once the nodes are numbered, and of seats, once the levels are seated
 abbrev nodes : tie.After-number-nodes → List ℕ
@@ -123,18 +148,18 @@ file-is e =
 
 number-nodes-requires : tie.Need-number-nodes-requires
 number-nodes-requires c κs = (
-  bare-walkable (taken (c .before .before .before .before .before .before .before .before .before .before .before .before .before .before .before)),
+  bare-walkable (taken (at-start c)),
   (
-    c .before .before .before .before .before .before .before .before .before .before .before .before .before .before .before .pre .slots-clear,
-    c .before .before .before .before .before .before .before .before .before .before .before .before .before .before .before .pre .numbers-clear,
+    at-start c .pre .slots-clear,
+    at-start c .pre .numbers-clear,
   ),
 )
 
 slice-reshare-prefix-seat-levels : tie.Need-slice-reshare-prefix-seat-levels
-slice-reshare-prefix-seat-levels c = front (c .before .before .before .before)
+slice-reshare-prefix-seat-levels c = front (at-number-nodes (c .before))
 
 slice-aggregate-seat-levels : tie.Need-slice-aggregate-seat-levels
-slice-aggregate-seat-levels c = sym (length-take-le _ _ (front (c .before .before .before .before .before)))
+slice-aggregate-seat-levels c = sym (length-take-le _ _ (front (at-number-nodes (c .before .before))))
 
 slice-aggregate-seat-levels-2 : tie.Need-slice-aggregate-seat-levels-2
 slice-aggregate-seat-levels-2 c = refl
@@ -142,25 +167,27 @@ slice-aggregate-seat-levels-2 c = refl
 seat-levels-requires : tie.Need-seat-levels-requires
 seat-levels-requires c κs = (
   (
-    nodes-placed (taken (start (c .before .before .before .before .before .before)))
-        (c .before .before .before .before .before .before .number-nodes .ensures .many)
-        (c .before .before .before .before .before .before .number-nodes .ensures .lies),
-    taken (start (c .before .before .before .before .before .before)) .rules .sizes .levels-limit,
+    nodes-placed (taken (start (at-number-nodes (at-numbers c))))
+        (at-number-nodes (at-numbers c) .number-nodes .ensures .many)
+        (at-number-nodes (at-numbers c) .number-nodes .ensures .lies),
+    taken (start (at-number-nodes (at-numbers c))) .rules .sizes .levels-limit,
   ),
   refl,
 )
 
 slice-aggregate-write-header : tie.Need-slice-aggregate-write-header
-slice-aggregate-write-header c = sym (c .before .before .before .seat-levels .kept .1 .1 .1 .0)
+slice-aggregate-write-header c = sym (at-seat-levels c .seat-levels .kept .1 .1 .1 .0)
 
 write-header-requires : tie.Need-write-header-requires
 write-header-requires c κs =
-    let d = c .before .before .before .before in
+    let d = at-seat-levels (c .before) in
     record {
-      ordered = ordered (taken (origin d)) (origin d .args .vars .now) (seats d) (origin d .pre .vars-long) (origin d .pre .seats) (tables d .seats-long);
+      ordered = ordered (taken (origin d)) (origin d .args .vars .now) (seats d) (origin d .pre .vars-long) (origin d .pre .seats)
+          (tables d .seats-long);
       rooted = rooted (taken (origin d)) (tables d);
       names = taken (origin d) .names;
-      counted = seats-count (taken (origin d)) (numbered d .number-nodes .ensures .many) (numbered d .number-nodes .ensures .lies) (tables d) (d .seat-levels .ensures .0);
+      counted = seats-count (taken (origin d)) (numbered d .number-nodes .ensures .many) (numbered d .number-nodes .ensures .lies) (tables d)
+          (d .seat-levels .ensures .0);
       room = head-room (chosen (origin d)) (taken (origin d)) (exported (taken (origin d))) (header-is d);
     }
 
@@ -171,11 +198,11 @@ slice-aggregate-write-nodes : tie.Need-slice-aggregate-write-nodes
 slice-aggregate-write-nodes c = sym (length-take-le _ _ (front (numbered (seated (c .before .before .before)))))
 
 slice-aggregate-write-nodes-2 : tie.Need-slice-aggregate-write-nodes-2
-slice-aggregate-write-nodes-2 c = sym (seated (c .before .before .before .before .before) .seat-levels .kept .1 .1 .1 .0)
+slice-aggregate-write-nodes-2 c = sym (seated (at-write-header c) .seat-levels .kept .1 .1 .1 .0)
 
 write-nodes-requires : tie.Need-write-nodes-requires
 write-nodes-requires c κs =
-    let h = c .before .before .before .before .before .before in
+    let h = at-write-header (c .before) in
     let d = seated h in (
       lined (taken (origin d)) (numbered d .number-nodes .ensures .many) (numbered d .number-nodes .ensures .lies) (tables d),
       body-room (chosen (origin d)) (taken (origin d)) (exported (taken (origin d))) (header-is d) (lines-are d) (h .write-header .ensures .next)
@@ -187,19 +214,19 @@ slice-aggregate-put-bytes c = refl
 
 put-bytes-requires : tie.Need-put-bytes-requires
 put-bytes-requires c κs =
-    let w = c .before .before .before .before in
+    let w = at-write-nodes (c .before .before .before) in
     let d = seated (headed w) in
     end-room (chosen (origin d)) (taken (origin d)) (exported (taken (origin d))) (header-is d) (lines-are d) (headed w .write-header .ensures .next)
     (w .write-nodes .ensures .next) (out-kept w)
 
 same-length : tie.Need-same-length
-same-length c = numbered (seated (headed (c .before .before .before .before .before .before .before))) .number-nodes .kept .1 .1 .1 .1 .1 .1 .0
+same-length c = number-nodes-before-put-bytes (c .before .before) .number-nodes .kept .1 .1 .1 .1 .1 .1 .0
 
 same-length-2 : tie.Need-same-length-2
-same-length-2 c = numbered (seated (headed (c .before .before .before .before .before .before .before))) .number-nodes .kept .1 .1 .1 .1 .1 .1 .1 .0
+same-length-2 c = number-nodes-before-put-bytes (c .before .before) .number-nodes .kept .1 .1 .1 .1 .1 .1 .1 .0
 
 same-length-3 : tie.Need-same-length-3
-same-length-3 c = c .before .before .put-bytes .kept .0 ∙ out-kept (c .before .before .before .before .before .before .before)
+same-length-3 c = c .before .before .put-bytes .kept .0 ∙ out-kept (bodied (c .before .before))
 
 returns : tie.Need-returns
 returns c = let p = file-is (c .before .before) in record { answer = p .0; out-left = p .1 }

@@ -16,6 +16,16 @@ use Rattle.heading.proofs.Parts.{unless-none, diagramParts, diagram-parts}
 use Rattle.export_header.proofs.write_diagram.Statement.{statement}
 use Rattle.export_header.proofs.write_diagram.Tie as tie
 
+-- places of the course, each a few steps back from a later one
+abbrev at-put-place : tie.After-slice-known4 → tie.After-put-place
+at-put-place p = p .before .before .before .before .before .before
+
+abbrev at-put-bytes : tie.After-put-place → tie.After-put-bytes
+at-put-bytes p = p .before .before .before .before
+
+abbrev at-start : tie.After-put-bytes → tie.Start
+at-start p = p .before .before .before .before .before .before
+
 abbrev name : tie.Start → List ℕ
 name s = nameAt (s .args .bytes .now) (place (s .args .start) (s .args .len))
 
@@ -39,11 +49,11 @@ left-0 c =
     let s = c .before .before .before in
     writing-start (s .args .out .now) (s .args .at) (diagram-parts (name s) (omega (arith, name-length s, c .if1 .left))) (s .pre .room)
 
-left-1 : (c : tie.After-put-bytes) → Left (c .before .before .before .before .before .before) (c .put-bytes .last .0) (c .put-bytes .result) 1
+left-1 : (c : tie.After-put-bytes) → Left (at-start c) (c .put-bytes .last .0) (c .put-bytes .result) 1
 left-1 c = writing-more (left-0 (c .before .before .before)) (c .put-bytes .ensures)
 
-left-2 : (c : tie.After-put-place) → Left (c .before .before .before .before .before .before .before .before .before .before) (c .put-place .last .0) (c .put-place .result) 2
-left-2 c = writing-more (left-1 (c .before .before .before .before)) (c .put-place .ensures)
+left-2 : (c : tie.After-put-place) → Left (at-start (at-put-bytes c)) (c .put-place .last .0) (c .put-place .result) 2
+left-2 c = writing-more (left-1 (at-put-bytes c)) (c .put-place .ensures)
 
 slice-aggregate-put-bytes : tie.Need-slice-aggregate-put-bytes
 slice-aggregate-put-bytes c = search needs
@@ -52,7 +62,7 @@ put-bytes-requires : tie.Need-put-bytes-requires
 put-bytes-requires c κs = writing-room (left-0 (c .before .before))
 
 put-place-requires : tie.Need-put-place-requires
-put-place-requires c κs = (c .before .before .before .before .before .before .before .before .before .pre .inside, writing-room (left-1 (c .before .before .before)))
+put-place-requires c κs = (at-start (c .before .before .before) .pre .inside, writing-room (left-1 (c .before .before .before)))
 
 put-byte-requires : tie.Need-put-byte-requires
 put-byte-requires c κs = omega (arith, writing-room (left-2 (c .before .before .before)))
@@ -61,7 +71,7 @@ same-length : tie.Need-same-length
 same-length c = search needs
 
 returns-2 : tie.Need-returns-2
-returns-2 c = writing-end (writing-more (left-2 (c .before .before .before .before .before .before)) (c .before .before .put-byte .ensures))
+returns-2 c = writing-end (writing-more (left-2 (at-put-place c)) (c .before .before .put-byte .ensures))
 
 pub write-diagram-spec : {M : Type 1} → statement M
 write-diagram-spec =

@@ -4,6 +4,13 @@ use Rattle.writers.specs.Words.{spaced}
 use Rattle.export_header.proofs.write_mode.Statement.{statement}
 use Rattle.export_header.proofs.write_mode.Tie as tie
 
+-- places of the course, each a few steps back from a later one
+abbrev at-else1 : tie.After-slice-known3 → tie.Else1
+at-else1 p = p .before .before .before .before .before
+
+abbrev at-then1 : tie.After-slice-known2 → tie.Then1
+at-then1 p = p .before .before .before .before .before
+
 slice-aggregate-put-bytes : tie.Need-slice-aggregate-put-bytes
 slice-aggregate-put-bytes c = search needs
 
@@ -16,7 +23,7 @@ same-length c = search needs
 
 returns : tie.Need-returns
 unfolding spaced
-returns c = rw (c .before .before .before .before .before .if1 .taken) (c .before .before .put-bytes .ensures)
+returns c = rw (at-then1 c .if1 .taken) (c .before .before .put-bytes .ensures)
 
 slice-aggregate-put-bytes-2 : tie.Need-slice-aggregate-put-bytes-2
 slice-aggregate-put-bytes-2 c = search needs
@@ -30,7 +37,7 @@ same-length-2 c = search needs
 
 returns-2 : tie.Need-returns-2
 unfolding spaced
-returns-2 c = rw (c .before .before .before .before .before .if1 .left) (c .before .before .put-bytes2 .ensures)
+returns-2 c = rw (at-else1 c .if1 .left) (c .before .before .put-bytes2 .ensures)
 
 pub write-mode-spec : {M : Type 1} → statement M
 write-mode-spec =

@@ -4,6 +4,13 @@ use Rattle.writers.specs.Words.{spaced}
 use Rattle.export_header.proofs.write_version.Statement.{statement}
 use Rattle.export_header.proofs.write_version.Tie as tie
 
+-- places of the course, each a few steps back from a later one
+abbrev at-put-bytes2 : tie.After-slice-known3 → tie.After-put-bytes2
+at-put-bytes2 p = p .before .before
+
+abbrev at-put-bytes : tie.After-slice-known2 → tie.After-put-bytes
+at-put-bytes p = p .before .before
+
 enum-told : tie.Need-enum-told
 enum-told c = search needs
 
@@ -29,14 +36,14 @@ same-length c = search needs
 
 returns : tie.Need-returns
 unfolding spaced
-returns c = rw (c .before .before .before .before .before .enum-told .given .1) (c .before .before .put-bytes .ensures)
+returns c = rw (at-put-bytes c .before .before .before .enum-told .given .1) (at-put-bytes c .put-bytes .ensures)
 
 same-length-2 : tie.Need-same-length-2
 same-length-2 c = search needs
 
 returns-2 : tie.Need-returns-2
 unfolding spaced
-returns-2 c = rw (c .before .before .before .before .before .enum-told2 .given .1) (c .before .before .put-bytes2 .ensures)
+returns-2 c = rw (at-put-bytes2 c .before .before .before .enum-told2 .given .1) (at-put-bytes2 c .put-bytes2 .ensures)
 
 pub write-version-spec : {M : Type 1} → statement M
 write-version-spec =

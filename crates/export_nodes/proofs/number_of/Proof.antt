@@ -13,12 +13,19 @@ use Rattle.export_nodes.proofs.EdgeNumbers.{number-fits, number-edge, n
 use Rattle.export_nodes.proofs.number_of.Statement.{statement}
 use Rattle.export_nodes.proofs.number_of.Tie as tie
 
+-- places of the course, each a few steps back from a later one
+abbrev at-is-minus : tie.After-negate → tie.After-is-minus
+at-is-minus p = p .before .before
+
+abbrev at-start : tie.After-is-minus → tie.Start
+at-start p = p .before .before .before .before
+
 -- the node and the sign are the edge's
 node-is : (c : tie.After-magnitude) → c .magnitude .result ≡ natAbs (c .before .before .args .e)
 node-is c = c .magnitude .ensures ∙ ap natAbs (toZ-ofZ (c .before .before .fits .e))
 
-sign-is : (c : tie.After-is-minus) → minus (c .before .before .before .before .args .e) ≡ c .is-minus .result
-sign-is c = sym (c .is-minus .ensures ∙ ap minus (toZ-ofZ (c .before .before .before .before .fits .e)))
+sign-is : (c : tie.After-is-minus) → minus (at-start c .args .e) ≡ c .is-minus .result
+sign-is c = sym (c .is-minus .ensures ∙ ap minus (toZ-ofZ (at-start c .fits .e)))
 
 magnitude-requires : tie.Need-magnitude-requires
 magnitude-requires c κs = search needs
@@ -42,19 +49,20 @@ is-minus-requires : tie.Need-is-minus-requires
 is-minus-requires c κs = search needs
 
 negate-requires : tie.Need-negate-requires
-negate-requires c κs = rw (node-is (c .before .before .before)) (number-edge _ (c .before .before .before .before .before .pre .small))
+negate-requires c κs = rw (node-is (c .before .before .before)) (number-edge _ (at-start (c .before) .pre .small))
 
 returns : tie.Need-returns
 unfolding lineNumberOf
 returns c =
-    let s = c .before .before .before .before .before .before in
-    let n = rw (node-is (c .before .before .before .before)) at (c .negate .ensures) in
-    number-minus (getD (now (s .args .numbers)) (natAbs (s .args .e) - 1) 0) (s .pre .small) (s .args .e) (sign-is (c .before .before) ∙ c .before .if1 .taken) n
+    let s = at-start (at-is-minus c) in
+    let n = rw (node-is (at-is-minus c .before .before)) at (c .negate .ensures) in
+    number-minus (getD (now (s .args .numbers)) (natAbs (s .args .e) - 1) 0) (s .pre .small) (s .args .e)
+    (sign-is (at-is-minus c) ∙ c .before .if1 .taken) n
 
 returns-2 : tie.Need-returns-2
 unfolding lineNumberOf
 returns-2 c =
-    let s = c .before .before .before .before .before in
+    let s = at-start (c .before) in
     rw (node-is (c .before .before .before)) (number-plain _ (s .pre .small) (s .args .e) (sign-is (c .before) ∙ c .if1 .left))
 
 pub number-of-spec : {M : Type 1} → statement M

@@ -9,6 +9,10 @@ use mir.Facts.{toZ-ofZ}
 use Rattle.export_nodes.proofs.seat_of.Statement.{statement}
 use Rattle.export_nodes.proofs.seat_of.Tie as tie
 
+-- places of the course, each a few steps back from a later one
+abbrev at-start : tie.After-shared-slice-known4 → tie.Start
+at-start p = p .before .before .before .before .before .before
+
 -- the node is the edge's
 node-is : (c : tie.After-magnitude) → c .magnitude .result ≡ natAbs (c .before .before .before .args .e)
 node-is c = c .magnitude .ensures ∙ ap natAbs (toZ-ofZ (c .before .before .before .fits .e))
@@ -39,7 +43,7 @@ mul-result-2 c = omega (arith, c .shared-slice-known3 .given (c .before .before 
 
 shared-slice-read-result-2 : tie.Need-shared-slice-read-result-2
 shared-slice-read-result-2 c =
-    let s = c .before .before .before .before .before .before in
+    let s = at-start c in
     let e = node-is (c .before .before .before) in
     rw e (s .pre .seated (omega (arith, s .pre .some, c .before .before .if1 .left)))
 

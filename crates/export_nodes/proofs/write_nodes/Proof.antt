@@ -14,6 +14,13 @@ Inv-loop ascii level then els nodes numbers seats out₀ at next₀ i₀ out nex
 abbrev μ-loop : tie.MeasureT-loop
 μ-loop ascii level then els nodes numbers seats out₀ at next₀ i₀ out next i = length nodes - i
 
+-- places of the course, each a few steps back from a later one
+abbrev in-loop : tie.After-slice-known2 Inv-loop μ-loop → tie.In-loop Inv-loop μ-loop
+in-loop p = p .before .before .before .before .before
+
+abbrev at-start : tie.In-loop Inv-loop μ-loop → tie.Start Inv-loop μ-loop
+at-start p = p .before .before .before .before .before .before .before
+
 loop-holds : tie.Need-loop-holds Inv-loop μ-loop
 loop-holds c = writing-start _ _ _ _ _ _ _
 
@@ -21,7 +28,7 @@ add-n : tie.Need-add-n Inv-loop μ-loop
 add-n c = omega arith
 
 cast-n : tie.Need-cast-n Inv-loop μ-loop
-cast-n c = omega (arith, c .before .before .before .before .before .before .before .pre .0 .few)
+cast-n c = omega (arith, at-start c .pre .0 .few)
 
 mul-put-node : tie.Need-mul-put-node Inv-loop μ-loop
 mul-put-node c = search needs
@@ -31,7 +38,7 @@ shared-slice-read-put-node c = omega arith
 
 put-node-requires : tie.Need-put-node-requires Inv-loop μ-loop
 put-node-requires c κs =
-    let s = c .before .before .before .before .before .before .before .before .before in
+    let s = at-start (c .before .before) in
     let l = c .before .before .before .loop in
     let h = c .before .before .loop-test .taken in
     let L = s .pre .0 in
@@ -45,9 +52,10 @@ loop-less c = omega arith
 
 loop-again : tie.Need-loop-again Inv-loop μ-loop
 loop-again c =
-    let s = c .before .before .before .before .before .before .before .before .before .before .before .before in
-    let l = c .before .before .before .before .before .before .loop in
-    writing-more (s .args .ascii) (s .pre .0) (l .i) (c .before .before .before .before .before .loop-test .taken) (l .inv) (c .before .before .put-node .ensures) (c .before .before .put-node .kept .1 .1 .1 .1 .1 .1 .0)
+    let s = at-start (in-loop c) in
+    let l = in-loop c .before .loop in
+    writing-more (s .args .ascii) (s .pre .0) (l .i) (in-loop c .loop-test .taken) (l .inv) (c .before .before .put-node .ensures)
+    (c .before .before .put-node .kept .1 .1 .1 .1 .1 .1 .0)
 
 same-length : tie.Need-same-length Inv-loop μ-loop
 same-length c = c .before .loop .inv .long

@@ -16,15 +16,27 @@ Inv-loop out₀ at bytes starts lens next₀ i₀ out next i =
 abbrev μ-loop : tie.MeasureT-loop
 μ-loop out₀ at bytes starts lens next₀ i₀ out next i = length lens - i
 
+-- places of the course, each a few steps back from a later one
+abbrev in-loop : tie.After-slice-known2 Inv-loop μ-loop → tie.In-loop Inv-loop μ-loop
+in-loop p = p .before .before .before .before
+
+abbrev at-loop-entry : tie.In-loop Inv-loop μ-loop → tie.After-shared-slice-known3 Inv-loop μ-loop
+at-loop-entry p = p .before .before
+
+abbrev at-start : tie.After-shared-slice-known3 Inv-loop μ-loop → tie.Start Inv-loop μ-loop
+at-start p = p .before .before .before .before
+
 loop-holds : tie.Need-loop-holds Inv-loop μ-loop
 loop-holds c =
-    let s = c .before .before .before .before in
+    let s = at-start c in
     words-start (s .args .out .now) (s .args .at) (namesAt (s .args .bytes .now) (s .args .starts .now) (s .args .lens .now)) (s .pre .1)
 
 put-name-requires : tie.Need-put-name-requires Inv-loop μ-loop
 put-name-requires c κs =
-    let s = c .before .before .before .before .before .before .before in
-    ((s .pre .0, c .before .loop-test .taken), writing-room (words-as (name-next (s .pre .0) (c .before .loop-test .taken)) (c .before .before .loop .inv)))
+    let s = at-start (at-loop-entry (c .before)) in (
+      (s .pre .0, c .before .loop-test .taken),
+      writing-room (words-as (name-next (s .pre .0) (c .before .loop-test .taken)) (c .before .before .loop .inv)),
+    )
 
 add-i : tie.Need-add-i Inv-loop μ-loop
 add-i c = omega arith
@@ -34,15 +46,16 @@ loop-less c = omega arith
 
 loop-again : tie.Need-loop-again Inv-loop μ-loop
 loop-again c =
-    let s = c .before .before .before .before .before .before .before .before .before .before in
-    writing-more (words-as (name-next (s .pre .0) (c .before .before .before .before .loop-test .taken)) (c .before .before .before .before .before .loop .inv)) (c .before .before .put-name .ensures)
+    let s = at-start (at-loop-entry (in-loop c)) in
+    writing-more (words-as (name-next (s .pre .0) (in-loop c .loop-test .taken)) (in-loop c .before .loop .inv))
+    (c .before .before .put-name .ensures)
 
 same-length : tie.Need-same-length Inv-loop μ-loop
 same-length c = c .before .loop .inv .long
 
 returns : tie.Need-returns Inv-loop μ-loop
 returns c =
-    let s = c .before .before .before .before .before .before in
+    let s = at-start (c .before .before) in
     writing-end (words-as (names-end (s .pre .0) (c .loop-test .left)) (c .before .loop .inv))
 
 pub put-names-spec : {M : Type 1} → statement M

@@ -19,32 +19,43 @@ Inv-loop out₀ at bytes starts lens order vars next₀ l₀ out next l =
 abbrev μ-loop : tie.MeasureT-loop
 μ-loop out₀ at bytes starts lens order vars next₀ l₀ out next l = length order - l
 
+-- places of the course, each a few steps back from a later one
+abbrev in-loop : tie.After-slice-known2 Inv-loop μ-loop → tie.In-loop Inv-loop μ-loop
+in-loop p = p .before .before .before .before .before
+
+abbrev at-loop-entry : tie.In-loop Inv-loop μ-loop → tie.After-shared-slice-known5 Inv-loop μ-loop
+at-loop-entry p = p .before .before
+
+abbrev at-start : tie.After-shared-slice-known5 Inv-loop μ-loop → tie.Start Inv-loop μ-loop
+at-start p = p .before .before .before .before .before .before
+
 loop-holds : tie.Need-loop-holds Inv-loop μ-loop
 loop-holds c =
-    let s = c .before .before .before .before .before .before .args in
+    let s = at-start c .args in
     names-as (namesAt (s .bytes .now) (s .starts .now) (s .lens .now)) (variables-start (s .order .now))
-    (words-start (s .out .now) (s .at) _ (c .before .before .before .before .before .before .pre .room))
+    (words-start (s .out .now) (s .at) _ (at-start c .pre .room))
 
 mul-variable : tie.Need-mul-variable Inv-loop μ-loop
-mul-variable c = omega (arith, c .before .before .before .before .before .before .before .before .pre .vars-long, c .before .before .before .before .before .before .before .before .good .1 .1 .1 .1 .1 .1 .0 .1)
+mul-variable c = omega (arith, at-start (at-loop-entry c) .pre .vars-long, at-start (at-loop-entry c) .good .1 .1 .1 .1 .1 .1 .0 .1)
 
 shared-slice-read-variable : tie.Need-shared-slice-read-variable Inv-loop μ-loop
-shared-slice-read-variable c = omega (arith, c .before .before .before .before .before .before .before .before .before .pre .vars-long)
+shared-slice-read-variable c = omega (arith, at-start (at-loop-entry (c .before)) .pre .vars-long)
 
 cast-variable : tie.Need-cast-variable Inv-loop μ-loop
 cast-variable c = omega (arith, c .shared-slice-known6 .given (c .before .before .loop .l))
 
 sub-variable : tie.Need-sub-variable Inv-loop μ-loop
 sub-variable c =
-    let s = c .before .before .before .before .before .before .before .before .before .args in
-    let p = c .before .before .before .before .before .before .before .before .before .pre in
-    variable-some (s .order .now) (s .vars .now) (p .is-order) (p .vars-there) (p .vars-long) (c .before .before .loop .l) (c .before .loop-test .taken)
+    let s = at-start (at-loop-entry (c .before)) .args in
+    let p = at-start (at-loop-entry (c .before)) .pre in
+    variable-some (s .order .now) (s .vars .now) (p .is-order) (p .vars-there) (p .vars-long) (c .before .before .loop .l)
+    (c .before .loop-test .taken)
 
 put-name-requires : tie.Need-put-name-requires Inv-loop μ-loop
 unfolding chosenNames
 put-name-requires c κs =
-    let s = c .before .before .before .before .before .before .before .before .before .before .args in
-    let q = c .before .before .before .before .before .before .before .before .before .before .pre in
+    let s = at-start (at-loop-entry (c .before .before)) .args in
+    let q = at-start (at-loop-entry (c .before .before)) .pre in
     let p = q in
     let l = c .before .before .before .loop in
     let t = c .before .before .loop-test .taken in
@@ -62,10 +73,10 @@ loop-less c = omega arith
 loop-again : tie.Need-loop-again Inv-loop μ-loop
 unfolding chosenNames
 loop-again c =
-    let s = c .before .before .before .before .before .before .before .before .before .before .before .before .before .args in
-    let p = c .before .before .before .before .before .before .before .before .before .before .before .before .before .pre in
-    let l = c .before .before .before .before .before .before .loop in
-    let e = variable-next (s .order .now) (s .vars .now) (p .is-order) (p .vars-there) (p .vars-long) (l .l) (c .before .before .before .before .before .loop-test .taken) in
+    let s = at-start (at-loop-entry (in-loop c)) .args in
+    let p = at-start (at-loop-entry (in-loop c)) .pre in
+    let l = in-loop c .before .loop in
+    let e = variable-next (s .order .now) (s .vars .now) (p .is-order) (p .vars-there) (p .vars-long) (l .l) (in-loop c .loop-test .taken) in
     writing-more (names-as (namesAt (s .bytes .now) (s .starts .now) (s .lens .now)) e (l .inv)) (c .before .before .put-name .ensures)
 
 same-length : tie.Need-same-length Inv-loop μ-loop
@@ -74,9 +85,10 @@ same-length c = c .before .loop .inv .long
 returns : tie.Need-returns Inv-loop μ-loop
 unfolding chosenNames
 returns c =
-    let s = c .before .before .before .before .before .before .before .before .args in
+    let s = at-start (c .before .before) .args in
     let l = c .before .loop in
-    writing-end (names-as (namesAt (s .bytes .now) (s .starts .now) (s .lens .now)) (variables-end (s .order .now) (l .l) (c .loop-test .left)) (l .inv))
+    writing-end (names-as (namesAt (s .bytes .now) (s .starts .now) (s .lens .now)) (variables-end (s .order .now) (l .l) (c .loop-test .left))
+    (l .inv))
 
 pub put-ordered-names-spec : {M : Type 1} → statement M
 put-ordered-names-spec =

@@ -4,6 +4,10 @@ use Rattle.heading.proofs.Places.{part-name}
 use Rattle.head_names.proofs.put_place.Statement.{statement}
 use Rattle.head_names.proofs.put_place.Tie as tie
 
+-- places of the course, each a few steps back from a later one
+abbrev at-start : tie.After-put-bytes-arg2 → tie.Start
+at-start p = p .before .before .before .before
+
 add-end : tie.Need-add-end
 add-end c = search needs
 
@@ -18,7 +22,7 @@ part-put-bytes-end c = search needs
 
 put-bytes-requires : tie.Need-put-bytes-requires
 put-bytes-requires c κs =
-    let s = c .before .before .before .before in
+    let s = at-start c in
     rw (part-name (s .args .bytes .now) (s .args .start) (s .args .len)) (s .pre .1)
 
 same-length : tie.Need-same-length
@@ -26,7 +30,7 @@ same-length c = search needs
 
 returns : tie.Need-returns
 returns c =
-    let s = c .before .before .before .before .before .before .before in
+    let s = at-start (c .before .before .before) in
     rw (← (part-name (s .args .bytes .now) (s .args .start) (s .args .len))) (c .before .before .put-bytes .ensures)
 
 pub put-place-spec : {M : Type 1} → statement M

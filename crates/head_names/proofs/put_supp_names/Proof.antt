@@ -22,19 +22,29 @@ Inv-loop out₀ at bytes starts lens order seats next₀ v₀ out next v =
 abbrev μ-loop : tie.MeasureT-loop
 μ-loop out₀ at bytes starts lens order seats next₀ v₀ out next v = length order - v
 
+-- places of the course, each a few steps back from a later one
+abbrev in-loop : tie.After-put-name-arg Inv-loop μ-loop → tie.In-loop Inv-loop μ-loop
+in-loop p = p .before .before .before
+
+abbrev at-loop-entry : tie.In-loop Inv-loop μ-loop → tie.After-shared-slice-known5 Inv-loop μ-loop
+at-loop-entry p = p .before .before
+
+abbrev at-start : tie.After-shared-slice-known5 Inv-loop μ-loop → tie.Start Inv-loop μ-loop
+at-start p = p .before .before .before .before .before .before
+
 loop-holds : tie.Need-loop-holds Inv-loop μ-loop
-loop-holds c = let s = c .before .before .before .before .before .before .args in words-start (s .out .now) (s .at) _ (c .before .before .before .before .before .before .pre .room)
+loop-holds c = let s = at-start c .args in words-start (s .out .now) (s .at) _ (at-start c .pre .room)
 
 in-support-requires : tie.Need-in-support-requires Inv-loop μ-loop
-in-support-requires c κs = (c .before .before .before .before .before .before .before .before .pre .seatable, c .loop-test .taken)
+in-support-requires c κs = (at-start (at-loop-entry c) .pre .seatable, c .loop-test .taken)
 
 put-name-requires : tie.Need-put-name-requires Inv-loop μ-loop
 unfolding chosenNames
 put-name-requires c κs =
-    let s = c .before .before .before .before .before .before .before .before .before .before .before .args in
-    let p = c .before .before .before .before .before .before .before .before .before .before .before .pre in
-    let l = c .before .before .before .before .loop in
-    let t = c .before .before .before .loop-test .taken in
+    let s = at-start (at-loop-entry (in-loop c)) .args in
+    let p = at-start (at-loop-entry (in-loop c)) .pre in
+    let l = in-loop c .before .loop in
+    let t = in-loop c .loop-test .taken in
     let e = id-next (seatedLevels (s .seats .now)) (s .order .now) (l .v) t (sym (c .before .before .in-support .ensures) ∙ c .before .if1 .taken) in
     ((p .inside, omega (arith, p .named, t)), writing-room (names-as (namesAt (s .bytes .now) (s .starts .now) (s .lens .now)) e (l .inv)))
 
@@ -47,13 +57,14 @@ loop-less c = omega arith
 loop-again : tie.Need-loop-again Inv-loop μ-loop
 unfolding chosenNames
 loop-again c =
-    let s = c .before .before .before .before .before .before .before .before .before .before .args in
+    let s = at-start (at-loop-entry (c .before .before)) .args in
     let l = c .before .before .before .loop in
     let t = c .before .before .loop-test .taken in
     let e = sym (c .before .in-support .ensures) in
     let names = namesAt (s .bytes .now) (s .starts .now) (s .lens .now) in
     ⊎-elim
-    (λ w. rw (w .5, w .6) (writing-more (names-as names (id-next (seatedLevels (s .seats .now)) (s .order .now) (l .v) t (e ∙ w .0 .taken)) (l .inv)) (w .2 .ensures)))
+    (λ w. rw (w .5, w .6) (writing-more (names-as names (id-next (seatedLevels (s .seats .now)) (s .order .now) (l .v) t (e ∙ w .0 .taken)) (l .inv))
+    (w .2 .ensures)))
     (λ w. rw (w .1, w .2) (names-as names (id-passed (seatedLevels (s .seats .now)) (s .order .now) (l .v) t (e ∙ w .0 .left)) (l .inv)))
     (c .if1 .came)
 
@@ -63,10 +74,11 @@ same-length c = c .before .loop .inv .long
 returns : tie.Need-returns Inv-loop μ-loop
 unfolding chosenNames
 returns c =
-    let s = c .before .before .before .before .before .before .before .before .args in
+    let s = at-start (c .before .before) .args in
     let l = c .before .loop in
     writing-end
-    (names-as (namesAt (s .bytes .now) (s .starts .now) (s .lens .now)) (ids-end (seatedLevels (s .seats .now)) (s .order .now) (l .v) (c .loop-test .left)) (l .inv))
+    (names-as (namesAt (s .bytes .now) (s .starts .now) (s .lens .now))
+    (ids-end (seatedLevels (s .seats .now)) (s .order .now) (l .v) (c .loop-test .left)) (l .inv))
 
 pub put-supp-names-spec : {M : Type 1} → statement M
 put-supp-names-spec =

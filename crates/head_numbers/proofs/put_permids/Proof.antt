@@ -22,13 +22,23 @@ Inv-loop out₀ at order seats next₀ v₀ out next v =
 abbrev μ-loop : tie.MeasureT-loop
 μ-loop out₀ at order seats next₀ v₀ out next v = length order - v
 
+-- places of the course, each a few steps back from a later one
+abbrev in-support : tie.After-shared-slice-known3 Inv-loop μ-loop → tie.After-in-support Inv-loop μ-loop
+in-support p = p .before .before .before
+
+abbrev at-loop : tie.After-in-support Inv-loop μ-loop → tie.At-loop Inv-loop μ-loop
+at-loop p = p .before .before
+
+abbrev at-start : tie.At-loop Inv-loop μ-loop → tie.Start Inv-loop μ-loop
+at-start p = p .before .before .before .before
+
 loop-holds : tie.Need-loop-holds Inv-loop μ-loop
 loop-holds c =
     let s = c .before .before .before .args in
     words-start (s .out .now) (s .at) (map decimal (permidsOf (seatedLevels (s .seats .now)) (s .order .now))) (c .before .before .before .pre .1)
 
 in-support-requires : tie.Need-in-support-requires Inv-loop μ-loop
-in-support-requires c κs = (c .before .before .before .before .before .pre .0, c .loop-test .taken)
+in-support-requires c κs = (at-start (c .before) .pre .0, c .loop-test .taken)
 
 mul-put-spaced : tie.Need-mul-put-spaced Inv-loop μ-loop
 mul-put-spaced c = omega arith
@@ -37,13 +47,14 @@ shared-slice-read-put-spaced : tie.Need-shared-slice-read-put-spaced Inv-loop μ
 shared-slice-read-put-spaced c = omega arith
 
 cast-put-spaced : tie.Need-cast-put-spaced Inv-loop μ-loop
-cast-put-spaced c = omega (arith, c .shared-slice-known3 .given (c .before .before .before .before .before .loop .v))
+cast-put-spaced c = omega (arith, c .shared-slice-known3 .given (at-loop (in-support c) .loop .v))
 
 put-spaced-requires : tie.Need-put-spaced-requires Inv-loop μ-loop
 put-spaced-requires c κs =
-    let s = c .before .before .before .before .before .before .before .before .before .args in
-    let l = c .before .before .before .before .before .loop in
-    let e = level-next (seatedLevels (s .seats .now)) (s .order .now) (l .v) (c .before .before .before .before .loop-test .taken) (sym (c .before .before .before .in-support .ensures) ∙ c .before .before .if1 .taken) in
+    let s = at-start (at-loop (in-support c)) .args in
+    let l = at-loop (in-support c) .loop in
+    let e = level-next (seatedLevels (s .seats .now)) (s .order .now) (l .v) (in-support c .before .loop-test .taken)
+    (sym (in-support c .in-support .ensures) ∙ c .before .before .if1 .taken) in
     writing-room (words-as (ap (map decimal) e) (l .inv))
 
 add-v : tie.Need-add-v Inv-loop μ-loop
@@ -54,13 +65,15 @@ loop-less c = omega arith
 
 loop-again : tie.Need-loop-again Inv-loop μ-loop
 loop-again c =
-    let s = c .before .before .before .before .before .before .before .args in
-    let l = c .before .before .before .loop in
+    let s = at-start (at-loop (c .before)) .args in
+    let l = at-loop (c .before) .loop in
     let t = c .before .before .loop-test .taken in
     let e = sym (c .before .in-support .ensures) in
     ⊎-elim
-    (λ w. rw (w .6, w .7) (writing-more (words-as (ap (map decimal) (level-next (seatedLevels (s .seats .now)) (s .order .now) (l .v) t (e ∙ w .0 .taken))) (l .inv)) (w .3 .ensures)))
-    (λ w. rw (w .1, w .2) (words-as (ap (map decimal) (level-passed (seatedLevels (s .seats .now)) (s .order .now) (l .v) t (e ∙ w .0 .left))) (l .inv)))
+    (λ w. rw (w .6, w .7) (writing-more
+    (words-as (ap (map decimal) (level-next (seatedLevels (s .seats .now)) (s .order .now) (l .v) t (e ∙ w .0 .taken))) (l .inv)) (w .3 .ensures)))
+    (λ w. rw (w .1, w .2) (words-as (ap (map decimal) (level-passed (seatedLevels (s .seats .now)) (s .order .now) (l .v) t (e ∙ w .0 .left)))
+    (l .inv)))
     (c .if1 .came)
 
 same-length : tie.Need-same-length Inv-loop μ-loop
@@ -68,7 +81,7 @@ same-length c = c .before .loop .inv .long
 
 returns : tie.Need-returns Inv-loop μ-loop
 returns c =
-    let s = c .before .before .before .before .before .args in
+    let s = at-start (c .before) .args in
     let l = c .before .loop in
     writing-end (words-as (ap (map decimal) (levels-end (seatedLevels (s .seats .now)) (s .order .now) (l .v) (c .loop-test .left))) (l .inv))
 

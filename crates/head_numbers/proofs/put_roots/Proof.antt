@@ -24,9 +24,17 @@ Inv-loop out₀ at roots numbers next₀ i₀ out next i =
 abbrev μ-loop : tie.MeasureT-loop
 μ-loop out₀ at roots numbers next₀ i₀ out next i = length roots - i
 
+-- places of the course, each a few steps back from a later one
+abbrev in-loop : tie.After-slice-known2 Inv-loop μ-loop → tie.In-loop Inv-loop μ-loop
+in-loop p = p .before .before .before .before .before
+
+abbrev at-start : tie.At-loop Inv-loop μ-loop → tie.Start Inv-loop μ-loop
+at-start p = p .before .before .before
+
 -- the root that is written is the list's
 root-is : (c : tie.After-put-root-arg2 Inv-loop μ-loop)
-    → toZ w16 (ofZ w16 (getD (c .before .before .before .before .before .before .args .roots .now) (c .before .before .before .loop .i) (pos 0))) ≡ getD (c .before .before .before .before .before .before .args .roots .now) (c .before .before .before .loop .i) (pos 0)
+    → toZ w16 (ofZ w16 (getD (at-start (c .before .before .before) .args .roots .now) (c .before .before .before .loop .i) (pos 0))) ≡ getD
+    (at-start (c .before .before .before) .args .roots .now) (c .before .before .before .loop .i) (pos 0)
 root-is c = toZ-ofZ (record { sfits = c .put-root-arg2 .given })
 
 loop-holds : tie.Need-loop-holds Inv-loop μ-loop
@@ -42,11 +50,12 @@ shared-slice-copy-out-put-root c = omega arith
 
 put-root-requires : tie.Need-put-root-requires Inv-loop μ-loop
 put-root-requires c κs =
-    let s = c .before .before .before .before .before .before in
+    let s = at-start (c .before .before .before) in
     let t = c .before .before .loop-test .taken in
     rw (root-is c) (
       s .pre .0 .numbered (c .before .before .before .loop .i) t,
-      writing-room (words-as (ap (λ es. map edgeText (map (lineNumberOf (s .args .numbers .now)) es)) (drop-cons (s .args .roots .now) (c .before .before .before .loop .i) (pos 0) t)) (c .before .before .before .loop .inv)),
+      writing-room (words-as (ap (λ es. map edgeText (map (lineNumberOf (s .args .numbers .now)) es))
+          (drop-cons (s .args .roots .now) (c .before .before .before .loop .i) (pos 0) t)) (c .before .before .before .loop .inv)),
     )
 
 add-i : tie.Need-add-i Inv-loop μ-loop
@@ -57,11 +66,12 @@ loop-less c = omega arith
 
 loop-again : tie.Need-loop-again Inv-loop μ-loop
 loop-again c =
-    let s = c .before .before .before .before .before .before .before .before .before in
-    let l = c .before .before .before .before .before .before .loop in
+    let s = at-start (in-loop c .before) in
+    let l = in-loop c .before .loop in
     rw (add-one (l .i))
     (writing-more
-    (words-as (ap (λ es. map edgeText (map (lineNumberOf (s .args .numbers .now)) es)) (drop-cons (s .args .roots .now) (l .i) (pos 0) (c .before .before .before .before .before .loop-test .taken))) (l .inv))
+    (words-as (ap (λ es. map edgeText (map (lineNumberOf (s .args .numbers .now)) es))
+    (drop-cons (s .args .roots .now) (l .i) (pos 0) (in-loop c .loop-test .taken))) (l .inv))
     (rw (root-is (c .before .before .before)) at (c .before .before .put-root .ensures)))
 
 same-length : tie.Need-same-length Inv-loop μ-loop
@@ -69,8 +79,9 @@ same-length c = c .before .loop .inv .long
 
 returns : tie.Need-returns Inv-loop μ-loop
 returns c =
-    let s = c .before .before .before .before in
-    writing-end (words-as (ap (λ es. map edgeText (map (lineNumberOf (s .args .numbers .now)) es)) (drop-of-length-le (s .args .roots .now) (c .loop-test .left))) (c .before .loop .inv))
+    let s = at-start (c .before) in
+    writing-end (words-as (ap (λ es. map edgeText (map (lineNumberOf (s .args .numbers .now)) es))
+    (drop-of-length-le (s .args .roots .now) (c .loop-test .left))) (c .before .loop .inv))
 
 pub put-roots-spec : {M : Type 1} → statement M
 put-roots-spec =

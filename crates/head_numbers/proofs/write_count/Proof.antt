@@ -11,6 +11,16 @@ use Rattle.heading.proofs.Parts.{wordParts, word-parts}
 use Rattle.head_numbers.proofs.write_count.Statement.{statement}
 use Rattle.head_numbers.proofs.write_count.Tie as tie
 
+-- places of the course, each a few steps back from a later one
+abbrev at-put-spaced : tie.After-slice-known4 → tie.After-put-spaced
+at-put-spaced p = p .before .before .before .before .before .before
+
+abbrev at-put-bytes : tie.After-put-spaced → tie.After-put-bytes
+at-put-bytes p = p .before .before .before .before
+
+abbrev at-start : tie.After-put-bytes → tie.Start
+at-start p = p .before .before .before .before
+
 abbrev parts : tie.Start → List (List ℕ)
 parts s = wordParts (s .args .key .now) (decimal (s .args .n))
 
@@ -21,11 +31,11 @@ Left s out next k = Writing (s .args .out .now) (s .args .at) (keyedText (s .arg
 left-0 : (s : tie.Start) → Left s (s .args .out .now) (s .args .at) 0
 left-0 s = writing-start (s .args .out .now) (s .args .at) (word-parts (s .args .key .now) (decimal (s .args .n))) (s .pre)
 
-left-1 : (c : tie.After-put-bytes) → Left (c .before .before .before .before) (c .put-bytes .last .0) (c .put-bytes .result) 1
-left-1 c = writing-more (left-0 (c .before .before .before .before)) (c .put-bytes .ensures)
+left-1 : (c : tie.After-put-bytes) → Left (at-start c) (c .put-bytes .last .0) (c .put-bytes .result) 1
+left-1 c = writing-more (left-0 (at-start c)) (c .put-bytes .ensures)
 
-left-2 : (c : tie.After-put-spaced) → Left (c .before .before .before .before .before .before .before .before) (c .put-spaced .last .0) (c .put-spaced .result) 2
-left-2 c = writing-more (left-1 (c .before .before .before .before)) (c .put-spaced .ensures)
+left-2 : (c : tie.After-put-spaced) → Left (at-start (at-put-bytes c)) (c .put-spaced .last .0) (c .put-spaced .result) 2
+left-2 c = writing-more (left-1 (at-put-bytes c)) (c .put-spaced .ensures)
 
 put-bytes-requires : tie.Need-put-bytes-requires
 put-bytes-requires c κs = writing-room (left-0 (c .before .before .before))
@@ -40,7 +50,7 @@ same-length : tie.Need-same-length
 same-length c = search needs
 
 returns : tie.Need-returns
-returns c = writing-end (writing-more (left-2 (c .before .before .before .before .before .before)) (c .before .before .put-byte .ensures))
+returns c = writing-end (writing-more (left-2 (at-put-spaced c)) (c .before .before .put-byte .ensures))
 
 pub write-count-spec : {M : Type 1} → statement M
 write-count-spec =

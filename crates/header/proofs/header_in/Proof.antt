@@ -4,6 +4,10 @@ use Rattle.header.proofs.Answers.{header-read}
 use Rattle.header.proofs.header_in.Statement.{statement}
 use Rattle.header.proofs.header_in.Tie as tie
 
+-- places of the course, each a few steps back from a later one
+abbrev at-dd-in : tie.After-u64-in2 → tie.After-dd-in
+at-dd-in p = p .before .before .before .before
+
 ascii-in-requires : tie.Need-ascii-in-requires
 ascii-in-requires c κs = search needs
 
@@ -28,11 +32,11 @@ u64-in-requires-2 c κs = search needs
 returns : tie.Need-returns
 returns c =
     header-read _ _ _ _
-    (c .before .before .before .before .before .before .ascii-in .ensures)
-    (c .before .before .before .before .before .varinfo-in .result)
-    (c .before .before .before .before .before .varinfo-in .ensures)
-    (c .before .before .before .before .dd-in .result)
-    (c .before .before .before .before .dd-in .ensures)
+    (at-dd-in c .before .before .ascii-in .ensures)
+    (at-dd-in c .before .varinfo-in .result)
+    (at-dd-in c .before .varinfo-in .ensures)
+    (at-dd-in c .dd-in .result)
+    (at-dd-in c .dd-in .ensures)
     (c .before .before .before .u64-in .ensures)
     (c .before .before .u32-in .ensures)
     (c .before .u32-in2 .ensures)

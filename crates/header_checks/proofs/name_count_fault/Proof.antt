@@ -4,6 +4,10 @@ use Rattle.header_checks.proofs.NameCounts.{ordered-wrong, supp-wrong, 
 use Rattle.header_checks.proofs.name_count_fault.Statement.{statement}
 use Rattle.header_checks.proofs.name_count_fault.Tie as tie
 
+-- places of the course, each a few steps back from a later one
+abbrev at-start : tie.After-u32-in2 → tie.Start
+at-start p = p .before .before .before .before .before
+
 u32-in-requires : tie.Need-u32-in-requires
 u32-in-requires c κs = search needs
 
@@ -22,7 +26,7 @@ given-fault-requires c κs = search needs
 returns : tie.Need-returns
 returns c =
     let n = c .before .before in
-    ordered-wrong _ _ (n .before .before .before .before .before .pre .1) (n .before .u32-in .ensures) (n .u32-in2 .ensures) (c .before .given-fault .ensures) (c .if1 .taken)
+    ordered-wrong _ _ (at-start n .pre .1) (n .before .u32-in .ensures) (n .u32-in2 .ensures) (c .before .given-fault .ensures) (c .if1 .taken)
 
 given-fault-requires-2 : tie.Need-given-fault-requires-2
 given-fault-requires-2 c κs = search needs
@@ -31,7 +35,7 @@ returns-2 : tie.Need-returns-2
 returns-2 c =
     let o = c .before .before in
     let n = o .before .before in
-    supp-wrong _ _ (n .before .before .before .before .before .pre .1) (n .before .u32-in .ensures) (n .u32-in2 .ensures) (o .before .given-fault .ensures) (o .if1 .left)
+    supp-wrong _ _ (at-start n .pre .1) (n .before .u32-in .ensures) (n .u32-in2 .ensures) (o .before .given-fault .ensures) (o .if1 .left)
     (c .before .given-fault2 .ensures)
     (c .if2 .taken)
 
@@ -43,7 +47,7 @@ returns-3 c =
     let s = c .before in
     let o = s .before .before in
     let n = o .before .before in
-    counts-pass _ _ (n .before .before .before .before .before .pre .1) (n .before .u32-in .ensures) (n .u32-in2 .ensures) (o .before .given-fault .ensures) (o .if1 .left)
+    counts-pass _ _ (at-start n .pre .1) (n .before .u32-in .ensures) (n .u32-in2 .ensures) (o .before .given-fault .ensures) (o .if1 .left)
     (s .before .given-fault2 .ensures)
     (s .if2 .left) (c .given-fault3 .ensures)
 

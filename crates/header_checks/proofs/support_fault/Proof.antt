@@ -6,6 +6,20 @@ use Rattle.header_checks.proofs.Supporting.{CountsPass, auxids-wrong, c
 use Rattle.header_checks.proofs.support_fault.Statement.{statement}
 use Rattle.header_checks.proofs.support_fault.Tie as tie
 
+-- places of the course, each a few steps back from a later one
+abbrev at-else1 : tie.After-permids-fit → tie.Else1
+at-else1 p = p .before .before .before
+
+abbrev at-u32-in2 : tie.After-given-fault → tie.After-u32-in2
+at-u32-in2 p = p .before .before .before .before
+
+abbrev at-start : tie.After-u32-in2 → tie.Start
+at-start p = p .before .before .before .before .before .before .before
+
+-- Where the counts are right: the function's entry, and that they are.
+abbrev start : tie.Else1 → tie.Start
+start p = at-start (at-u32-in2 (p .before))
+
 u32-in-requires : tie.Need-u32-in-requires
 u32-in-requires c κs = search needs
 
@@ -26,17 +40,15 @@ given-fault-requires c κs = search needs
 
 returns : tie.Need-returns
 returns c =
-    let n = c .before .before .before .before .before in
-    auxids-wrong _ _ (n .before .before .before .before .before .before .before .pre .1 .1) (n .u32-in2 .ensures) (c .before .before .before .read-u32s .ensures .answer) (c .before .given-fault .ensures) (c .if1 .taken)
-
--- Where the counts are right: the function's entry, and that they are.
-abbrev start : tie.Else1 → tie.Start
-start c = c .before .before .before .before .before .before .before .before .before .before .before .before
+    let n = at-u32-in2 (c .before) in
+    auxids-wrong _ _ (at-start n .pre .1 .1) (n .u32-in2 .ensures) (c .before .before .before .read-u32s .ensures .answer)
+    (c .before .given-fault .ensures) (c .if1 .taken)
 
 counts : (c : tie.Else1) → CountsPass (start c .args .f .now) (spans (start c .args .starts .now) (start c .args .ends .now))
 counts c =
-    let n = c .before .before .before .before .before in
-    counts-pass _ _ (start c .pre .1 .1) (n .u32-in2 .ensures) (c .before .before .before .read-u32s .ensures .answer) (c .before .given-fault .ensures) (c .if1 .left)
+    let n = at-u32-in2 (c .before) in
+    counts-pass _ _ (start c .pre .1 .1) (n .u32-in2 .ensures) (c .before .before .before .read-u32s .ensures .answer)
+    (c .before .given-fault .ensures) (c .if1 .left)
 
 ids-fit-requires : tie.Need-ids-fit-requires
 ids-fit-requires c κs = search needs
@@ -44,22 +56,24 @@ ids-fit-requires c κs = search needs
 returns-2 : tie.Need-returns-2
 returns-2 c =
     let k = c .before .before in
-    ids-unfit _ _ (counts k) (start k .pre .1 .1) (k .before .before .before .before .before .before .u32-in .ensures) (c .before .ids-fit .ensures) (c .if2 .taken)
+    ids-unfit _ _ (counts k) (start k .pre .1 .1) (at-u32-in2 (k .before) .before .u32-in .ensures) (c .before .ids-fit .ensures) (c .if2 .taken)
 
 permids-fit-requires : tie.Need-permids-fit-requires
 permids-fit-requires c κs = search needs
 
 returns-3 : tie.Need-returns-3
 returns-3 c =
-    let k = c .before .before .before .before in
-    permids-unfit _ _ (counts k) (start k .pre .1 .1) (k .before .before .before .before .before .before .u32-in .ensures) (c .before .before .before .ids-fit .ensures) (c .before .before .if2 .left)
+    let k = at-else1 (c .before) in
+    permids-unfit _ _ (counts k) (start k .pre .1 .1) (at-u32-in2 (k .before) .before .u32-in .ensures) (c .before .before .before .ids-fit .ensures)
+    (c .before .before .if2 .left)
     (c .before .permids-fit .ensures)
     (c .if3 .taken)
 
 returns-4 : tie.Need-returns-4
 returns-4 c =
-    let k = c .before .before .before .before in
-    support-passes _ _ (counts k) (start k .pre .1 .1) (k .before .before .before .before .before .before .u32-in .ensures) (c .before .before .before .ids-fit .ensures) (c .before .before .if2 .left)
+    let k = at-else1 (c .before) in
+    support-passes _ _ (counts k) (start k .pre .1 .1) (at-u32-in2 (k .before) .before .u32-in .ensures) (c .before .before .before .ids-fit .ensures)
+    (c .before .before .if2 .left)
     (c .before .permids-fit .ensures)
     (c .if3 .left)
 

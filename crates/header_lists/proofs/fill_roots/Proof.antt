@@ -5,6 +5,16 @@ use Rattle.header_lists.proofs.Filling.{roots-fit, roots-long, roots-la
 use Rattle.header_lists.proofs.fill_roots.Statement.{statement}
 use Rattle.header_lists.proofs.fill_roots.Tie as tie
 
+-- places of the course, each a few steps back from a later one
+abbrev at-dst : tie.After-dst2 → tie.After-dst
+at-dst p = p .before .before .before .before
+
+abbrev at-roots-in : tie.After-dst → tie.After-roots-in
+at-roots-in p = p .before .before .before .before
+
+abbrev at-start : tie.After-roots-in → tie.Start
+at-start p = p .before .before .before .before .before
+
 slice-aggregate-roots-in : tie.Need-slice-aggregate-roots-in
 slice-aggregate-roots-in c = search needs
 
@@ -15,10 +25,11 @@ clear-edges-requires : tie.Need-clear-edges-requires
 clear-edges-requires c κs = search needs
 
 array-share-prefix-roots : tie.Need-array-share-prefix-roots
-array-share-prefix-roots c = roots-fit _ _ (c .before .before .before .before .roots-in .last .1 .1 .1 .0) (c .before .before .before .before .roots-in .ensures .answer) (c .before .before .before .before .roots-in .kept .1 .1 .1 .0)
+array-share-prefix-roots c =
+    roots-fit _ _ (at-roots-in c .roots-in .last .1 .1 .1 .0) (at-roots-in c .roots-in .ensures .answer) (at-roots-in c .roots-in .kept .1 .1 .1 .0)
 
 slice-aggregate-edges-of : tie.Need-slice-aggregate-edges-of
-slice-aggregate-edges-of c = roots-long _ _ _ (c .before .before .before .before .before .roots-in .ensures .answer) (c .before .before .before .before .before .roots-in .ensures .front)
+slice-aggregate-edges-of c = roots-long _ _ _ (at-roots-in (c .before) .roots-in .ensures .answer) (at-roots-in (c .before) .roots-in .ensures .front)
 
 edges-of-requires : tie.Need-edges-of-requires
 edges-of-requires c κs = search needs
@@ -28,7 +39,10 @@ same-length c = search needs
 
 returns : tie.Need-returns
 returns c =
-    record { list = roots-laid _ _ _ (c .before .before .before .before .before .before .before .before .roots-in .ensures .answer) (c .before .before .before .before .before .before .before .before .roots-in .ensures .front) (length (c .before .before .before .before .before .before .before .before .before .before .before .before .before .args .dst .now)) (c .before .before .before .before .before .clear-edges .ensures) (c .before .edges-of .ensures) }
+    record {
+      list = roots-laid _ _ _ (at-roots-in (at-dst c) .roots-in .ensures .answer) (at-roots-in (at-dst c) .roots-in .ensures .front)
+          (length (at-start (at-roots-in (at-dst c)) .args .dst .now)) (at-dst c .before .clear-edges .ensures) (c .before .edges-of .ensures);
+    }
 
 pub fill-roots-spec : {M : Type 1} → statement M
 fill-roots-spec =

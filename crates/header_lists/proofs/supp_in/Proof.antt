@@ -8,6 +8,16 @@ use Rattle.header_lists.proofs.Filling.{supp-laid}
 use Rattle.header_lists.proofs.supp_in.Statement.{statement}
 use Rattle.header_lists.proofs.supp_in.Tie as tie
 
+-- places of the course, each a few steps back from a later one
+abbrev at-ids3 : tie.After-slice-known2 → tie.After-ids3
+at-ids3 p = p .before .before .before .before
+
+abbrev at-u32-in : tie.After-ids3 → tie.After-u32-in
+at-u32-in p = p .before .before .before .before
+
+abbrev at-start : tie.After-u32-in → tie.Start
+at-start p = p .before .before .before .before .before
+
 u32-in-requires : tie.Need-u32-in-requires
 u32-in-requires c κs = search needs
 
@@ -15,7 +25,7 @@ slice-aggregate-read-u32s : tie.Need-slice-aggregate-read-u32s
 slice-aggregate-read-u32s c = search needs
 
 read-u32s-requires : tie.Need-read-u32s-requires
-read-u32s-requires c κs = ((c .before .before .before .before .before .before .pre .0, omega arith), zeros-whole 4096)
+read-u32s-requires c κs = ((at-start (c .before) .pre .0, omega arith), zeros-whole 4096)
 
 array-share-prefix-ids : tie.Need-array-share-prefix-ids
 array-share-prefix-ids c = numbers-fit _ _ Ids (numbers-read (c .before .read-u32s .ensures))
@@ -24,14 +34,20 @@ slice-aggregate-supp-seats : tie.Need-slice-aggregate-supp-seats
 slice-aggregate-supp-seats c = numbers-long _ _ Ids (numbers-read (c .before .before .read-u32s .ensures))
 
 supp-seats-requires : tie.Need-supp-seats-requires
-supp-seats-requires c κs = (rw (c .before .before .before .before .before .u32-in .ensures) (c .before .before .before .before .before .before .before .before .before .before .pre .1 .few), numbers-short _ _ Ids (numbers-read (c .before .before .before .read-u32s .ensures)))
+supp-seats-requires c κs = (
+  rw (at-u32-in (c .before) .u32-in .ensures) (at-start (at-u32-in (c .before)) .pre .1 .few),
+  numbers-short _ _ Ids (numbers-read (c .before .before .before .read-u32s .ensures)),
+)
 
 same-length : tie.Need-same-length
 same-length c = search needs
 
 returns : tie.Need-returns
 returns c =
-    record { list = supp-laid _ _ (c .before .before .before .before .before .before .before .before .u32-in .ensures) (numbers-read (c .before .before .before .before .before .before .read-u32s .ensures)) _ (c .before .before .supp-seats .ensures) }
+    record {
+      list = supp-laid _ _ (at-u32-in (at-ids3 c) .u32-in .ensures) (numbers-read (at-ids3 c .before .before .read-u32s .ensures)) _
+          (c .before .before .supp-seats .ensures);
+    }
 
 pub supp-in-spec : {M : Type 1} → statement M
 supp-in-spec =

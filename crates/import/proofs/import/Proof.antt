@@ -10,6 +10,38 @@ use Rattle.imported.proofs.Settling.{kept-long, front-edges, stay-settled, impo
 use Rattle.import.proofs.import.Statement.{statement}
 use Rattle.import.proofs.import.Tie as tie
 
+-- places of the course, each a few steps back from a later one
+abbrev at-clear-edges : tie.After-slice-known12 → tie.After-clear-edges
+at-clear-edges p = p .before .before .before .before .before
+
+abbrev at-take-back : tie.After-clear-edges → tie.After-take-back
+at-take-back p = p .before .before .before .before .before .before .before .before .before .before
+
+abbrev at-staying : tie.After-take-back-arg6 → tie.After-staying
+at-staying p = p .before .before .before .before .before .before
+
+abbrev at-put-roots-call : tie.After-staying → tie.After-put-roots-arg2
+at-put-roots-call p = p .before .before .before
+
+abbrev at-is-read : tie.After-put-roots-arg2 → tie.After-is-read
+at-is-read p = p .before .before .before
+
+-- the answer judged, the lines read, and the function's entry, seen from later places
+abbrev judged : tie.After-slice-known12 → tie.After-is-read
+judged p = at-is-read (at-put-roots-call (at-staying (at-take-back (at-clear-edges p) .before)))
+
+abbrev read : tie.After-is-read → tie.After-import-lines
+read p = p .before .before .before .before .before .before .before .before .before .before .before .before .before
+
+abbrev import-lines-before-take-back-call : tie.After-take-back-arg6 → tie.After-import-lines
+import-lines-before-take-back-call p = read (at-is-read (at-put-roots-call (at-staying p)))
+
+abbrev at-start : tie.After-import-lines-arg8 → tie.Start
+at-start p = p .before .before .before .before .before .before .before .before .before .before .before .before .before .before .before
+
+abbrev start : tie.After-import-lines → tie.Start
+start p = at-start (p .before)
+
 -- what the nodes are read by, and the store handed in
 abbrev u : tie.Start → Setup
 u s = ofSetup (s .args .setup) (s .args .list .now) (s .args .levels)
@@ -18,18 +50,8 @@ abbrev σ : tie.Start → Store
 σ s = store (s .args .levels) (s .args .count .now) (s .args .level .now) (s .args .then .now) (s .args .els .now) (s .args .next .now)
     (s .args .heads .now)
 
--- the answer judged, the lines read, and the function's entry, seen from later places
-abbrev judged : tie.After-slice-known12 → tie.After-is-read
-judged c = c .before .before .before .before .before .before .before .before .before .before .before .before .before .before .before .before .before .before .before .before .before .before .before .before .before .before .before .before
-
-abbrev read : tie.After-is-read → tie.After-import-lines
-read c = c .before .before .before .before .before .before .before .before .before .before .before .before .before
-
-abbrev start : tie.After-import-lines → tie.Start
-start c = c .before .before .before .before .before .before .before .before .before .before .before .before .before .before .before .before
-
 import-lines-requires : tie.Need-import-lines-requires
-import-lines-requires c κs = let p = c .before .before .before .before .before .before .before .before .before .before .before .before .before .before .before .pre in record { rules = p .rules; levels-fit = p .levels-fit; bounds = p .bounds }
+import-lines-requires c κs = let p = at-start c .pre in record { rules = p .rules; levels-fit = p .levels-fit; bounds = p .bounds }
 
 with-end-requires : tie.Need-with-end-requires
 with-end-requires c κs = tt
@@ -41,21 +63,30 @@ cast-n : tie.Need-cast-n
 cast-n c = search needs
 
 slice-reshare-prefix-put-roots : tie.Need-slice-reshare-prefix-put-roots
-slice-reshare-prefix-put-roots c = kept-long _ _ _ (read (c .before) .import-lines .kept .1 .1 .1 .1 .1 .1 .1 .1 .1 .1 .1 .0) (start (read (c .before)) .pre .bounds .edges-long)
+slice-reshare-prefix-put-roots c =
+    kept-long _ _ _ (read (c .before) .import-lines .kept .1 .1 .1 .1 .1 .1 .1 .1 .1 .1 .1 .0) (start (read (c .before)) .pre .bounds .edges-long)
 
 slice-aggregate-put-roots : tie.Need-slice-aggregate-put-roots
-slice-aggregate-put-roots c = sym (length-take-le _ _ (kept-long _ _ _ (read (c .before .before) .import-lines .kept .1 .1 .1 .1 .1 .1 .1 .1 .1 .1 .1 .0) (start (read (c .before .before)) .pre .bounds .edges-long)))
+slice-aggregate-put-roots c =
+    sym (length-take-le _ _ (kept-long _ _ _ (read (c .before .before) .import-lines .kept .1 .1 .1 .1 .1 .1 .1 .1 .1 .1 .1 .0)
+    (start (read (c .before .before)) .pre .bounds .edges-long)))
 
 put-roots-requires : tie.Need-put-roots-requires
-put-roots-requires c κs = let s = start (read (c .before .before .before)) in front-edges (u s) (σ s) (s .args .f .now) (s .args .from) (s .pre .rules) (s .pre .levels-fit) _ _ (read (c .before .before .before) .import-lines .ensures .answer) (c .before .before .before .before .with-end .ensures) (c .before .before .before .is-read .ensures) (read (c .before .before .before) .import-lines .ensures .laid)
+put-roots-requires c κs =
+    let s = start (read (c .before .before .before)) in
+    front-edges (u s) (σ s) (s .args .f .now) (s .args .from) (s .pre .rules) (s .pre .levels-fit) _ _
+    (read (c .before .before .before) .import-lines .ensures .answer) (at-is-read c .before .with-end .ensures) (at-is-read c .is-read .ensures)
+    (read (c .before .before .before) .import-lines .ensures .laid)
 
 staying-requires : tie.Need-staying-requires
 staying-requires c κs = tt
 
 take-back-requires : tie.Need-take-back-requires
 take-back-requires c κs =
-    let s = start (read (c .before .before .before .before .before .before .before .before .before .before .before .before)) in
-    let p = stay-settled (u s) (σ s) (s .args .f .now) (s .args .from) (s .pre .rules) (s .pre .levels-fit) (c .before .before .before .before .before .before .before .before .before .before .before .before .is-read .result) (read (c .before .before .before .before .before .before .before .before .before .before .before .before) .import-lines .ensures .store) (c .before .before .before .before .before .before .staying .ensures) in
+    let s = start (import-lines-before-take-back-call c) in
+    let p = stay-settled (u s) (σ s) (s .args .f .now) (s .args .from) (s .pre .rules) (s .pre .levels-fit)
+    (at-is-read (at-put-roots-call (at-staying c)) .is-read .result) (import-lines-before-take-back-call c .import-lines .ensures .store)
+    (at-staying c .staying .ensures) in
     record { rules = p .0; some = p .1 .0; there = p .1 .1 }
 
 clear-edges-requires : tie.Need-clear-edges-requires
@@ -65,28 +96,30 @@ clear-seats-requires : tie.Need-clear-seats-requires
 clear-seats-requires c κs = tt
 
 same-length : tie.Need-same-length
-same-length c = c .before .before .before .before .before .before .before .before .before .before .before .before .before .before .before .take-back .kept .1 .1 .0 ∙ read (judged c) .import-lines .kept .1 .1 .1 .1 .1 .1 .0
+same-length c = at-take-back (at-clear-edges c) .take-back .kept .1 .1 .0 ∙ read (judged c) .import-lines .kept .1 .1 .1 .1 .1 .1 .0
 
 same-length-2 : tie.Need-same-length-2
-same-length-2 c = c .before .before .before .before .before .before .before .before .before .before .before .before .before .before .before .take-back .kept .1 .1 .1 .0 ∙ read (judged c) .import-lines .kept .1 .1 .1 .1 .1 .1 .1 .0
+same-length-2 c = at-take-back (at-clear-edges c) .take-back .kept .1 .1 .1 .0 ∙ read (judged c) .import-lines .kept .1 .1 .1 .1 .1 .1 .1 .0
 
 same-length-3 : tie.Need-same-length-3
-same-length-3 c = c .before .before .before .before .before .before .before .before .before .before .before .before .before .before .before .take-back .kept .1 .1 .1 .1 .0 ∙ read (judged c) .import-lines .kept .1 .1 .1 .1 .1 .1 .1 .1 .0
+same-length-3 c = at-take-back (at-clear-edges c) .take-back .kept .1 .1 .1 .1 .0 ∙ read (judged c) .import-lines .kept .1 .1 .1 .1 .1 .1 .1 .1 .0
 
 same-length-4 : tie.Need-same-length-4
-same-length-4 c = c .before .before .before .before .before .before .before .before .before .before .before .before .before .before .before .take-back .kept .1 .1 .1 .1 .1 .0 ∙ read (judged c) .import-lines .kept .1 .1 .1 .1 .1 .1 .1 .1 .1 .0
+same-length-4 c =
+    at-take-back (at-clear-edges c) .take-back .kept .1 .1 .1 .1 .1 .0 ∙ read (judged c) .import-lines .kept .1 .1 .1 .1 .1 .1 .1 .1 .1 .0
 
 same-length-5 : tie.Need-same-length-5
-same-length-5 c = c .before .before .before .before .before .before .before .before .before .before .before .before .before .before .before .take-back .kept .1 .1 .1 .1 .1 .1 .0 ∙ read (judged c) .import-lines .kept .1 .1 .1 .1 .1 .1 .1 .1 .1 .1 .0
+same-length-5 c =
+    at-take-back (at-clear-edges c) .take-back .kept .1 .1 .1 .1 .1 .1 .0 ∙ read (judged c) .import-lines .kept .1 .1 .1 .1 .1 .1 .1 .1 .1 .1 .0
 
 same-length-6 : tie.Need-same-length-6
-same-length-6 c = c .before .before .before .before .before .clear-edges .kept .0 ∙ read (judged c) .import-lines .kept .1 .1 .1 .1 .1 .1 .1 .1 .1 .1 .1 .0
+same-length-6 c = at-clear-edges c .clear-edges .kept .0 ∙ read (judged c) .import-lines .kept .1 .1 .1 .1 .1 .1 .1 .1 .1 .1 .1 .0
 
 same-length-7 : tie.Need-same-length-7
 same-length-7 c = c .before .before .clear-seats .kept .0 ∙ read (judged c) .import-lines .kept .1 .1 .1 .1 .1 .1 .1 .1 .1 .1 .1 .1 .0
 
 same-length-8 : tie.Need-same-length-8
-same-length-8 c = c .before .before .before .before .before .before .before .before .before .before .before .before .before .before .before .before .before .before .before .before .before .before .before .before .put-roots .kept .1 .1 .0
+same-length-8 c = at-staying (at-take-back (at-clear-edges c) .before) .before .before .put-roots .kept .1 .1 .0
 
 returns : tie.Need-returns
 returns c =
@@ -97,10 +130,10 @@ returns c =
     (read (judged c) .import-lines .ensures .laid)
     (judged c .before .with-end .ensures)
     (judged c .is-read .ensures)
-    (c .before .before .before .before .before .before .before .before .before .before .before .before .before .before .before .before .before .before .before .before .before .before .before .before .put-roots .ensures)
-    (c .before .before .before .before .before .before .before .before .before .before .before .before .before .before .before .before .before .before .before .before .before .before .staying .ensures)
-    (c .before .before .before .before .before .before .before .before .before .before .before .before .before .before .before .take-back .ensures .store)
-    (c .before .before .before .before .before .clear-edges .ensures)
+    (at-staying (at-take-back (at-clear-edges c) .before) .before .before .put-roots .ensures)
+    (at-staying (at-take-back (at-clear-edges c) .before) .staying .ensures)
+    (at-take-back (at-clear-edges c) .take-back .ensures .store)
+    (at-clear-edges c .clear-edges .ensures)
     (read (judged c) .import-lines .kept .1 .1 .1 .1 .1 .1 .1 .1 .1 .1 .1 .0)
     (c .before .before .clear-seats .ensures)
     (read (judged c) .import-lines .kept .1 .1 .1 .1 .1 .1 .1 .1 .1 .1 .1 .1 .0) in

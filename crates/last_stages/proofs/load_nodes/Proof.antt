@@ -8,24 +8,31 @@ use Rattle.last_stages.proofs.Nodes.{few-nodes, import-may, nodes-noded
 use Rattle.last_stages.proofs.load_nodes.Statement.{statement}
 use Rattle.last_stages.proofs.load_nodes.Tie as tie
 
+-- places of the course, each a few steps back from a later one
+abbrev at-clear-edges2 : tie.After-slice-known9 → tie.After-clear-edges2
+at-clear-edges2 p = p .before .before .before .before .before
+
+-- and the refusal that is handed on
+abbrev refused : tie.After-slice-known9 → tie.After-ready2
+refused p = at-clear-edges2 p .before .before .before .before .before .before
+
+-- the import, the question for an extra word, and the function's entry, seen from later places
+abbrev imported : tie.After-with-nodes → tie.After-import
+imported p = p .before .before .before .before .before .before .before .before .before .before .before .before .before
+
+abbrev asked : tie.After-import-arg9 → tie.After-has-extra
+asked p = p .before .before .before .before .before .before .before .before .before
+
+abbrev at-start : tie.After-ready2 → tie.Start
+at-start p = p .before .before .before .before .before .before .before .before
+
+abbrev start : tie.After-ready → tie.Start
+start p = p .before .before .before .before .before .before .before .before
+
 -- the store handed in
 abbrev σ : tie.Start → Store
 σ s = store (s .args .levels) (s .args .count .now) (s .args .level .now) (s .args .then .now) (s .args .els .now) (s .args .next .now)
     (s .args .heads .now)
-
--- the import, the question for an extra word, and the function's entry, seen from later places
-abbrev imported : tie.After-with-nodes → tie.After-import
-imported c = c .before .before .before .before .before .before .before .before .before .before .before .before .before
-
-abbrev asked : tie.After-import-arg9 → tie.After-has-extra
-asked c = c .before .before .before .before .before .before .before .before .before
-
-abbrev start : tie.After-ready → tie.Start
-start c = c .before .before .before .before .before .before .before .before
-
--- and the refusal that is handed on
-abbrev refused : tie.After-slice-known9 → tie.After-ready2
-refused c = c .before .before .before .before .before .before .before .before .before .before .before
 
 enum-known-ready : tie.Need-enum-known-ready
 enum-known-ready c = search needs
@@ -100,10 +107,10 @@ returns c =
     }
 
 same-length-9 : tie.Need-same-length-9
-same-length-9 c = c .before .before .before .before .before .before .before .before .clear-edges .kept .0
+same-length-9 c = at-clear-edges2 c .before .before .before .clear-edges .kept .0
 
 same-length-10 : tie.Need-same-length-10
-same-length-10 c = c .before .before .before .before .before .clear-edges2 .kept .0
+same-length-10 c = at-clear-edges2 c .clear-edges2 .kept .0
 
 same-length-11 : tie.Need-same-length-11
 same-length-11 c = c .before .before .clear-seats .kept .0
@@ -111,14 +118,14 @@ same-length-11 c = c .before .before .clear-seats .kept .0
 returns-2 : tie.Need-returns-2
 returns-2 c =
     let m = refused c in
-    let s = m .before .before .before .before .before .before .before .before in
+    let s = at-start m in
     let a = s .args in
     let e = nodes-none (a .ready) (σ s) (a .list .now) _ _ (m .ready2 .given .1) (a .f .now) (a .roots .now) in
     record {
       answer = ap (λ n. n .answer) e;
       store = ap (λ n. n .after) e;
-      roots-left = c .before .before .before .before .before .before .before .before .clear-edges .ensures ∙ ap (λ n. n .roots) e;
-      edges-left = c .before .before .before .before .before .clear-edges2 .ensures;
+      roots-left = at-clear-edges2 c .before .before .before .clear-edges .ensures ∙ ap (λ n. n .roots) e;
+      edges-left = at-clear-edges2 c .clear-edges2 .ensures;
       seats-left = c .before .before .clear-seats .ensures;
     }
 

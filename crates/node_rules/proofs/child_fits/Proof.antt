@@ -12,6 +12,10 @@ use Rattle.node_rules.proofs.Fit.{depth-top, depth-node, child-deep}
 use Rattle.node_rules.proofs.child_fits.Statement.{statement}
 use Rattle.node_rules.proofs.child_fits.Tie as tie
 
+-- places of the course, each a few steps back from a later one
+abbrev at-magnitude : tie.After-shared-slice-known2 → tie.After-magnitude
+at-magnitude p = p .before .before .before .before
+
 magnitude-requires : tie.Need-magnitude-requires
 magnitude-requires c κs = search needs
 
@@ -40,7 +44,10 @@ shared-slice-read-deep : tie.Need-shared-slice-read-deep
 shared-slice-read-deep c = search needs
 
 returns-4 : tie.Need-returns-4
-returns-4 c = child-deep _ _ _ _ _ _ (child (c .before .before .before .before)) (omega arith) (omega arith) (depth-node (store (c .before .before .before .before .before .before .args .levels) 0 (c .before .before .before .before .before .before .args .level .now) [] [] [] []) _ (omega arith))
+returns-4 c =
+    child-deep _ _ _ _ _ _ (child (at-magnitude c)) (omega arith) (omega arith)
+    (depth-node (store (at-magnitude c .before .before .args .levels) 0 (at-magnitude c .before .before .args .level .now) [] [] [] []) _
+    (omega arith))
 
 pub child-fits-spec : {M : Type 1} → statement M
 child-fits-spec =

@@ -24,6 +24,13 @@ Inv-loop levels count level then els n₀ n =
 abbrev μ-loop : tie.MeasureT-loop
 μ-loop levels count level then els n₀ n = count + 1 - n
 
+-- places of the course, each a few steps back from a later one
+abbrev at-loop : tie.After-node-fits Inv-loop μ-loop → tie.At-loop Inv-loop μ-loop
+at-loop p = p .before .before .before .before .before
+
+abbrev start-before-node-fits : tie.After-node-fits Inv-loop μ-loop → tie.Start Inv-loop μ-loop
+start-before-node-fits p = at-loop p .before .before
+
 loop-holds : tie.Need-loop-holds Inv-loop μ-loop
 loop-holds c = tested-start _ _ _ (omega arith)
 
@@ -56,16 +63,20 @@ node-fits-requires c κs = search needs
 
 -- the answer about node n
 said : (c : tie.After-node-fits Inv-loop μ-loop) → Decides (c .node-fits .result)
-    (Fits (store (c .before .before .before .before .before .before .before .args .levels) (c .before .before .before .before .before .before .before .args .count) (c .before .before .before .before .before .before .before .args .level .now) (c .before .before .before .before .before .before .before .args .then .now) (c .before .before .before .before .before .before .before .args .els .now) [] []) (c .before .before .before .before .before .loop .n)
-    (getD (c .before .before .before .before .before .before .before .args .level .now) (c .before .before .before .before .before .loop .n - 1) 0) (getD (c .before .before .before .before .before .before .before .args .then .now) (c .before .before .before .before .before .loop .n - 1) (pos 0)) (getD (c .before .before .before .before .before .before .before .args .els .now) (c .before .before .before .before .before .loop .n - 1) (pos 0)))
+    (Fits (store (start-before-node-fits c .args .levels) (start-before-node-fits c .args .count) (start-before-node-fits c .args .level .now)
+    (start-before-node-fits c .args .then .now) (start-before-node-fits c .args .els .now) [] []) (at-loop c .loop .n)
+    (getD (start-before-node-fits c .args .level .now) (at-loop c .loop .n - 1) 0)
+    (getD (start-before-node-fits c .args .then .now) (at-loop c .loop .n - 1) (pos 0))
+    (getD (start-before-node-fits c .args .els .now) (at-loop c .loop .n - 1) (pos 0)))
 said c = decides-as (fits-same _ _ refl refl _ _ _ _) (fits-same _ _ refl refl _ _ _ _)
     (rw (
-      toZ-ofZ w16 (getD (c .before .before .before .before .before .before .before .args .then .now) (c .before .before .before .before .before .loop .n - 1) (pos 0)) (record { sfits = c .before .before .t .given }),
-      toZ-ofZ w16 (getD (c .before .before .before .before .before .before .before .args .els .now) (c .before .before .before .before .before .loop .n - 1) (pos 0)) (record { sfits = c .before .e .given }),
+      toZ-ofZ w16 (getD (start-before-node-fits c .args .then .now) (at-loop c .loop .n - 1) (pos 0))
+          (record { sfits = c .before .before .t .given }),
+      toZ-ofZ w16 (getD (start-before-node-fits c .args .els .now) (at-loop c .loop .n - 1) (pos 0)) (record { sfits = c .before .e .given }),
     ) at (c .node-fits .ensures))
 
 returns : tie.Need-returns Inv-loop μ-loop
-returns c = tested-bad _ _ _ (c .before .before .before .before .before .before .loop .inv) (omega arith) (said (c .before) .no (not-true _ (c .if1 .taken)))
+returns c = tested-bad _ _ _ (at-loop (c .before) .loop .inv) (omega arith) (said (c .before) .no (not-true _ (c .if1 .taken)))
 
 add-n : tie.Need-add-n Inv-loop μ-loop
 add-n c = search needs
@@ -74,7 +85,7 @@ loop-less : tie.Need-loop-less Inv-loop μ-loop
 loop-less c = search needs
 
 loop-again : tie.Need-loop-again Inv-loop μ-loop
-loop-again c = tested-more _ _ _ (c .before .before .before .before .before .before .loop .inv) (omega arith) (said (c .before) .yes (not-false _ (c .if1 .left)))
+loop-again c = tested-more _ _ _ (at-loop (c .before) .loop .inv) (omega arith) (said (c .before) .yes (not-false _ (c .if1 .left)))
 
 returns-2 : tie.Need-returns-2 Inv-loop μ-loop
 returns-2 c = tested-end _ _ _ (c .before .loop .inv) (omega arith)

@@ -13,6 +13,28 @@ use Rattle.nodes.proofs.Opposite.{turned-back, insert-turns, make-child
 use Rattle.nodes.proofs.make.Statement.{statement}
 use Rattle.nodes.proofs.make.Tie as tie
 
+-- places of the course, each a few steps back from a later one
+abbrev at-insert : tie.After-slice-known8 → tie.After-insert
+at-insert p = p .before .before .before .before .before .before .before .before .before .before
+
+abbrev at-complement2 : tie.After-insert-arg7 → tie.After-complement2
+at-complement2 p = p .before .before .before .before .before .before .before
+
+abbrev at-is-minus : tie.After-complement2 → tie.After-is-minus
+at-is-minus p = p .before .before
+
+abbrev is-minus-before-slice-known8 : tie.After-slice-known8 → tie.After-is-minus
+is-minus-before-slice-known8 p = at-is-minus (at-complement2 (at-insert p .before))
+
+abbrev at-same : tie.After-is-minus → tie.After-same
+at-same p = p .before .before
+
+abbrev same-before-insert-call : tie.After-insert-arg7 → tie.After-same
+same-before-insert-call p = at-same (at-is-minus (at-complement2 p))
+
+abbrev at-start : tie.After-same → tie.Start
+at-start p = p .before .before .before .before .before
+
 -- the store at the start, of which both children are edges
 abbrev σ : tie.Start → Store
 σ s =
@@ -25,37 +47,40 @@ else-edge : (s : tie.Start) → IsEdge (s .args .e)
 else-edge s = omega (arith, s .pre .children .else-there, s .pre .rules .sizes .count-limit)
 
 -- what the calls said, of the edges themselves
-compared : (c : tie.After-same) → let s = c .before .before .before .before .before in c .same .result ≡ eqZ (s .args .t) (s .args .e)
+compared : (c : tie.After-same) → let s = at-start c in c .same .result ≡ eqZ (s .args .t) (s .args .e)
 compared c =
-    let s = c .before .before .before .before .before in
+    let s = at-start c in
     rw (toZ-ofZ w16 (s .args .t) (s .fits .t), toZ-ofZ w16 (s .args .e) (s .fits .e)) at (c .same .ensures)
 
-signed : (c : tie.After-is-minus) → let s = c .before .before .before .before .before .before .before in c .is-minus .result ≡ minus (s .args .t)
-signed c = let s = c .before .before .before .before .before .before .before in rw (toZ-ofZ w16 (s .args .t) (s .fits .t)) at (c .is-minus .ensures)
+signed : (c : tie.After-is-minus) → let s = at-start (at-same c) in c .is-minus .result ≡ minus (s .args .t)
+signed c = let s = at-start (at-same c) in rw (toZ-ofZ w16 (s .args .t) (s .fits .t)) at (c .is-minus .ensures)
 
 same-requires : tie.Need-same-requires
 same-requires c κs = search needs
 
 returns : tie.Need-returns
 returns c =
-    let s = c .before .before .before .before .before .before in
-    let r = make-child limits (σ s) _ (s .args .t) (s .args .e) _ (compared (c .before)) (c .if1 .taken) _ (ap value (toZ-ofZ w16 (s .args .t) (s .fits .t))) in
+    let s = at-start (c .before) in
+    let r = make-child limits (σ s) _ (s .args .t) (s .args .e) _ (compared (c .before)) (c .if1 .taken) _
+    (ap value (toZ-ofZ w16 (s .args .t) (s .fits .t))) in
     record { answer = r .0; store = r .1; known = s .pre .known }
 
 is-minus-requires : tie.Need-is-minus-requires
 is-minus-requires c κs = search needs
 
 complement-requires : tie.Need-complement-requires
-complement-requires c κs = let s = c .before .before .before .before .before .before .before in rw (toZ-ofZ w16 (s .args .t) (s .fits .t)) (then-edge s)
+complement-requires c κs = let s = at-start (at-same c) in rw (toZ-ofZ w16 (s .args .t) (s .fits .t)) (then-edge s)
 
 complement-requires-2 : tie.Need-complement-requires-2
-complement-requires-2 c κs = let s = c .before .before .before .before .before .before .before .before in rw (toZ-ofZ w16 (s .args .e) (s .fits .e)) (else-edge s)
+complement-requires-2 c κs = let s = at-start (at-same (c .before)) in rw (toZ-ofZ w16 (s .args .e) (s .fits .e)) (else-edge s)
 
 insert-requires : tie.Need-insert-requires
-insert-requires c κs = let s = c .before .before .before .before .before .before .before .before .before .before .before .before .before .before .before .before in (s .pre .rules, s .pre .known)
+insert-requires c κs = let s = at-start (same-before-insert-call c) in (s .pre .rules, s .pre .known)
 
 complement-made-requires : tie.Need-complement-made-requires
-complement-made-requires c κs = let s = c .before .before .before .before .before .before .before .before .before .before .before .before .before .before .before .before .before .before .before .before .before .before .before .before .before .before .before in insert-turns (σ s) _ _ _ (s .pre .rules .sizes) (c .before .before .before .before .before .before .before .before .before .before .insert .result) (c .before .before .before .before .before .before .before .before .before .before .insert .ensures .answer)
+complement-made-requires c κs =
+    let s = at-start (at-same (is-minus-before-slice-known8 c)) in
+    insert-turns (σ s) _ _ _ (s .pre .rules .sizes) (at-insert c .insert .result) (at-insert c .insert .ensures .answer)
 
 same-length : tie.Need-same-length
 same-length c = search needs
@@ -77,14 +102,17 @@ same-length-6 c = search needs
 
 returns-2 : tie.Need-returns-2
 returns-2 c =
-    let s = c .before .before .before .before .before .before .before .before .before .before .before .before .before .before .before .before .before .before .before .before .before .before .before .before .before .before .before .before in
-    let y = c .before .before .before .before .before .before .before .before .before .before .before .before .before .before .before .before .before .before .before .before .before .is-minus .result in
-    let a = turned-back y (s .args .t) (then-edge s) _ (c .before .before .before .before .before .before .before .before .before .before .before .before .before .before .before .before .before .before .before .before .complement .ensures) in
-    let b = turned-back y (s .args .e) (else-edge s) _ (c .before .before .before .before .before .before .before .before .before .before .before .before .before .before .before .before .before .before .before .complement2 .ensures) in
-    let i = c .before .before .before .before .before .before .before .before .before .before .before .insert .ensures in
+    let s = at-start (at-same (is-minus-before-slice-known8 (c .before))) in
+    let y = is-minus-before-slice-known8 (c .before) .is-minus .result in
+    let a = turned-back y (s .args .t) (then-edge s) _ (at-complement2 (at-insert (c .before) .before) .before .complement .ensures) in
+    let b = turned-back y (s .args .e) (else-edge s) _ (at-complement2 (at-insert (c .before) .before) .complement2 .ensures) in
+    let i = at-insert (c .before) .insert .ensures in
     record {
-      answer = make-answer limits (σ s) _ (s .args .t) (s .args .e) _ (compared (c .before .before .before .before .before .before .before .before .before .before .before .before .before .before .before .before .before .before .before .before .before .before .before)) (c .before .before .before .before .before .before .before .before .before .before .before .before .before .before .before .before .before .before .before .before .before .before .if1 .left) y (signed (c .before .before .before .before .before .before .before .before .before .before .before .before .before .before .before .before .before .before .before .before .before)) _ _ a b _ _ (i .answer) (c .complement-made .ensures);
-      store = rw (← make-after limits (σ s) _ (s .args .t) (s .args .e) _ (compared (c .before .before .before .before .before .before .before .before .before .before .before .before .before .before .before .before .before .before .before .before .before .before .before)) (c .before .before .before .before .before .before .before .before .before .before .before .before .before .before .before .before .before .before .before .before .before .before .if1 .left) y (signed (c .before .before .before .before .before .before .before .before .before .before .before .before .before .before .before .before .before .before .before .before .before)) _ _ a b) (i .store);
+      answer = make-answer limits (σ s) _ (s .args .t) (s .args .e) _ (compared (at-same (is-minus-before-slice-known8 (c .before))))
+          (is-minus-before-slice-known8 (c .before) .before .if1 .left) y (signed (is-minus-before-slice-known8 (c .before))) _ _ a b _ _ (i .answer)
+          (c .complement-made .ensures);
+      store = rw (← make-after limits (σ s) _ (s .args .t) (s .args .e) _ (compared (at-same (is-minus-before-slice-known8 (c .before))))
+          (is-minus-before-slice-known8 (c .before) .before .if1 .left) y (signed (is-minus-before-slice-known8 (c .before))) _ _ a b) (i .store);
       known = i .known;
     }
 

@@ -14,17 +14,31 @@ Inv-loop levels count₀ level₀ then₀ els₀ next₀ heads₀ to count level
 abbrev μ-loop : tie.MeasureT-loop
 μ-loop levels count₀ level₀ then₀ els₀ next₀ heads₀ to count level then els next heads = count
 
+-- places of the course, each a few steps back from a later one
+abbrev at-drop-node : tie.After-slice-known6 Inv-loop μ-loop → tie.After-drop-node Inv-loop μ-loop
+at-drop-node p = p .before .before .before .before .before .before .before .before
+
+abbrev in-loop : tie.After-drop-node-arg6 Inv-loop μ-loop → tie.In-loop Inv-loop μ-loop
+in-loop p = p .before .before .before .before .before .before
+
+abbrev at-start : tie.In-loop Inv-loop μ-loop → tie.Start Inv-loop μ-loop
+at-start p = p .before .before .before .before .before
+
 loop-holds : tie.Need-loop-holds Inv-loop μ-loop
 loop-holds c = let s = c .before .before .before in return-start _ _ _ (s .pre .rules) (s .pre .there)
 
 drop-node-requires : tie.Need-drop-node-requires Inv-loop μ-loop
-drop-node-requires c κs = c .before .before .before .before .before .before .before .loop .inv .rules .sizes
+drop-node-requires c κs = in-loop c .before .loop .inv .rules .sizes
 
 loop-less : tie.Need-loop-less Inv-loop μ-loop
-loop-less c = return-less _ _ _ _ (c .before .before .before .before .before .before .before .before .before .before .before .before .before .before .before .before .loop .inv) (c .before .before .before .before .before .before .before .before .before .before .before .before .before .before .before .loop-test .taken) _ (c .before .before .before .before .before .before .before .before .drop-node .ensures)
+loop-less c =
+    return-less _ _ _ _ (in-loop (at-drop-node c .before) .before .loop .inv) (in-loop (at-drop-node c .before) .loop-test .taken) _
+    (at-drop-node c .drop-node .ensures)
 
 loop-again : tie.Need-loop-again Inv-loop μ-loop
-loop-again c = return-more _ _ _ _ (c .before .before .before .before .before .before .before .before .before .before .before .before .before .before .before .before .loop .inv) (c .before .before .before .before .before .before .before .before .before .before .before .before .before .before .before .before .before .before .before .before .pre .some) (c .before .before .before .before .before .before .before .before .before .before .before .before .before .before .before .loop-test .taken) _ (c .before .before .before .before .before .before .before .before .drop-node .ensures)
+loop-again c =
+    return-more _ _ _ _ (in-loop (at-drop-node c .before) .before .loop .inv) (at-start (in-loop (at-drop-node c .before)) .pre .some)
+    (in-loop (at-drop-node c .before) .loop-test .taken) _ (at-drop-node c .drop-node .ensures)
 
 same-length : tie.Need-same-length Inv-loop μ-loop
 same-length c = search needs

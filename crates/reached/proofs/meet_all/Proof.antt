@@ -22,6 +22,22 @@ Inv-loop then els roots met₀ marks₀ at₀ i₀ met marks at i =
 abbrev μ-loop : tie.MeasureT-loop
 μ-loop then els roots met₀ marks₀ at₀ i₀ met marks at i = length roots - i
 
+-- places of the course, each a few steps back from a later one
+abbrev at-meet : tie.After-slice-known4 Inv-loop μ-loop → tie.After-meet Inv-loop μ-loop
+at-meet p = p .before .before .before .before
+
+abbrev at-magnitude : tie.After-meet Inv-loop μ-loop → tie.After-magnitude Inv-loop μ-loop
+at-magnitude p = p .before .before .before
+
+abbrev in-loop : tie.After-magnitude Inv-loop μ-loop → tie.In-loop Inv-loop μ-loop
+in-loop p = p .before .before
+
+abbrev at-start : tie.At-loop Inv-loop μ-loop → tie.Start Inv-loop μ-loop
+at-start p = p .before .before .before
+
+abbrev start-before-slice-known4 : tie.After-slice-known4 Inv-loop μ-loop → tie.Start Inv-loop μ-loop
+start-before-slice-known4 p = at-start (in-loop (at-magnitude (at-meet p)) .before)
+
 loop-holds : tie.Need-loop-holds Inv-loop μ-loop
 loop-holds c = (roots-start _ _ _ _ (c .before .before .pre .1 .1), refl)
 
@@ -36,25 +52,31 @@ magnitude-requires c κs = search needs
 
 -- the node of a root
 node : (c : tie.After-magnitude Inv-loop μ-loop)
-    → c .magnitude .result ≡ natAbs (getD (c .before .before .before .before .before .before .args .roots .now) (c .before .before .before .loop .i) (pos 0))
-node c = c .magnitude .ensures ∙ abs-back w16 (getD (c .before .before .before .before .before .before .args .roots .now) (c .before .before .before .loop .i) (pos 0)) (record { sfits = c .before .magnitude-arg .given })
+    → c .magnitude .result ≡ natAbs (getD (at-start (in-loop c .before) .args .roots .now) (in-loop c .before .loop .i) (pos 0))
+node c =
+    c .magnitude .ensures ∙ abs-back w16 (getD (at-start (in-loop c .before) .args .roots .now) (in-loop c .before .loop .i) (pos 0))
+    (record { sfits = c .before .magnitude-arg .given })
 
 meet-requires : tie.Need-meet-requires Inv-loop μ-loop
 meet-requires c κs =
-    let l = c .before .before .before .before .before .loop in
-    roots-next (l .inv .0) (c .before .before .before .before .before .before .before .before .pre .0) (c .before .before .before .before .loop-test .taken) (node (c .before .before)) (l .inv .1)
+    let l = in-loop (c .before .before) .before .loop in
+    roots-next (l .inv .0) (at-start (in-loop (c .before .before) .before) .pre .0) (in-loop (c .before .before) .loop-test .taken)
+    (node (c .before .before)) (l .inv .1)
 
 add-i : tie.Need-add-i Inv-loop μ-loop
 add-i c = search needs
 
 loop-less : tie.Need-loop-less Inv-loop μ-loop
-loop-less c = omega (arith, c .before .before .before .before .before .before .before .before .before .loop-test .taken)
+loop-less c = omega (arith, in-loop (at-magnitude (at-meet c)) .loop-test .taken)
 
 loop-again : tie.Need-loop-again Inv-loop μ-loop
 loop-again c =
-    let l = c .before .before .before .before .before .before .before .before .before .before .loop in
-    let k = c .before .before .before .before .meet in
-    (roots-more (l .inv .0) (c .before .before .before .before .before .before .before .before .before .before .before .before .before .pre .0) (c .before .before .before .before .before .before .before .before .before .loop-test .taken) (node (c .before .before .before .before .before .before .before)) (k .ensures), k .kept .1 .1 .1 .1 .0 ∙ l .inv .1)
+    let l = in-loop (at-magnitude (at-meet c)) .before .loop in
+    let k = at-meet c .meet in (
+      roots-more (l .inv .0) (start-before-slice-known4 c .pre .0) (in-loop (at-magnitude (at-meet c)) .loop-test .taken)
+          (node (at-magnitude (at-meet c))) (k .ensures),
+      k .kept .1 .1 .1 .1 .0 ∙ l .inv .1,
+    )
 
 same-length : tie.Need-same-length Inv-loop μ-loop
 same-length c = roots-length (c .before .loop .inv .0)
@@ -65,7 +87,7 @@ same-length-2 c = c .before .loop .inv .1
 returns : tie.Need-returns Inv-loop μ-loop
 returns c =
     let l = roots-end (c .before .loop .inv .0) (c .loop-test .left) in
-    record { many = l .many; lies = l .lies ∙ ap (laid _) (c .before .before .before .before .pre .1 .0); marked = l .marked }
+    record { many = l .many; lies = l .lies ∙ ap (laid _) (at-start (c .before) .pre .1 .0); marked = l .marked }
 
 pub meet-all-spec : {M : Type 1} → statement M
 meet-all-spec =

@@ -21,6 +21,16 @@ Inv-loop count level then els next heads newest₀ n₀ newest n = Passed (store
 abbrev μ-loop : tie.MeasureT-loop
 μ-loop count level then els next heads newest₀ n₀ newest n = count + 1 - n
 
+-- places of the course, each a few steps back from a later one
+abbrev in-loop : tie.After-bucket Inv-loop μ-loop → tie.In-loop Inv-loop μ-loop
+in-loop p = p .before .before .before .before
+
+abbrev at-start : tie.At-loop Inv-loop μ-loop → tie.Start Inv-loop μ-loop
+at-start p = p .before .before .before .before
+
+abbrev start-before-bucket : tie.After-bucket Inv-loop μ-loop → tie.Start Inv-loop μ-loop
+start-before-bucket p = at-start (in-loop p .before)
+
 loop-holds : tie.Need-loop-holds Inv-loop μ-loop
 loop-holds c = pass-start _ _ (c .before .before .before .pre .0 .0) refl (λ b h. getD-replicate 256 b 0 0 h)
 
@@ -59,16 +69,19 @@ shared-slice-read-x c = search needs
 
 -- the bucket of node n
 own : (c : tie.After-bucket Inv-loop μ-loop) → c .bucket .result
-    ≡ bucket (store 0 (c .before .before .before .before .before .before .before .before .before .args .count) (c .before .before .before .before .before .before .before .before .before .args .level .now) (c .before .before .before .before .before .before .before .before .before .args .then .now) (c .before .before .before .before .before .before .before .before .before .args .els .now) (c .before .before .before .before .before .before .before .before .before .args .next .now) (c .before .before .before .before .before .before .before .before .before .args .heads .now)) (c .before .before .before .before .before .loop .n)
+    ≡ bucket (store 0 (start-before-bucket c .args .count) (start-before-bucket c .args .level .now) (start-before-bucket c .args .then .now)
+    (start-before-bucket c .args .els .now) (start-before-bucket c .args .next .now) (start-before-bucket c .args .heads .now))
+    (in-loop c .before .loop .n)
 unfolding bucket
 own c =
     rw (
-      toZ-ofZ w16 (getD (c .before .before .before .before .before .before .before .before .before .args .then .now) (c .before .before .before .before .before .loop .n - 1) (pos 0)) (record { sfits = c .before .before .t .given }),
-      toZ-ofZ w16 (getD (c .before .before .before .before .before .before .before .before .before .args .els .now) (c .before .before .before .before .before .loop .n - 1) (pos 0)) (record { sfits = c .before .e .given }),
+      toZ-ofZ w16 (getD (start-before-bucket c .args .then .now) (in-loop c .before .loop .n - 1) (pos 0))
+          (record { sfits = c .before .before .t .given }),
+      toZ-ofZ w16 (getD (start-before-bucket c .args .els .now) (in-loop c .before .loop .n - 1) (pos 0)) (record { sfits = c .before .e .given }),
     ) at (c .bucket .ensures)
 
 low : (c : tie.After-bucket Inv-loop μ-loop) → c .bucket .result < 256
-low c = pass-low _ _ _ _ (c .before .before .before .before .before .loop .inv) (c .before .before .before .before .loop-test .taken) (own c)
+low c = pass-low _ _ _ _ (in-loop c .before .loop .inv) (in-loop c .loop-test .taken) (own c)
 
 mul-y : tie.Need-mul-y Inv-loop μ-loop
 mul-y c = omega (arith, low (c .before))
@@ -77,7 +90,9 @@ array-read-y : tie.Need-array-read-y Inv-loop μ-loop
 array-read-y c = low (c .before)
 
 returns : tie.Need-returns Inv-loop μ-loop
-returns c = says-no (pass-bad _ _ _ _ (c .before .before .before .before .before .before .before .loop .inv) (c .before .before .before .before .before .before .loop-test .taken) (own (c .before .before)) (c .if1 .taken))
+returns c =
+    says-no (pass-bad _ _ _ _ (in-loop (c .before .before) .before .loop .inv) (in-loop (c .before .before) .loop-test .taken)
+    (own (c .before .before)) (c .if1 .taken))
 
 mul-newest : tie.Need-mul-newest Inv-loop μ-loop
 mul-newest c = omega (arith, low (c .before .before))
@@ -86,16 +101,18 @@ array-write-newest : tie.Need-array-write-newest Inv-loop μ-loop
 array-write-newest c = low (c .before .before)
 
 add-n : tie.Need-add-n Inv-loop μ-loop
-add-n c = omega (arith, c .before .before .before .before .before .before .loop-test .taken, c .before .before .before .before .before .before .before .before .before .before .before .pre .0 .1)
+add-n c = omega (arith, in-loop (c .before .before) .loop-test .taken, start-before-bucket (c .before .before) .pre .0 .1)
 
 loop-less : tie.Need-loop-less Inv-loop μ-loop
-loop-less c = omega (arith, c .before .before .before .before .before .before .loop-test .taken)
+loop-less c = omega (arith, in-loop (c .before .before) .loop-test .taken)
 
 loop-again : tie.Need-loop-again Inv-loop μ-loop
-loop-again c = pass-more _ _ _ _ (c .before .before .before .before .before .before .before .loop .inv) (c .before .before .before .before .before .before .loop-test .taken) (own (c .before .before)) (c .if1 .left)
+loop-again c =
+    pass-more _ _ _ _ (in-loop (c .before .before) .before .loop .inv) (in-loop (c .before .before) .loop-test .taken) (own (c .before .before))
+    (c .if1 .left)
 
 heads-newest-requires : tie.Need-heads-newest-requires Inv-loop μ-loop
-heads-newest-requires c κs = c .before .before .before .before .before .before .pre .1 .1
+heads-newest-requires c κs = at-start (c .before .before) .pre .1 .1
 
 returns-2 : tie.Need-returns-2 Inv-loop μ-loop
 returns-2 c = pass-end _ _ _ (c .before .before .before .loop .inv) (c .before .before .loop-test .left) (c .heads-newest .ensures)

@@ -14,6 +14,10 @@ Inv-loop heads newest b₀ b = Tested (λ i. getD heads i 0 ≡ getD newest i 0)
 abbrev μ-loop : tie.MeasureT-loop
 μ-loop heads newest b₀ b = 256 - b
 
+-- places of the course, each a few steps back from a later one
+abbrev at-loop : tie.After-y Inv-loop μ-loop → tie.At-loop Inv-loop μ-loop
+at-loop p = p .before .before .before
+
 loop-holds : tie.Need-loop-holds Inv-loop μ-loop
 loop-holds c = tested-start _ _ _ (omega arith)
 
@@ -30,7 +34,9 @@ element-copy-out-y : tie.Need-element-copy-out-y Inv-loop μ-loop
 element-copy-out-y c = search needs
 
 returns : tie.Need-returns Inv-loop μ-loop
-returns c = decides-as (λ f b h. f b (omega arith) (omega arith)) (λ f b p h. f b (omega arith)) (tested-bad _ _ _ (c .before .before .before .before .loop .inv) (omega arith) (c .if1 .taken))
+returns c =
+    decides-as (λ f b h. f b (omega arith) (omega arith)) (λ f b p h. f b (omega arith))
+    (tested-bad _ _ _ (at-loop (c .before) .loop .inv) (omega arith) (c .if1 .taken))
 
 add-b : tie.Need-add-b Inv-loop μ-loop
 add-b c = search needs
@@ -39,7 +45,7 @@ loop-less : tie.Need-loop-less Inv-loop μ-loop
 loop-less c = search needs
 
 loop-again : tie.Need-loop-again Inv-loop μ-loop
-loop-again c = tested-more _ _ _ (c .before .before .before .before .loop .inv) (omega arith) (c .if1 .left)
+loop-again c = tested-more _ _ _ (at-loop (c .before) .loop .inv) (omega arith) (c .if1 .left)
 
 returns-2 : tie.Need-returns-2 Inv-loop μ-loop
 returns-2 c = decides-as (λ f b h. f b (omega arith) (omega arith)) (λ f b p h. f b (omega arith)) (tested-end _ _ _ (c .before .loop .inv) (omega arith))

@@ -10,17 +10,35 @@ use Rattle.rules.proofs.Parts.{sizes-count, sizes-nodes, sizes-slots, s
 use Rattle.rules.proofs.keeps_rules.Statement.{statement}
 use Rattle.rules.proofs.keeps_rules.Tie as tie
 
+-- places of the course, each a few steps back from a later one
+abbrev at-else3 : tie.Else4 → tie.Else3
+at-else3 p = p .before .before
+
+abbrev at-else1 : tie.Else3 → tie.Else1
+at-else1 p = p .before .before .before .before
+
+abbrev at-start : tie.Else1 → tie.Start
+at-start p = p .before .before .before .before .before
+
 -- what the parts that said yes say
-sizes : (c : tie.Else1) → Sizes limits (store (c .before .before .before .before .before .args .levels) (c .before .before .before .before .before .args .count) (c .before .before .before .before .before .args .level .now) (c .before .before .before .before .before .args .then .now) (c .before .before .before .before .before .args .els .now) (c .before .before .before .before .before .args .next .now) (c .before .before .before .before .before .args .heads .now))
+sizes : (c : tie.Else1) → Sizes limits
+    (store (at-start c .args .levels) (at-start c .args .count) (at-start c .args .level .now) (at-start c .args .then .now)
+    (at-start c .args .els .now) (at-start c .args .next .now) (at-start c .args .heads .now))
 sizes c = c .before .sizes-kept .ensures .yes (not-false _ (c .if1 .left))
 
-fit : (c : tie.Else2) → AllFit (store (c .before .before .before .before .before .before .before .args .levels) (c .before .before .before .before .before .before .before .args .count) (c .before .before .before .before .before .before .before .args .level .now) (c .before .before .before .before .before .before .before .args .then .now) (c .before .before .before .before .before .before .before .args .els .now) [] [])
+fit : (c : tie.Else2) → AllFit (store (at-start (c .before .before) .args .levels) (at-start (c .before .before) .args .count)
+    (at-start (c .before .before) .args .level .now) (at-start (c .before .before) .args .then .now) (at-start (c .before .before) .args .els .now) []
+    [])
 fit c = c .before .nodes-fit .ensures .yes (not-false _ (c .if2 .left))
 
-chains : (c : tie.Else3) → Chains (store 0 (c .before .before .before .before .before .before .before .before .before .args .count) (c .before .before .before .before .before .before .before .before .before .args .level .now) (c .before .before .before .before .before .before .before .before .before .args .then .now) (c .before .before .before .before .before .before .before .before .before .args .els .now) (c .before .before .before .before .before .before .before .before .before .args .next .now) (c .before .before .before .before .before .before .before .before .before .args .heads .now))
+chains : (c : tie.Else3) → Chains
+    (store 0 (at-start (at-else1 c) .args .count) (at-start (at-else1 c) .args .level .now) (at-start (at-else1 c) .args .then .now)
+    (at-start (at-else1 c) .args .els .now) (at-start (at-else1 c) .args .next .now) (at-start (at-else1 c) .args .heads .now))
 chains c = c .before .chains-hold .ensures .yes (not-false _ (c .if3 .left))
 
-unlike : (c : tie.Else4) → AllAlone (slots (c .before .before .before .before .before .before .before .before .before .before .before .args .level .now) (c .before .before .before .before .before .before .before .before .before .before .before .args .then .now) (c .before .before .before .before .before .before .before .before .before .before .before .args .els .now)) (c .before .before .before .before .before .before .before .before .before .before .before .args .count)
+unlike : (c : tie.Else4) → AllAlone
+    (slots (at-start (at-else1 (at-else3 c)) .args .level .now) (at-start (at-else1 (at-else3 c)) .args .then .now)
+    (at-start (at-else1 (at-else3 c)) .args .els .now)) (at-start (at-else1 (at-else3 c)) .args .count)
 unlike c = c .before .all-alone .ensures .yes (not-false _ (c .if4 .left))
 
 sizes-kept-requires : tie.Need-sizes-kept-requires
@@ -36,22 +54,30 @@ returns-2 : tie.Need-returns-2
 returns-2 c = no-fit _ _ _ _ _ _ _ (c .before .nodes-fit .ensures .no (not-true _ (c .if2 .taken)))
 
 chains-hold-requires : tie.Need-chains-hold-requires
-chains-hold-requires c κs = (sizes-count _ _ _ _ _ _ _ (sizes (c .before .before)), (sizes-slots _ _ _ _ _ _ _ (sizes (c .before .before)), sizes (c .before .before) .heads-long))
+chains-hold-requires c κs = (
+  sizes-count _ _ _ _ _ _ _ (sizes (c .before .before)),
+  (sizes-slots _ _ _ _ _ _ _ (sizes (c .before .before)), sizes (c .before .before) .heads-long),
+)
 
 returns-3 : tie.Need-returns-3
 returns-3 c = no-chains _ _ _ _ _ _ _ (c .before .chains-hold .ensures .no (not-true _ (c .if3 .taken)))
 
 all-alone-requires : tie.Need-all-alone-requires
-all-alone-requires c κs = (sizes-count _ _ _ _ _ _ _ (sizes (c .before .before .before .before)), sizes-nodes _ _ _ _ _ _ _ (sizes (c .before .before .before .before)))
+all-alone-requires c κs = (sizes-count _ _ _ _ _ _ _ (sizes (at-else1 c)), sizes-nodes _ _ _ _ _ _ _ (sizes (at-else1 c)))
 
 returns-4 : tie.Need-returns-4
 returns-4 c = no-alone _ _ _ _ _ _ _ (c .before .all-alone .ensures .no (not-true _ (c .if4 .taken)))
 
 zeros-kept-requires : tie.Need-zeros-kept-requires
-zeros-kept-requires c κs = ((sizes (c .before .before .before .before .before .before) .count-some, sizes (c .before .before .before .before .before .before) .count-slots), sizes-lists _ _ _ _ _ _ _ (sizes (c .before .before .before .before .before .before)))
+zeros-kept-requires c κs = (
+  (sizes (at-else1 (at-else3 c)) .count-some, sizes (at-else1 (at-else3 c)) .count-slots),
+  sizes-lists _ _ _ _ _ _ _ (sizes (at-else1 (at-else3 c))),
+)
 
 returns-5 : tie.Need-returns-5
-returns-5 c = by-zeros _ _ _ _ _ _ _ (sizes (c .before .before .before .before .before .before .before)) (fit (c .before .before .before .before .before)) (chains (c .before .before .before)) (unlike (c .before)) (c .zeros-kept .ensures)
+returns-5 c =
+    by-zeros _ _ _ _ _ _ _ (sizes (at-else1 (at-else3 (c .before)))) (fit (at-else3 (c .before) .before .before)) (chains (at-else3 (c .before)))
+    (unlike (c .before)) (c .zeros-kept .ensures)
 
 pub keeps-rules-spec : {M : Type 1} → statement M
 keeps-rules-spec =

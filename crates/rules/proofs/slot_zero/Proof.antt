@@ -11,6 +11,16 @@ use Rattle.rules.proofs.Zeros.{abs-zero}
 use Rattle.rules.proofs.slot_zero.Statement.{statement}
 use Rattle.rules.proofs.slot_zero.Tie as tie
 
+-- places of the course, each a few steps back from a later one
+abbrev at-magnitude : tie.After-magnitude2 → tie.After-magnitude
+at-magnitude p = p .before .before .before
+
+abbrev at-else1 : tie.After-magnitude → tie.Else1
+at-else1 p = p .before .before .before .before
+
+abbrev at-start : tie.Else1 → tie.Start
+at-start p = p .before .before .before .before
+
 sub-i : tie.Need-sub-i
 sub-i c = search needs
 
@@ -41,8 +51,11 @@ shared-slice-copy-out-t c = search needs
 magnitude-requires : tie.Need-magnitude-requires
 magnitude-requires c κs = search needs
 
-then-abs : (c : tie.After-magnitude) → c .magnitude .result ≡ natAbs (getD (c .before .before .before .before .before .before .before .before .args .then .now) (c .before .before .before .before .before .before .before .before .args .n - 1) (pos 0))
-then-abs c = c .magnitude .ensures ∙ abs-back w16 (getD (c .before .before .before .before .before .before .before .before .args .then .now) (c .before .before .before .before .before .before .before .before .args .n - 1) (pos 0)) (record { sfits = c .before .t .given })
+then-abs : (c : tie.After-magnitude)
+    → c .magnitude .result ≡ natAbs (getD (at-start (at-else1 c) .args .then .now) (at-start (at-else1 c) .args .n - 1) (pos 0))
+then-abs c =
+    c .magnitude .ensures ∙ abs-back w16 (getD (at-start (at-else1 c) .args .then .now) (at-start (at-else1 c) .args .n - 1) (pos 0))
+    (record { sfits = c .before .t .given })
 
 returns-3 : tie.Need-returns-3
 returns-3 c = says-no (λ z. c .if3 .taken (then-abs (c .before) ∙ ap natAbs (z .then)))
@@ -56,17 +69,22 @@ shared-slice-copy-out-e c = search needs
 magnitude-requires-2 : tie.Need-magnitude-requires-2
 magnitude-requires-2 c κs = search needs
 
-else-abs : (c : tie.After-magnitude2) → c .magnitude2 .result ≡ natAbs (getD (c .before .before .before .before .before .before .before .before .before .before .before .args .els .now) (c .before .before .before .before .before .before .before .before .before .before .before .args .n - 1) (pos 0))
-else-abs c = c .magnitude2 .ensures ∙ abs-back w16 (getD (c .before .before .before .before .before .before .before .before .before .before .before .args .els .now) (c .before .before .before .before .before .before .before .before .before .before .before .args .n - 1) (pos 0)) (record { sfits = c .before .e .given })
+else-abs : (c : tie.After-magnitude2)
+    → c .magnitude2 .result ≡ natAbs
+    (getD (at-start (at-else1 (at-magnitude c)) .args .els .now) (at-start (at-else1 (at-magnitude c)) .args .n - 1) (pos 0))
+else-abs c =
+    c .magnitude2 .ensures ∙ abs-back w16
+    (getD (at-start (at-else1 (at-magnitude c)) .args .els .now) (at-start (at-else1 (at-magnitude c)) .args .n - 1) (pos 0))
+    (record { sfits = c .before .e .given })
 
 returns-4 : tie.Need-returns-4
 returns-4 c = says-no (λ z. c .if4 .taken (else-abs (c .before) ∙ ap natAbs (z .els)))
 
 returns-5 : tie.Need-returns-5
 returns-5 c = says-yes (record {
-  level = c .before .before .before .before .before .before .before .before .if1 .left;
-  next = c .before .before .before .before .before .before .if2 .left;
-  then = abs-zero _ (sym (then-abs (c .before .before .before .before)) ∙ c .before .before .before .if3 .left);
+  level = at-else1 (at-magnitude (c .before)) .if1 .left;
+  next = at-magnitude (c .before) .before .before .if2 .left;
+  then = abs-zero _ (sym (then-abs (at-magnitude (c .before))) ∙ c .before .before .before .if3 .left);
   els = abs-zero _ (sym (else-abs (c .before)) ∙ c .if4 .left);
 })
 

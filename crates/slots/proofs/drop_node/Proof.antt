@@ -9,6 +9,10 @@ use Rattle.slots.proofs.Placed.{slot-cleared}
 use Rattle.slots.proofs.drop_node.Statement.{statement}
 use Rattle.slots.proofs.drop_node.Tie as tie
 
+-- places of the course, each a few steps back from a later one
+abbrev at-start : tie.After-slice-known5 → tie.Start
+at-start p = p .before .before .before .before .before .before .before .before .before
+
 -- the store at the start
 abbrev σ : tie.Start → Store
 σ s =
@@ -51,7 +55,7 @@ mul-heads : tie.Need-mul-heads
 mul-heads c = omega (arith, bucket-under _ _ _ _ (c .before .bucket .ensures))
 
 slice-write-heads : tie.Need-slice-write-heads
-slice-write-heads c = omega (arith, bucket-under _ _ _ _ (c .before .bucket .ensures), c .before .before .before .before .before .before .before .before .before .pre .heads-long)
+slice-write-heads c = omega (arith, bucket-under _ _ _ _ (c .before .bucket .ensures), at-start c .pre .heads-long)
 
 mul-level : tie.Need-mul-level
 mul-level c = search needs
@@ -94,10 +98,11 @@ same-length-5 c = search needs
 
 returns : tie.Need-returns
 returns c =
-    let s = c .before .before .before .before .before .before .before .before .before in
+    let s = at-start c in
     let n = s .args .count .now in
     slot-cleared (σ s) _ _ _
-    (toZ-ofZ w16 (thenAt (σ s) n) (record { sfits = c .before .before .before .t .given })) (toZ-ofZ w16 (elseAt (σ s) n) (record { sfits = c .before .before .e .given })) (c .before .bucket .ensures)
+    (toZ-ofZ w16 (thenAt (σ s) n) (record { sfits = c .before .before .before .t .given }))
+    (toZ-ofZ w16 (elseAt (σ s) n) (record { sfits = c .before .before .e .given })) (c .before .bucket .ensures)
 
 pub drop-node-spec : {M : Type 1} → statement M
 drop-node-spec =

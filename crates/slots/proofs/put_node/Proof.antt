@@ -9,6 +9,10 @@ use Rattle.slots.proofs.Placed.{slot-filled}
 use Rattle.slots.proofs.put_node.Statement.{statement}
 use Rattle.slots.proofs.put_node.Tie as tie
 
+-- places of the course, each a few steps back from a later one
+abbrev at-start : tie.After-slice-known4 → tie.Start
+at-start p = p .before .before .before .before .before .before
+
 -- the store at the start
 abbrev σ : tie.Start → Store
 σ s =
@@ -21,7 +25,7 @@ mul-h : tie.Need-mul-h
 mul-h c = omega (arith, bucket-under _ _ _ _ (c .before .bucket .ensures))
 
 slice-read-h : tie.Need-slice-read-h
-slice-read-h c = omega (arith, bucket-under _ _ _ _ (c .before .before .bucket .ensures), c .before .before .before .before .before .before .pre .0 .heads-long)
+slice-read-h c = omega (arith, bucket-under _ _ _ _ (c .before .before .bucket .ensures), at-start c .pre .0 .heads-long)
 
 mul-level : tie.Need-mul-level
 mul-level c = search needs
@@ -54,7 +58,7 @@ mul-heads : tie.Need-mul-heads
 mul-heads c = omega (arith, bucket-under _ _ _ _ (c .before .before .bucket .ensures))
 
 slice-write-heads : tie.Need-slice-write-heads
-slice-write-heads c = omega (arith, bucket-under _ _ _ _ (c .before .before .bucket .ensures), c .before .before .before .before .before .before .pre .0 .heads-long)
+slice-write-heads c = omega (arith, bucket-under _ _ _ _ (c .before .before .bucket .ensures), at-start c .pre .0 .heads-long)
 
 add-count : tie.Need-add-count
 add-count c = search needs
@@ -76,8 +80,9 @@ same-length-5 c = search needs
 
 returns : tie.Need-returns
 returns c =
-    let s = c .before .before .before .before .before .before in
-    slot-filled (σ s) _ _ (s .args .t) _ (s .args .e) _ (toZ-ofZ w16 (s .args .t) (s .fits .t)) (toZ-ofZ w16 (s .args .e) (s .fits .e)) (c .before .before .bucket .ensures)
+    let s = at-start c in
+    slot-filled (σ s) _ _ (s .args .t) _ (s .args .e) _ (toZ-ofZ w16 (s .args .t) (s .fits .t)) (toZ-ofZ w16 (s .args .e) (s .fits .e))
+    (c .before .before .bucket .ensures)
 
 pub put-node-spec : {M : Type 1} → statement M
 put-node-spec =

@@ -16,6 +16,38 @@ use Rattle.exporter.proofs.Promised.{own-zeros, vars-filled, promised-n
 use Rattle.exporter.proofs.ExportSettings.export.Statement.{statement}
 use Rattle.exporter.proofs.ExportSettings.export.Tie as tie
 
+-- places of the course, each a few steps back from a later one
+abbrev again : tie.After-clear-marks4 → tie.After-clear-marks3
+again p = p .before .before .before .before
+
+abbrev written : tie.After-clear-marks3 → tie.After-write-file
+written p = p .before .before .before .before .before .before .before .before
+
+abbrev at-else1 : tie.After-write-file-arg3 → tie.Else1
+at-else1 p = p .before .before .before .before
+
+abbrev at-export-fault : tie.Else1 → tie.After-export-fault
+at-export-fault p = p .before .before
+
+abbrev tested : tie.After-write-file → tie.After-export-fault
+tested p = at-export-fault (at-else1 (p .before))
+
+abbrev out : tie.After-export-fault → tie.After-clear-bytes
+out p = p .before .before .before .before
+
+abbrev numbers : tie.After-clear-bytes → tie.After-clear-marks2
+numbers p = p .before .before .before .before
+
+abbrev slots : tie.After-clear-marks2 → tie.After-clear-marks
+slots p = p .before .before .before .before
+
+-- the way back, from after a call to after the one before it, and to the start
+abbrev start : tie.After-clear-marks → tie.Start
+start p = p .before .before .before .before .before .before .before .before .before .before .before .before .before .before .before
+
+abbrev origin : tie.After-export-fault → tie.Start
+origin p = start (slots (numbers (out p)))
+
 -- the store and the names of a call, its refusal by the lengths of the lists that are lent, and its promise
 abbrev σ : tie.Start → Store
 σ s =
@@ -32,31 +64,6 @@ abbrev Promised : tie.Start → Exported → List ℕ → Type 0
 Promised s r out =
     ExportsBy (fault s (length (s .args .slots .now)) (length (s .args .numbers .now)) (length (s .args .out .now))) (ofSettings (s .args .self)) (σ s)
     (s .args .roots .now) (s .args .order .now) (names s) (length (s .args .out .now)) r out
-
--- the way back, from after a call to after the one before it, and to the start
-abbrev start : tie.After-clear-marks → tie.Start
-start d = d .before .before .before .before .before .before .before .before .before .before .before .before .before .before .before
-
-abbrev slots : tie.After-clear-marks2 → tie.After-clear-marks
-slots d = d .before .before .before .before
-
-abbrev numbers : tie.After-clear-bytes → tie.After-clear-marks2
-numbers d = d .before .before .before .before
-
-abbrev out : tie.After-export-fault → tie.After-clear-bytes
-out d = d .before .before .before .before
-
-abbrev tested : tie.After-write-file → tie.After-export-fault
-tested d = d .before .before .before .before .before .before .before
-
-abbrev written : tie.After-clear-marks3 → tie.After-write-file
-written d = d .before .before .before .before .before .before .before .before
-
-abbrev again : tie.After-clear-marks4 → tie.After-clear-marks3
-again d = d .before .before .before .before
-
-abbrev origin : tie.After-export-fault → tie.Start
-origin f = start (slots (numbers (out f)))
 
 -- the lists are as long as they were when the refusal is found
 slots-kept : (f : tie.After-export-fault) → length (slots (numbers (out f)) .clear-marks .last .0) ≡ length (origin f .args .slots .now)
@@ -76,7 +83,7 @@ refusal-is f = f .export-fault .ensures .answer
 
 -- there is none where the file is written
 none : (w : tie.After-write-file) → tested w .export-fault .result ≡ 0
-none w = w .before .before .before .before .before .if1 .left
+none w = at-else1 (w .before) .if1 .left
 
 -- the two answers
 refused : (f : tie.After-export-fault) → (f .export-fault .result ≡ 0 → ⊥)
@@ -133,17 +140,19 @@ returns c = record {
 }
 
 slice-aggregate-write-file : tie.Need-slice-aggregate-write-file
-slice-aggregate-write-file c = sym (c .before .before .before .export-fault .kept .1 .1 .1 .1 .1 .1 .1 .1 .1 .1 .1 .1 .1 .1 .1 .1 .1 .1 .0)
+slice-aggregate-write-file c = sym (at-export-fault (c .before) .export-fault .kept .1 .1 .1 .1 .1 .1 .1 .1 .1 .1 .1 .1 .1 .1 .1 .1 .1 .1 .0)
 
 write-file-requires : tie.Need-write-file-requires
 write-file-requires c κs =
-    let f = c .before .before .before .before .before .before in
+    let f = at-export-fault (at-else1 c) in
     let v =
-    vars-filled (σ (origin f)) (origin f .args .roots .now) (origin f .args .order .now) (names (origin f)) (slots-kept f) (numbers-kept f) (out-kept f)
-    (refusal-is f) (c .before .before .before .before .if1 .left) (f .export-fault .last .1 .1 .1 .1 .1 .1 .1 .1 .1 .1 .1 .1 .1 .1 .1 .1 .1 .1 .0) (f .export-fault .ensures .vars-left)
+    vars-filled (σ (origin f)) (origin f .args .roots .now) (origin f .args .order .now) (names (origin f)) (slots-kept f) (numbers-kept f)
+    (out-kept f)
+    (refusal-is f) (at-else1 c .if1 .left) (f .export-fault .last .1 .1 .1 .1 .1 .1 .1 .1 .1 .1 .1 .1 .1 .1 .1 .1 .1 .1 .0)
+    (f .export-fault .ensures .vars-left)
     (f .export-fault .kept .1 .1 .1 .1 .1 .1 .1 .1 .1 .1 .1 .1 .1 .1 .1 .1 .1 .1 .0) in
     record {
-      taken = sym (refusal-is f) ∙ c .before .before .before .before .if1 .left;
+      taken = sym (refusal-is f) ∙ at-else1 c .if1 .left;
       seats = v .0;
       vars-long = v .1;
       slots-clear = own-zeros (slots-kept f) (slots (numbers (out f)) .clear-marks .ensures);

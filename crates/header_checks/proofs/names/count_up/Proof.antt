@@ -12,6 +12,10 @@ Inv-loop n dst₀ i₀ dst i = Counting n dst₀ dst i
 abbrev μ-loop : tie.MeasureT-loop
 μ-loop n dst₀ i₀ dst i = n - i
 
+-- places of the course, each a few steps back from a later one
+abbrev in-loop : tie.After-slice-known2 Inv-loop μ-loop → tie.In-loop Inv-loop μ-loop
+in-loop p = p .before .before .before .before
+
 loop-holds : tie.Need-loop-holds Inv-loop μ-loop
 loop-holds c = counting-start _ _
 
@@ -30,7 +34,7 @@ loop-less c = search needs
 loop-again : tie.Need-loop-again Inv-loop μ-loop
 loop-again c =
     rw (c .before .before .put-u32 .ensures)
-    (counting-more (c .before .before .before .before .before .loop .inv) (c .before .before .before .before .loop-test .taken))
+    (counting-more (in-loop c .before .loop .inv) (in-loop c .loop-test .taken))
 
 same-length : tie.Need-same-length Inv-loop μ-loop
 same-length c = laying-length (c .before .loop .inv .laying)

@@ -14,6 +14,37 @@ use Rattle.node_writers.proofs.LineBytes.{innerParts, bytes-inner}
 use Rattle.node_writers.proofs.binary.put_inner.Statement.{statement}
 use Rattle.node_writers.proofs.binary.put_inner.Tie as tie
 
+-- places of the course, each a few steps back from a later one
+abbrev at-put-number-arg3 : tie.After-slice-known5 → tie.After-put-number-arg3
+at-put-number-arg3 p = p .before .before .before
+
+abbrev at-put-number-arg2 : tie.After-put-number-arg3 → tie.After-put-number-arg2
+at-put-number-arg2 p = p .before .before .before .before
+
+abbrev at-distance : tie.After-put-number-arg2 → tie.After-distance
+at-distance p = p .before .before .before .before
+
+abbrev at-write-escaped : tie.After-distance → tie.After-write-escaped
+at-write-escaped p = p .before .before .before .before
+
+abbrev write-escaped-before-slice-known5 : tie.After-slice-known5 → tie.After-write-escaped
+write-escaped-before-slice-known5 p = at-write-escaped (at-distance (at-put-number-arg2 (at-put-number-arg3 p)))
+
+abbrev at-node-code : tie.After-write-escaped → tie.After-node-code
+at-node-code p = p .before .before
+
+abbrev node-code-before-put-number-arg2 : tie.After-put-number-arg2 → tie.After-node-code
+node-code-before-put-number-arg2 p = at-node-code (at-write-escaped (at-distance p))
+
+abbrev at-variable-code : tie.After-node-code → tie.After-variable-code
+at-variable-code p = p .before .before .before .before
+
+abbrev at-start : tie.After-variable-code → tie.Start
+at-start p = p .before .before .before .before
+
+abbrev start-before-put-number-arg3 : tie.After-put-number-arg3 → tie.Start
+start-before-put-number-arg3 p = at-start (at-variable-code (node-code-before-put-number-arg2 (at-put-number-arg2 p)))
+
 -- the numbers that the calls gave are the children's
 then-is : (c : tie.After-magnitude) → c .magnitude .result ≡ natAbs (c .before .before .args .t)
 then-is c = c .magnitude .ensures ∙ ap natAbs (toZ-ofZ (c .before .before .fits .t))
@@ -24,20 +55,25 @@ else-is c = c .magnitude2 .ensures ∙ ap natAbs (toZ-ofZ (c .before .before .be
 -- the parts of the line
 abbrev parts : tie.After-node-code → List (List ℕ)
 parts c =
-    let s = c .before .before .before .before .before .before .before .before in
-    innerParts (s .args .n) (s .args .p) (s .args .seat) (c .before .before .before .before .before .before .magnitude .result) (c .before .before .before .before .before .magnitude2 .result)
-    (c .before .before .before .before .variable-code .result) (c .before .before .before .child-code .result) (c .before .before .child-code2 .result) (c .node-code .result)
+    let s = at-start (at-variable-code c) in
+    innerParts (s .args .n) (s .args .p) (s .args .seat) (at-variable-code c .before .before .magnitude .result)
+    (at-variable-code c .before .magnitude2 .result)
+    (at-variable-code c .variable-code .result) (c .before .before .before .child-code .result) (c .before .before .child-code2 .result)
+    (c .node-code .result)
 
-line : (c : tie.After-node-code) → let a = c .before .before .before .before .before .before .before .before .args in innerBytes (a .n) (a .p) (a .t) (a .e) (a .seat) ≡ joined (parts c)
+line : (c : tie.After-node-code) → let a = at-start (at-variable-code c) .args in innerBytes (a .n) (a .p) (a .t) (a .e) (a .seat) ≡ joined (parts c)
 line c =
-    let s = c .before .before .before .before .before .before .before .before in
-    bytes-inner (s .args .n) (s .args .p) (s .args .seat) (c .before .before .before .before .before .before .magnitude .result) (c .before .before .before .before .before .magnitude2 .result)
-    (c .before .before .before .before .variable-code .result) (c .before .before .before .child-code .result) (c .before .before .child-code2 .result) (c .node-code .result)
-    (s .args .t) (s .args .e) (c .before .is-minus .result) (then-is (c .before .before .before .before .before .before)) (else-is (c .before .before .before .before .before))
-    (c .before .before .before .before .variable-code .ensures) (c .before .before .before .child-code .ensures) (c .before .before .child-code2 .ensures)
+    let s = at-start (at-variable-code c) in
+    bytes-inner (s .args .n) (s .args .p) (s .args .seat) (at-variable-code c .before .before .magnitude .result)
+    (at-variable-code c .before .magnitude2 .result)
+    (at-variable-code c .variable-code .result) (c .before .before .before .child-code .result) (c .before .before .child-code2 .result)
+    (c .node-code .result)
+    (s .args .t) (s .args .e) (c .before .is-minus .result) (then-is (at-variable-code c .before .before)) (else-is (at-variable-code c .before))
+    (at-variable-code c .variable-code .ensures) (c .before .before .before .child-code .ensures) (c .before .before .child-code2 .ensures)
     (c .before .is-minus .ensures ∙ ap minus (toZ-ofZ (s .fits .e))) (c .node-code .ensures)
 
-long : (c : tie.After-node-code) → let a = c .before .before .before .before .before .before .before .before .args in length (innerBytes (a .n) (a .p) (a .t) (a .e) (a .seat)) ≡ total (parts c)
+long : (c : tie.After-node-code)
+    → let a = at-start (at-variable-code c) .args in length (innerBytes (a .n) (a .p) (a .t) (a .e) (a .seat)) ≡ total (parts c)
 long c = rw (line c) (length-joined (parts c))
 
 magnitude-requires : tie.Need-magnitude-requires
@@ -68,32 +104,46 @@ distance-requires : tie.Need-distance-requires
 distance-requires c κs = search needs
 
 put-number-requires : tie.Need-put-number-requires
-put-number-requires c κs = rw (c .distance .ensures) (omega (arith, long (c .before .before .before .before .before .before)))
+put-number-requires c κs = rw (c .distance .ensures) (omega (arith, long (at-node-code (at-write-escaped c))))
 
 sub-put-number : tie.Need-sub-put-number
-sub-put-number c = omega (arith, then-is (c .before .before .before .before .before .before .before .before .before .before .before .before .before .before .before .before), c .before .before .before .before .before .before .before .before .before .before .before .before .before .before .before .before .before .before .pre .0)
+sub-put-number c =
+    omega (
+      arith,
+      then-is (at-variable-code (node-code-before-put-number-arg2 c) .before .before),
+      at-start (at-variable-code (node-code-before-put-number-arg2 c)) .pre .0,
+    )
 
 put-number-requires-2 : tie.Need-put-number-requires-2
 put-number-requires-2 c κs =
-    let v = rw (c .before .before .before .before .distance .ensures) at (c .before .before .before .put-number .ensures) in
-    omega (arith, long (c .before .before .before .before .before .before .before .before .before .before))
+    let v = rw (at-distance c .distance .ensures) at (c .before .before .before .put-number .ensures) in
+    omega (arith, long (node-code-before-put-number-arg2 c))
 
 sub-put-number-2 : tie.Need-sub-put-number-2
-sub-put-number-2 c = omega (arith, else-is (c .before .before .before .before .before .before .before .before .before .before .before .before .before .before .before .before .before .before .before), c .before .before .before .before .before .before .before .before .before .before .before .before .before .before .before .before .before .before .before .before .before .before .pre .0)
+sub-put-number-2 c =
+    omega (
+      arith,
+      else-is (at-variable-code (node-code-before-put-number-arg2 (at-put-number-arg2 c)) .before),
+      start-before-put-number-arg3 c .pre .0,
+    )
 
 put-number-requires-3 : tie.Need-put-number-requires-3
 put-number-requires-3 c κs =
-    let v = rw (c .before .before .before .before .before .before .before .before .distance .ensures) at (c .before .before .before .before .before .before .before .put-number .ensures) in
-    omega (arith, long (c .before .before .before .before .before .before .before .before .before .before .before .before .before .before))
+    let v = rw (at-distance (at-put-number-arg2 c) .distance .ensures) at
+    (c .before .before .before .before .before .before .before .put-number .ensures) in
+    omega (arith, long (node-code-before-put-number-arg2 (at-put-number-arg2 c)))
 
 same-length : tie.Need-same-length
 same-length c = search needs
 
 returns : tie.Need-returns
 returns c =
-    let v = rw (c .before .before .before .before .before .before .before .before .before .before .before .distance .ensures) at (c .before .before .before .before .before .before .before .before .before .before .put-number .ensures) in
-    rw (line (c .before .before .before .before .before .before .before .before .before .before .before .before .before .before .before .before .before))
-    (wrote-all (parts (c .before .before .before .before .before .before .before .before .before .before .before .before .before .before .before .before .before)) (then (c .before .before .before .before .before .before .before .before .before .before .before .before .before .before .before .write-escaped .ensures) (then v (then (c .before .before .before .before .before .before .put-number2 .ensures) (then (c .before .before .put-number3 .ensures) none)))))
+    let v = rw (at-distance (at-put-number-arg2 (at-put-number-arg3 c)) .distance .ensures) at
+    (c .before .before .before .before .before .before .before .before .before .before .put-number .ensures) in
+    rw (line (at-node-code (write-escaped-before-slice-known5 c)))
+    (wrote-all (parts (at-node-code (write-escaped-before-slice-known5 c)))
+    (then (write-escaped-before-slice-known5 c .write-escaped .ensures)
+    (then v (then (at-put-number-arg3 c .before .before .before .put-number2 .ensures) (then (c .before .before .put-number3 .ensures) none)))))
 
 pub put-inner-spec : {M : Type 1} → statement M
 put-inner-spec =

@@ -5,6 +5,13 @@ use Rattle.node_writers.proofs.Parts.{none, wrote-all}
 use Rattle.node_writers.proofs.binary.put_number.Statement.{statement}
 use Rattle.node_writers.proofs.binary.put_number.Tie as tie
 
+-- places of the course, each a few steps back from a later one
+abbrev at-encode-7bit2 : tie.After-slice-known3 → tie.After-encode-7bit2
+at-encode-7bit2 p = p .before .before
+
+abbrev at-encode-7bit : tie.After-slice-known2 → tie.After-encode-7bit
+at-encode-7bit p = p .before .before
+
 enum-told : tie.Need-enum-told
 enum-told c = search needs
 
@@ -30,13 +37,13 @@ same-length : tie.Need-same-length
 same-length c = search needs
 
 returns-2 : tie.Need-returns-2
-returns-2 c = rw (c .before .before .before .before .enum-told2 .given .1) (c .before .before .encode-7bit .ensures)
+returns-2 c = rw (at-encode-7bit c .before .before .enum-told2 .given .1) (at-encode-7bit c .encode-7bit .ensures)
 
 same-length-2 : tie.Need-same-length-2
 same-length-2 c = search needs
 
 returns-3 : tie.Need-returns-3
-returns-3 c = rw (c .before .before .before .before .enum-told3 .given .1) (c .before .before .encode-7bit2 .ensures)
+returns-3 c = rw (at-encode-7bit2 c .before .before .enum-told3 .given .1) (at-encode-7bit2 c .encode-7bit2 .ensures)
 
 returns-4 : tie.Need-returns-4
 returns-4 c = rw (c .enum-told4 .given .1) (wrote-all [] none)

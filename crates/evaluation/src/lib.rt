@@ -1,4 +1,4 @@
-// Evaluation: what an edge answers at a setting.
+// Evaluation: what an edge answers at a setting (in the field's words an assignment).
 ghost use mathlib.Core.Path.{_≡_};
 ghost use mathlib.Core.Bool.{_&&_, cond};
 ghost use Prim.Native.Nat.{_≤_};

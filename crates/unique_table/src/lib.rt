@@ -1,5 +1,6 @@
-// An index of the nodes of a store: finding a node by its level, then and else takes a few steps, whatever the nodes are. Under each head
-// stands a tree whose nodes are those of the store; a search goes down by the bits of its key, of which there are 48.
+// An index of the nodes of a store (in the field's words a unique table): finding a node by its level, then and else takes a few steps,
+// whatever the nodes are. Under each head stands a tree whose nodes are those of the store; a search goes down by the bits of its key, of
+// which there are 48.
 ghost use mathlib.Core.Path.{_≡_};
 ghost use mathlib.Core.Bool.{true};
 ghost use Prim.Native.Nat.{_+_, _*_, _^_, _≤_, _<_};

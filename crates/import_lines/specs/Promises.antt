@@ -9,7 +9,7 @@ use Rattle.store.specs.Store.{Store}
 use Rattle.store.specs.Rules.{Rules, limits}
 use Rattle.codes.specs.Lent.{Part, old, new}
 use Rattle.store.specs.Lent.{storeNow, oldStore, newStore}
-use Rattle.nodes.specs.Known.{KnownNodes}
+use Rattle.insertion.specs.Known.{KnownNodes}
 use Rattle.import_steps.specs.declared.Imported.{Imported}
 use Rattle.import_steps.specs.declared.Setup.{Setup}
 use Rattle.import_steps.specs.Kinds.{ofImported, ofSetup}

@@ -6,8 +6,8 @@ use edges::Edge;
 use edges::Index;
 use import_steps::Imported;
 use import_steps::Setup;
+use insertion::Making;
 use node_lines::Decoded;
-use nodes::Making;
 
 // Reads the node lines from a position on and makes each into the store. `list` is the level list, `levels` the store's level count;
 // `edges` and `seats` are scratch, and hold the edge and the seat of each line so far; `index` finds the store's nodes.

@@ -1,2 +1,1 @@
-pub mod Knowing
 pub mod Opposite

@@ -11,9 +11,9 @@ use Rattle.codes.specs.Answer.{Read, value, refused}
 use Rattle.edges.specs.Edge.{IsEdge, minus, eqZ}
 use Rattle.edges.proofs.Edge.{abs-neg}
 use Rattle.edges.proofs.Signed.{edge-back}
-use Rattle.nodes.specs.declared.Making.{Making}
-use Rattle.nodes.specs.declared.Making.the-variants as making
-use Rattle.nodes.specs.Kinds.{ofMaking, Turns}
+use Rattle.insertion.specs.declared.Making.{Making}
+use Rattle.insertion.specs.declared.Making.the-variants as making
+use Rattle.insertion.specs.Kinds.{ofMaking, Turns}
 use Rattle.store.specs.Store.{Store}
 use Rattle.store.specs.Rules.{Limits, Sizes, limits}
 use Rattle.store.specs.Make.{roomFor, find, added, placedNode, insert, negated, turned, make, made, full}

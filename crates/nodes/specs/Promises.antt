@@ -9,9 +9,9 @@ use Rattle.store.specs.Rules.{Rules, limits}
 use Rattle.codes.specs.Lent.{Part, old, new}
 use Rattle.store.specs.Lent.{storeNow, oldStore, newStore}
 use Rattle.store.specs.Make as nodes
-use Rattle.nodes.specs.declared.Making.{Making}
-use Rattle.nodes.specs.Kinds.{ofMaking}
-use Rattle.nodes.specs.Known.{KnownNodes}
+use Rattle.insertion.specs.declared.Making.{Making}
+use Rattle.insertion.specs.Kinds.{ofMaking}
+use Rattle.insertion.specs.Known.{KnownNodes}
 
 module _ (levels : ℕ) (count : RefT ℕ) (level : RefT (List ℕ)) (then els : RefT (List ℤ)) (next heads : RefT (List ℕ)) where
   abbrev σ : Store
@@ -36,12 +36,6 @@ module _ (levels : ℕ) (count : Part ℕ) (level : Part (List ℕ)) (then els :
 
   abbrev after : Store
   after = newStore levels (new count) level then els next heads
-
-  -- 'A node not found takes the next number.'
-  pub record InsertPromise (index : Part (List ℕ)) (width l : ℕ) (t e : ℤ) (r : Making) : Type 0 where
-    pub answer : ofMaking r ≡ nodes.insert limits before l t e .answer
-    pub store : after ≡ nodes.insert limits before l t e .after
-    pub known : KnownNodes width after (new index)
 
   -- 'Equal children give that child; a minus on then moves to both the else and the result.'
   pub record MakePromise (index : Part (List ℕ)) (width l : ℕ) (t e : ℤ) (r : Making) : Type 0 where

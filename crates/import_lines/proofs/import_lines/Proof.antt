@@ -4,7 +4,7 @@ use Prim.Native.Nat.{_≤_}
 use native.Mathlib.Omega.{arith}
 use borrow.Author.Needs.{needs}
 use Rattle.store.specs.Store.{Store, store}
-use Rattle.nodes.proofs.Knowing.{known-start}
+use Rattle.insertion.proofs.Knowing.{known-start}
 use Rattle.import_lines.proofs.import_lines.Statement.{statement}
 use Rattle.import_lines.proofs.import_lines.Tie as tie
 

@@ -8,7 +8,7 @@ use mir.Val.{toZ, ofZ}
 use mir.ValLaws.{toZ-ofZ}
 use lib.ListN.{length, take}
 use Rattle.store.specs.Store.{store}
-use Rattle.nodes.specs.Known.{KnownNodes}
+use Rattle.insertion.specs.Known.{KnownNodes}
 use Rattle.imported.specs.Build.{edgeFor, Inner}
 use Rattle.import_steps.specs.Kinds.{ofSetup}
 use Rattle.import_lines.proofs.Progress.{Progress, progress-start, edges-length, seats-length, edges-room, seats-room, edges-slot, seats-slot}

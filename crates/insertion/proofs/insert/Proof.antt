@@ -12,10 +12,10 @@ use Rattle.store.specs.Rules.{limits}
 use Rattle.store.specs.Make.{find}
 use Rattle.store.proofs.Makes.{room-true}
 use Rattle.unique_table.specs.Index.{Sought}
-use Rattle.nodes.proofs.Knowing.{known-bare, known-find, known-more}
+use Rattle.insertion.proofs.Knowing.{known-bare, known-find, known-more}
 use Rattle.slots.proofs.Placed.{insert-found, insert-full, insert-new, found-edge, new-edge, node-answer}
-use Rattle.nodes.proofs.insert.Statement.{statement}
-use Rattle.nodes.proofs.insert.Tie as tie
+use Rattle.insertion.proofs.insert.Statement.{statement}
+use Rattle.insertion.proofs.insert.Tie as tie
 
 -- places of the course, each a few steps back from a later one
 abbrev at-put-node : tie.After-slice-known8 → tie.After-put-node

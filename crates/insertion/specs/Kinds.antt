@@ -2,8 +2,8 @@
 use lib.IntN.{ℤ}
 use Rattle.edges.specs.Edge.{IsEdge}
 use Rattle.codes.specs.Answer.{Read, value, refused}
-use Rattle.nodes.specs.declared.Making.{Making}
-use Rattle.nodes.specs.declared.Making.the-variants as making
+use Rattle.insertion.specs.declared.Making.{Making}
+use Rattle.insertion.specs.declared.Making.the-variants as making
 
 -- 'a line needs a new node and every slot lent, or 32,767, is used'
 abbrev pub ofMaking : Making → Read ℤ

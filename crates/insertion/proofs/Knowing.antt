@@ -16,7 +16,7 @@ use Rattle.store.specs.Keeps.{Decides}
 use Rattle.unique_table.specs.Index.{Indexed, Sought, AllAlone}
 use Rattle.unique_table.proofs.More.{indexed-same, indexed-more}
 use Rattle.unique_table.proofs.Seeking.{sought-find}
-use Rattle.nodes.specs.Known.{KnownNodes}
+use Rattle.insertion.specs.Known.{KnownNodes}
 
 -- the index looks at three lists only
 pub known-bare : (width : ℕ) (σ : Store) (ix : List ℕ) → KnownNodes width σ ix → Indexed width (slots (σ .level) (σ .then) (σ .els)) (σ .count) ix

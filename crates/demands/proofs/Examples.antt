@@ -43,7 +43,8 @@ use Rattle.header.specs.Examples.{exampleLoaded}
 use Rattle.node_lines.specs.Line.{terminal, inner, deeper, childFault}
 use Rattle.node_lines.specs.Decode.{decodeFrom}
 use Rattle.node_lines.specs.Says.{saysBy, says}
-use Rattle.import_ascii.specs.Text.{wordFrom, numbered, afterExtra, variableWord, textLine, textLineAt}
+use Rattle.line_words.specs.Words.{wordFrom, numbered, afterExtra, variableWord}
+use Rattle.import_ascii.specs.Text.{textLine, textLineAt}
 use Rattle.imported.specs.Build.{edgeFor, addLine, buildOn, build}
 use Rattle.imported.specs.Import.{lineBy, linesIn, linesAnswer, blankAll, endsWell, importOf}
 use Rattle.level_list.specs.List.{listFits}

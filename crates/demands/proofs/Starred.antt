@@ -35,7 +35,8 @@ use Rattle.header.specs.Header as head
 use Rattle.header.specs.Header.{tableOf, readOf, atLeast}
 use Rattle.node_lines.specs.Line.{Line, terminal, inner, deeper, childFault}
 use Rattle.node_lines.specs.Decode.{decodeFrom}
-use Rattle.import_ascii.specs.Text.{wordFrom, numbered, afterExtra, variableWord, textLine, textLineAt}
+use Rattle.line_words.specs.Words.{wordFrom, numbered, afterExtra, variableWord}
+use Rattle.import_ascii.specs.Text.{textLine, textLineAt}
 use Rattle.import_bin.specs.Bin.{idAt, childAt, variableAt, binLineAt}
 use Rattle.imported.specs.Build.{edgeFor, addLine, buildOn, build}
 use Rattle.imported.specs.Import.{lineBy, linesIn, linesAnswer, blankAll, endsWell, importOf}

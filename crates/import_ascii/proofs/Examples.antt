@@ -10,7 +10,8 @@ use Rattle.read_edges.specs.Edges.{entryStep, edgeAt, edgeEnd, edgeList, childr
 use Rattle.read_text.specs.Alike.{alike}
 use Rattle.node_lines.specs.Line.{deeper, childFault}
 use Rattle.node_lines.specs.Decode.{decodeFrom}
-use Rattle.import_ascii.specs.Text.{wordFrom, numbered, afterExtra, variableWord, textLine, textLineAt}
+use Rattle.line_words.specs.Words.{wordFrom, numbered, afterExtra, variableWord}
+use Rattle.import_ascii.specs.Text.{textLine, textLineAt}
 use Rattle.import_ascii.specs.Examples.{decodedText, exampleTextNodes, exampleTextLines, own, ownLines, short, shortLines, AllLines, accepted, textRefusals, firsts, extras}
 
 -- document 01's example

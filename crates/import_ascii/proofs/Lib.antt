@@ -1,4 +1,3 @@
-pub mod WordEnds
 pub mod Faults
 pub mod TextLines
 pub mod Examples

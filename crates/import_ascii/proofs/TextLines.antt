@@ -16,7 +16,8 @@ use Rattle.read_lines.specs.declared.Line as bounds
 use Rattle.read_text.specs.Alike.{alike}
 use Rattle.header_lines.specs.Sweep.{part}
 use Rattle.node_lines.specs.Line.{Line, terminal}
-use Rattle.import_ascii.specs.Text.{variableWord, describedT, variable, described, textLine, textLineAt}
+use Rattle.line_words.specs.Words.{variableWord}
+use Rattle.import_ascii.specs.Text.{describedT, variable, described, textLine, textLineAt}
 
 module _ (word : List ℕ) {b : Bool} (e : b ≡ alike word (0x54 ∷ [])) where
   -- the word is `T`

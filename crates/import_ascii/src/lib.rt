@@ -7,84 +7,21 @@ ghost use Rattle.codes.specs.Answer.{value};
 ghost use Rattle.node_lines.specs.Kinds.{ofDecoded};
 ghost use Rattle.node_lines.specs.Line.{childFault};
 ghost use Rattle.read_edges.specs.Kinds.{ofChildren};
-ghost use Rattle.import_ascii.specs.Kinds.{ofWord, ofParsed, WordWithin};
-ghost use Rattle.import_ascii.specs.Text.{wordFrom, numbered, afterExtra, variableWord, describedT, variable, described, textLine, textLineAt};
+ghost use Rattle.import_ascii.specs.Kinds.{ofParsed};
+ghost use Rattle.import_ascii.specs.Text.{describedT, variable, described, textLine, textLineAt};
 use codes::refusal;
 use edges::Edge;
 use edges::Index;
+use line_words::Word;
 use node_lines::Decoded;
 use read_edges::Children;
-use read_lines::Class;
-use read_numbers::First64;
 use read_numbers::Number32;
-
-// Where a word starts and ends, or a refusal.
-pub enum Word {
-    At(usize, usize),
-    Refused(u8),
-}
 
 // A node line, or a refusal.
 pub enum Parsed {
     Terminal,
     Inner(u16, Edge, Edge),
     Refused(u8),
-}
-
-// The word from a position on, which a blank must end.
-fn word_from(s: &[u8], at: usize) -> Word
-    requires { ⌜ at ≤ length (now s) ⌝ }
-    ensures { λ r. ⌜ ofWord r ≡ wordFrom (now (s .entry)) at ⌝ }
-    ensures { λ r. ⌜ WordWithin (now (s .entry)) r ⌝ }
-{
-    let start = read_lines::forward(s, at, s.len(), Class::NonBlank);
-    let end = read_lines::forward(s, start, s.len(), Class::Blank);
-    if end < s.len() {
-        return Word::At(start, end);
-    }
-    Word::Refused(refusal::BAD_LINE)
-}
-
-// The position after the line's number, which must be the expected one.
-fn numbered(node: Index, s: &[u8]) -> Word
-    ensures { λ r. ⌜ ofWord r ≡ numbered node (now (s .entry)) ⌝ }
-    ensures { λ r. ⌜ WordWithin (now (s .entry)) r ⌝ }
-{
-    match read_numbers::parse_u64(s) {
-        First64::Value(v, at) => {
-            if v == node as u64 {
-                return Word::At(at, at);
-            }
-            Word::Refused(refusal::WRONG_NODE)
-        }
-        First64::Refused(k) => Word::Refused(k),
-    }
-}
-
-// The position after the extra word, where there is one.
-fn after_extra(extra: bool, s: &[u8], at: usize) -> Word
-    requires { ⌜ at ≤ length (now s) ⌝ }
-    ensures { λ r. ⌜ ofWord r ≡ afterExtra extra (now (s .entry)) at ⌝ }
-    ensures { λ r. ⌜ WordWithin (now (s .entry)) r ⌝ }
-{
-    if extra {
-        return word_from(s, at);
-    }
-    Word::At(at, at)
-}
-
-// The variable word.
-fn variable_word(extra: bool, node: Index, s: &[u8]) -> Word
-    ensures { λ r. ⌜ ofWord r ≡ variableWord extra node (now (s .entry)) ⌝ }
-    ensures { λ r. ⌜ WordWithin (now (s .entry)) r ⌝ }
-{
-    match numbered(node, s) {
-        Word::At(_, at) => match after_extra(extra, s, at) {
-            Word::At(_, next) => word_from(s, next),
-            Word::Refused(k) => Word::Refused(k),
-        },
-        Word::Refused(k) => Word::Refused(k),
-    }
 }
 
 // The fault of a child of a line at a level, 0 of none.
@@ -163,7 +100,7 @@ fn text_line(extra: bool, levels: &[u16], seats: &[u16], node: Index, s: &[u8]) 
     requires { ⌜ (node < 2 ^ 15) × (length (now levels) < 2 ^ 16) ⌝ }
     ensures { λ r. ⌜ ofParsed r ≡ textLine extra (now (levels .entry)) (now (seats .entry)) node (now (s .entry)) ⌝ }
 {
-    match variable_word(extra, node, s) {
+    match line_words::variable_word(extra, node, s) {
         Word::At(start, end) => {
             let c = read_edges::parse_children(&s[end..]);
             described(&s[start..end], c, levels, seats, node)

@@ -21,7 +21,8 @@ use Rattle.read_numbers.specs.Number.{single}
 use Rattle.read_text.specs.Alike.{alike}
 use Rattle.header_lines.specs.Sweep.{part}
 use Rattle.node_lines.specs.Line.{Line, terminal, inner, deeper, childFault}
-use Rattle.import_ascii.specs.Text.{variableWord, describedT, faultless, variable, described, byWord, textLine, lineEndsAt, textLineAt}
+use Rattle.line_words.specs.Words.{variableWord}
+use Rattle.import_ascii.specs.Text.{describedT, faultless, variable, described, byWord, textLine, lineEndsAt, textLineAt}
 use Rattle.import_bin.specs.Bin.{idAt, below, childAt, variableAt, countsFrom, positionBy, placedAt, resolved, innerAt, byCode, binLineAt}
 use Rattle.imported.specs.Build.{ChildBelow, Judged}
 use Rattle.imported.specs.Import.{lineBy}

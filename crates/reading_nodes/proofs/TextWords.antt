@@ -18,8 +18,8 @@ use Rattle.read_numbers.specs.Number.{first}
 use Rattle.read_lines.specs.Spaced.{Text, next}
 use Rattle.read_lines.specs.declared.Class.the-variants.{Feed, LineEnd, Blank, NonBlank}
 use Rattle.read_lines.proofs.Spaced.{spaced-words, words-spaced}
-use Rattle.import_ascii.specs.Text.{wordFrom, variableWord}
-use Rattle.import_ascii.proofs.WordEnds.{word-ends, number-right, extra-none, variable-found}
+use Rattle.line_words.specs.Words.{wordFrom, variableWord}
+use Rattle.line_words.proofs.WordEnds.{word-ends, number-right, extra-none, variable-found}
 use Rattle.writers.specs.Decimal.{decimal, edgeText}
 use Rattle.writers.proofs.Decimal.{decimal-some, decimal-digits, decimal-single, edge-plain, edge-minus}
 use Rattle.reading_nodes.proofs.Standing.{stands-after, stands-inside, seek-over}

@@ -2,7 +2,7 @@
 use Prim.Native.Nat.{_≤_}
 use lib.ListN.{length}
 use borrow.Author.Needs.{needs}
-use Rattle.import_ascii.proofs.WordEnds.{word-within}
+use Rattle.line_words.proofs.WordEnds.{word-within}
 use Rattle.import_ascii.proofs.TextLines.{line-refused, line-described}
 use Rattle.import_ascii.proofs.text_line.Statement.{statement}
 use Rattle.import_ascii.proofs.text_line.Tie as tie

@@ -12,10 +12,10 @@ use Rattle.read_numbers.specs.Number.{single, endsAt, first}
 use Rattle.read_lines.specs.declared.Class.the-variants.{Blank, NonBlank}
 use Rattle.read_lines.proofs.Searches.{found}
 use Rattle.read_numbers.proofs.Words.{first-word}
-use Rattle.import_ascii.specs.declared.Word.{Word}
-use Rattle.import_ascii.specs.declared.Word.the-variants as word
-use Rattle.import_ascii.specs.Kinds.{WordWithin}
-use Rattle.import_ascii.specs.Text.{wordFrom, numbered, afterExtra, variableWord}
+use Rattle.line_words.specs.declared.Word.{Word}
+use Rattle.line_words.specs.declared.Word.the-variants as word
+use Rattle.line_words.specs.Kinds.{WordWithin}
+use Rattle.line_words.specs.Words.{wordFrom, numbered, afterExtra, variableWord}
 
 -- A word's start and end, each found by a search.
 module _ (s : List ℕ) (at start end : ℕ) (a : start ≡ seek (isOf NonBlank) s at (length s - at))

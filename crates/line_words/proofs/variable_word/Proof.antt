@@ -2,10 +2,10 @@
 use mathlib.Core.Path.{_≡_}
 use borrow.Author.Needs.{needs}
 use Rattle.codes.specs.Answer.{got}
-use Rattle.import_ascii.specs.Text.{numbered}
-use Rattle.import_ascii.proofs.WordEnds.{variable-number, variable-extra, variable-found, word-within}
-use Rattle.import_ascii.proofs.variable_word.Statement.{statement}
-use Rattle.import_ascii.proofs.variable_word.Tie as tie
+use Rattle.line_words.specs.Words.{numbered}
+use Rattle.line_words.proofs.WordEnds.{variable-number, variable-extra, variable-found, word-within}
+use Rattle.line_words.proofs.variable_word.Statement.{statement}
+use Rattle.line_words.proofs.variable_word.Tie as tie
 
 numbered-requires : tie.Need-numbered-requires
 numbered-requires c κs = search needs

@@ -5,9 +5,9 @@ use native.Mathlib.Omega.{arith}
 use borrow.Author.Needs.{needs}
 use Rattle.codes.specs.Answer.{got}
 use Rattle.read_numbers.specs.Number.{first}
-use Rattle.import_ascii.proofs.WordEnds.{first-within, number-right, number-wrong, number-none}
-use Rattle.import_ascii.proofs.numbered.Statement.{statement}
-use Rattle.import_ascii.proofs.numbered.Tie as tie
+use Rattle.line_words.proofs.WordEnds.{first-within, number-right, number-wrong, number-none}
+use Rattle.line_words.proofs.numbered.Statement.{statement}
+use Rattle.line_words.proofs.numbered.Tie as tie
 
 parse-u64-requires : tie.Need-parse-u64-requires
 parse-u64-requires c κs = search needs

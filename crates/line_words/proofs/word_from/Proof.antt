@@ -1,8 +1,8 @@
 -- `word_from` meets its contract: the two searches find the word.
 use borrow.Author.Needs.{needs}
-use Rattle.import_ascii.proofs.WordEnds.{word-ends, word-open}
-use Rattle.import_ascii.proofs.word_from.Statement.{statement}
-use Rattle.import_ascii.proofs.word_from.Tie as tie
+use Rattle.line_words.proofs.WordEnds.{word-ends, word-open}
+use Rattle.line_words.proofs.word_from.Statement.{statement}
+use Rattle.line_words.proofs.word_from.Tie as tie
 
 forward-requires : tie.Need-forward-requires
 forward-requires c κs = search needs

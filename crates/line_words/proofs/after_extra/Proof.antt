@@ -1,8 +1,8 @@
 -- `after_extra` meets its contract: one word more, or none.
 use borrow.Author.Needs.{needs}
-use Rattle.import_ascii.proofs.WordEnds.{extra-word, extra-none}
-use Rattle.import_ascii.proofs.after_extra.Statement.{statement}
-use Rattle.import_ascii.proofs.after_extra.Tie as tie
+use Rattle.line_words.proofs.WordEnds.{extra-word, extra-none}
+use Rattle.line_words.proofs.after_extra.Statement.{statement}
+use Rattle.line_words.proofs.after_extra.Tie as tie
 
 word-from-requires : tie.Need-word-from-requires
 word-from-requires c κs = search needs

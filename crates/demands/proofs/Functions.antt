@@ -1,7 +1,5 @@
 -- The promises that `Promised` speaks of are the functions' own: what the `ensures` of a public call says, word for word. A list that is added
 -- to a call changes the type of these laws.
-use mathlib.Core.List.{List}
-use Prim.Native.Nat.{ℕ}
 use borrow.Fn.Kinds.{Dens, endedOf}
 use contract.Lifetimes.{Lfts}
 use denote.Ref.{RefT}

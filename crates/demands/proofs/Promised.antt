@@ -1,10 +1,9 @@
 -- One law for each public call: what its function promises is what `Leaves` says of the call, so that the demands speak of the functions. A
 -- list that is added to a call is a parameter of its promise, and so can't be forgotten here.
 use Prim.Native.Nat.{ℕ}
-use mathlib.Core.Path.{_≡_, refl, sym, subst}
+use mathlib.Core.Path.{refl, sym, subst}
 use mathlib.Core.Bool.{Bool}
 use mathlib.Core.List.{List, [], _∷_}
-use lib.ListN.{length}
 use lib.IntN.{ℤ}
 use Rattle.codes.specs.Answer.{Read, value, refused}
 use Rattle.store.specs.Store.{Store}
@@ -28,7 +27,6 @@ use Rattle.c_answers.specs.declared.EvaluateAnswer.{EvaluateAnswer}
 use Rattle.c_answers.specs.declared.ExportAnswer.{ExportAnswer}
 use Rattle.c_answers.specs.Settings.{settingsOf}
 use Rattle.c_answers.specs.Answers as C
-use Rattle.c_answers.specs.Answers.{ExportingForC}
 use Rattle.demands.specs.Lists.{Call, load, evaluate, export}
 use Rattle.demands.specs.Outcome as outcomes
 use Rattle.demands.specs.Outcome.{Tells, Verdict, Outcome, outcome, verdictOf, verdictRead, outputsOf, scratchOf, Leaves, loads, evaluates, exports}
@@ -39,7 +37,10 @@ module _ (f list : Part (List ℕ)) (levels : ℕ) (count : Part ℕ) (level : P
     (edges : Part (List ℤ)) (seats : Part (List ℕ)) where
   -- the call, and the store and the lists as it starts and as it leaves them
   abbrev this : Call
-  this = load (loadInto (old f) (old list) (oldParts f list levels count level then els next heads ids order permids auxids names lens roots rootnames rootlens edges seats))
+  this =
+      load
+      (loadInto (old f) (old list)
+      (oldParts f list levels count level then els next heads ids order permids auxids names lens roots rootnames rootlens edges seats))
 
   abbrev before : Store
   before = oldStore levels (old count) level then els next heads
@@ -47,11 +48,16 @@ module _ (f list : Part (List ℕ)) (levels : ℕ) (count : Part ℕ) (level : P
   abbrev after : Store
   after = newStore levels (new count) level then els next heads
 
+  abbrev lists : Parts
+  lists =
+      newParts f list levels count level then els next heads ids order permids auxids names lens roots rootnames rootlens edges seats
+
   abbrev left : Verdict → Parts → Outcome
   left v q = outcome v after (outputsOf q) (scratchOf q)
 
-  pub load-leaves : {r : Loaded} → LoadPromise f list levels count level then els next heads ids order permids auxids names lens roots rootnames rootlens edges seats r
-      → Leaves this before (left (verdictOf (ofLoaded r)) (newParts f list levels count level then els next heads ids order permids auxids names lens roots rootnames rootlens edges seats))
+  pub load-leaves : {r : Loaded}
+      → LoadPromise f list levels count level then els next heads ids order permids auxids names lens roots rootnames rootlens edges seats r
+      → Leaves this before (left (verdictOf (ofLoaded r)) lists)
   load-leaves {r} p =
       subst (λ q. Leaves this before (left (verdictOf (ofLoaded r)) q)) (sym (p .lists)) (rw (p .answer, p .store) (loads _ _))
 
@@ -60,14 +66,16 @@ module _ (f list : Part (List ℕ)) (levels : ℕ) (count : Part ℕ) (level : P
   zt-tells (head.header h) = (refl, refl)
   zt-tells (head.refusal n line) = (refl, refl)
 
-  abbrev verdict : Verdict
-  verdict = verdictOf (loaded f list levels count level then els next heads ids order permids auxids names lens roots rootnames rootlens edges seats .answer)
+  abbrev answered : head.HeaderAnswer
+  answered =
+      loaded f list levels count level then els next heads ids order permids auxids names lens roots rootnames rootlens edges seats .answer
 
-  pub zt-load-leaves : {r : LoadAnswer} → ZtLoadPromise f list levels count level then els next heads ids order permids auxids names lens roots rootnames rootlens edges seats r
-      → Leaves this before (left verdict (newParts f list levels count level then els next heads ids order permids auxids names lens roots rootnames rootlens edges seats)) × Tells (r .refusal) (r .line) verdict
+  pub zt-load-leaves : {r : LoadAnswer}
+      → ZtLoadPromise f list levels count level then els next heads ids order permids auxids names lens roots rootnames rootlens edges seats r
+      → Leaves this before (left (verdictOf answered) lists) × Tells (r .refusal) (r .line) (verdictOf answered)
   zt-load-leaves p = (
-    subst (λ q. Leaves this before (left verdict q)) (sym (p .lists)) (rw (p .store) (loads _ _)),
-    rw (p .answer) (zt-tells (loaded f list levels count level then els next heads ids order permids auxids names lens roots rootnames rootlens edges seats .answer)),
+    subst (λ q. Leaves this before (left (verdictOf answered) q)) (sym (p .lists)) (rw (p .store) (loads _ _)),
+    rw (p .answer) (zt-tells answered),
   )
 
 -- `dddmp::evaluate`

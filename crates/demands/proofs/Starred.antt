@@ -37,7 +37,8 @@ use Rattle.node_lines.specs.Line.{Line, terminal, inner, deeper, childFault}
 use Rattle.node_lines.specs.Decode.{decodeFrom}
 use Rattle.line_words.specs.Words.{wordFrom, numbered, afterExtra, variableWord}
 use Rattle.import_ascii.specs.Text.{textLine, textLineAt}
-use Rattle.import_bin.specs.Bin.{idAt, childAt, variableAt, binLineAt}
+use Rattle.line_numbers.specs.Numbers.{idAt, childAt, variableAt}
+use Rattle.import_bin.specs.Bin.{binLineAt}
 use Rattle.imported.specs.Build.{edgeFor, addLine, buildOn, build}
 use Rattle.imported.specs.Import.{lineBy, linesIn, linesAnswer, blankAll, endsWell, importOf}
 use Rattle.level_list.specs.List.{listFits}

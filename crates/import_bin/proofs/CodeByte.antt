@@ -15,9 +15,10 @@ use Rattle.read_binary.specs.declared.Byte.the-variants as byte
 use Rattle.read_binary.specs.Kinds.{ofByte}
 use Rattle.read_binary.specs.Binary.{byteAt}
 use Rattle.node_lines.specs.Line.{Line, terminal}
-use Rattle.import_bin.specs.Bin.{idAt, below, childAt, variableAt, resolved, innerAt, byCode, binLineAt}
-use Rattle.import_bin.proofs.Children.{child-after}
-use Rattle.import_bin.proofs.Steps.{then-then, refusal-on, refusal-kept}
+use Rattle.line_numbers.specs.Numbers.{idAt, below, childAt, variableAt}
+use Rattle.import_bin.specs.Bin.{resolved, innerAt, byCode, binLineAt}
+use Rattle.line_numbers.proofs.Children.{child-after}
+use Rattle.line_numbers.proofs.Steps.{then-then, refusal-on, refusal-kept}
 
 -- A line of a variable and two children, from what the code's steps gave: the first refusal decides. Of each child `i` is the number read,
 -- and `s` what its check made of it.

@@ -4,7 +4,8 @@ use Rattle.codes.specs.Codes.{codeOf}
 use Rattle.read_binary.specs.Binary.{meant, byteAt, groupsFrom, numberAt}
 use Rattle.node_lines.specs.Line.{deeper}
 use Rattle.node_lines.specs.Decode.{decodeFrom}
-use Rattle.import_bin.specs.Bin.{idAt, childAt, variableAt, binLineAt}
+use Rattle.line_numbers.specs.Numbers.{idAt, childAt, variableAt}
+use Rattle.import_bin.specs.Bin.{binLineAt}
 use Rattle.import_bin.specs.Examples.{decodedBinary, exampleBytes, exampleBinaryLines, ReadSo, readings, RefusedSo, binaryRefusals}
 
 pub example-decodes : decodedBinary 2 3 exampleBytes ≡ exampleBinaryLines

@@ -20,9 +20,9 @@ use Rattle.edges.proofs.Edge.{abs-neg}
 use Rattle.edges.proofs.Signed.{edge-back, negation-fits, negation-back}
 use Rattle.read_edges.specs.Edges.{signed}
 use Rattle.node_lines.specs.Line.{Line, inner, deeper}
-use Rattle.import_bin.specs.declared.Read.{Read}
-use Rattle.import_bin.specs.declared.Read.the-variants as read
-use Rattle.import_bin.specs.Kinds.{ofReadNumber}
+use Rattle.line_numbers.specs.declared.Read.{Read}
+use Rattle.line_numbers.specs.declared.Read.the-variants as read
+use Rattle.line_numbers.specs.Kinds.{ofReadNumber}
 use Rattle.import_bin.specs.Bin.{countsFrom, countedDown, positionBy, placedAt, resolved}
 
 -- What a relative variable counts down from, by the seats of the children.

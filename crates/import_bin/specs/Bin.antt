@@ -3,40 +3,18 @@
 -- read), else, variable, level.'
 use Prim.Native.Nat.{ℕ, zero, suc, _-_, _/_, _%_}
 use mathlib.Core.List.{List}
-use mathlib.Core.Bool.{Bool, cond, _&&_, _||_}
+use mathlib.Core.Bool.{Bool, cond, _&&_}
 use lib.ListN.{length, getD}
 use lib.IntN.{ℤ, pos}
-use lib.Dec.{ltb, leb, eqb}
+use lib.Dec.{ltb, eqb}
 use Rattle.codes.specs.Answer.{Step, got, fails, then}
 use Rattle.codes.specs.Codes.{codeOf}
 use Rattle.codes.specs.declared.Code.{Code}
 use Rattle.codes.specs.declared.Code.the-variants.{Terminal, AbsoluteID, RelativeID, Relative1}
-use Rattle.read_binary.specs.Binary.{byteAt, numberAt}
+use Rattle.read_binary.specs.Binary.{byteAt}
 use Rattle.read_edges.specs.Edges.{signed}
 use Rattle.node_lines.specs.Line.{Line, terminal, inner, deeper}
-
--- The number of a child of line n. 'Codes: 0 terminal (node 1), 1 absolute, 2 relative (that many before), 3 one before.' A distance above n
--- leaves 0, the number of no line.
-unfoldable pub idAt : Code → ℕ → List ℕ → ℕ → Step ℕ
-idAt Terminal n f at = got 1 at
-idAt AbsoluteID n f at = numberAt f at
-idAt RelativeID n f at = then (numberAt f at) (λ d next. got (n - d) next)
-idAt Relative1 n f at = got (n - 1) at
-
--- '35 child 0 (binary) or not below its node', and so 'A distance above the node's own number gives 35'
-abbrev pub below : ℕ → ℕ → ℕ → Step ℕ
-below n id next = cond (eqb id 0 || leb n id) (fails 35) (got id next)
-
--- A child of line n: its number is read, then checked.
-unfoldable pub childAt : Code → ℕ → List ℕ → ℕ → Step ℕ
-childAt code n f at = then (idAt code n f at) (below n)
-
--- the number of a variable: 'one before' has none, and counts 1
-unfoldable pub variableAt : Code → List ℕ → ℕ → Step ℕ
-variableAt Terminal f at = got 0 at
-variableAt AbsoluteID f at = numberAt f at
-variableAt RelativeID f at = numberAt f at
-variableAt Relative1 f at = got 1 at
+use Rattle.line_numbers.specs.Numbers.{childAt, variableAt}
 
 -- 'A relative variable counts down from the smaller support position of the children; over two terminals it counts down from the store's
 -- level count': by the seats of the two children, which are 0 for a terminal line and else the position and 1

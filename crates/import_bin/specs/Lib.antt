@@ -1,3 +1,2 @@
 pub mod Bin
-pub mod Kinds
 pub mod Examples

@@ -2,98 +2,18 @@
 ghost use mathlib.Core.Path.{_≡_};
 ghost use Prim.Native.Nat.{_-_, _≤_, _<_, _^_};
 ghost use lib.ListN.{length, getD};
-ghost use lib.IntN.{pos};
 ghost use Rattle.codes.specs.Answer.{then};
 ghost use Rattle.node_lines.specs.Kinds.{ofDecoded};
 ghost use Rattle.read_edges.specs.Edges.{signed};
-ghost use Rattle.import_bin.specs.Kinds.{ofReadNumber, ReadBelow};
-ghost use Rattle.import_bin.specs.Bin.{idAt, below, variableAt, countsFrom, positionBy, placedAt, resolved, innerAt, binLineAt};
+ghost use Rattle.line_numbers.specs.Kinds.{ofReadNumber};
+ghost use Rattle.import_bin.specs.Bin.{countsFrom, positionBy, placedAt, resolved, innerAt, binLineAt};
 use codes::Code;
 use codes::refusal;
 use edges::Edge;
 use edges::Index;
+use line_numbers::Read;
 use node_lines::Decoded;
 use read_binary::Byte;
-use read_binary::Number;
-
-// A number and the position after it, or a refusal.
-pub enum Read {
-    Number(u64, usize),
-    Refused(u8),
-}
-
-// The number of the line that many before line `node`; 0, the number of no line, where there is none.
-fn before(node: Index, distance: u64) -> u64
-    ensures { λ r. ⌜ r ≡ node - distance ⌝ }
-{
-    let n = node as u64;
-    // Tested before the difference is made. (The Rust underflows.)
-    if n < distance {
-        return 0;
-    }
-    n - distance
-}
-
-// The number of a child of line `node`.
-fn id_at(code: Code, node: Index, f: &[u8], at: usize) -> Read
-    ensures { λ r. ⌜ ofReadNumber r ≡ idAt code node (now (f .entry)) at ⌝ }
-{
-    match code {
-        Code::Terminal => Read::Number(1, at),
-        Code::AbsoluteID => match read_binary::decode_7bit(f, at) {
-            Number::Value(id, next) => Read::Number(id, next),
-            Number::Refused(k) => Read::Refused(k),
-        },
-        Code::RelativeID => match read_binary::decode_7bit(f, at) {
-            Number::Value(d, next) => Read::Number(before(node, d), next),
-            Number::Refused(k) => Read::Refused(k),
-        },
-        Code::Relative1 => Read::Number(before(node, 1), at),
-    }
-}
-
-// The number of a child of line `node`, read after another number; a refusal of that one passes on.
-fn id_after(code: Code, node: Index, f: &[u8], last: Read) -> Read
-    ensures { λ r. ⌜ ofReadNumber r ≡ then (ofReadNumber last) (λ _ at. idAt code node (now (f .entry)) at) ⌝ }
-{
-    match last {
-        Read::Number(_, at) => id_at(code, node, f, at),
-        Read::Refused(k) => Read::Refused(k),
-    }
-}
-
-// The check of a child's number: it is that of a line below line `node`. A refusal of the number passes on.
-fn below(node: Index, child: Read) -> Read
-    ensures { λ r. ⌜ ofReadNumber r ≡ then (ofReadNumber child) (below node) ⌝ }
-    ensures { λ r. ⌜ ReadBelow node r ⌝ }
-{
-    match child {
-        Read::Number(id, next) => {
-            if id == 0 {
-                return Read::Refused(refusal::BAD_CHILD);
-            }
-            if (node as u64) <= id {
-                return Read::Refused(refusal::BAD_CHILD);
-            }
-            Read::Number(id, next)
-        }
-        Read::Refused(k) => Read::Refused(k),
-    }
-}
-
-// The number of a variable.
-fn variable_at(code: Code, f: &[u8], at: usize) -> Read
-    ensures { λ r. ⌜ ofReadNumber r ≡ variableAt code (now (f .entry)) at ⌝ }
-{
-    match code {
-        Code::Terminal => Read::Number(0, at),
-        Code::Relative1 => Read::Number(1, at),
-        _ => match read_binary::decode_7bit(f, at) {
-            Number::Value(v, next) => Read::Number(v, next),
-            Number::Refused(k) => Read::Refused(k),
-        },
-    }
-}
 
 // What a relative variable counts down from, by the seats of the children.
 fn counts_from(count: u16, t: u16, e: u16) -> u16
@@ -211,11 +131,11 @@ fn inner_at(
     requires { ⌜ (node < 2 ^ 15) × (length (now levels) < 2 ^ 16) ⌝ }
     ensures { λ r. ⌜ ofDecoded r ≡ innerAt count (now (levels .entry)) (now (seats .entry)) node (now (f .entry)) b code at ⌝ }
 {
-    let v = variable_at(code, f, at);
-    let t = id_after(Code::from_bits(b / 8), node, f, v);
-    let then = below(node, t);
-    let e = id_after(Code::from_bits(b), node, f, then);
-    let els = below(node, e);
+    let v = line_numbers::variable_at(code, f, at);
+    let t = line_numbers::id_after(Code::from_bits(b / 8), node, f, v);
+    let then = line_numbers::below(node, t);
+    let e = line_numbers::id_after(Code::from_bits(b), node, f, then);
+    let els = line_numbers::below(node, e);
     match els {
         Read::Number(e, next) => match then {
             Read::Number(t, _) => match v {

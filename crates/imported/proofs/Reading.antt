@@ -23,7 +23,8 @@ use Rattle.header_lines.specs.Sweep.{part}
 use Rattle.node_lines.specs.Line.{Line, terminal, inner, deeper, childFault}
 use Rattle.line_words.specs.Words.{variableWord}
 use Rattle.import_ascii.specs.Text.{describedT, faultless, variable, described, byWord, textLine, lineEndsAt, textLineAt}
-use Rattle.import_bin.specs.Bin.{idAt, below, childAt, variableAt, countsFrom, positionBy, placedAt, resolved, innerAt, byCode, binLineAt}
+use Rattle.line_numbers.specs.Numbers.{idAt, below, childAt, variableAt}
+use Rattle.import_bin.specs.Bin.{countsFrom, positionBy, placedAt, resolved, innerAt, byCode, binLineAt}
 use Rattle.imported.specs.Build.{ChildBelow, Judged}
 use Rattle.imported.specs.Import.{lineBy}
 use Rattle.imported.proofs.Modes.{text-line, bin-line}

@@ -16,7 +16,8 @@ use Rattle.read_binary.specs.Binary.{meant, byteAt, grouped, groupsFrom, number
 use Rattle.read_edges.specs.Edges.{signed}
 use Rattle.node_lines.specs.Line.{Line, seatOfLine, deeper}
 use Rattle.node_lines.specs.Decode.{NodeLines, nodeLines, stopped, moreLines, decodeFrom}
-use Rattle.import_bin.specs.Bin.{idAt, below, childAt, variableAt, countsFrom, positionBy, placedAt, resolved, innerAt, byCode, binLineAt}
+use Rattle.line_numbers.specs.Numbers.{idAt, below, childAt, variableAt}
+use Rattle.import_bin.specs.Bin.{countsFrom, positionBy, placedAt, resolved, innerAt, byCode, binLineAt}
 
 -- no refusal from 40 on
 abbrev Under : {A : Type 0} → Step A → Type 0

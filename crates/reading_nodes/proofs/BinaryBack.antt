@@ -17,7 +17,8 @@ use Rattle.read_binary.specs.Binary.{byteAt}
 use Rattle.read_lines.proofs.Searches.{split}
 use Rattle.node_lines.specs.Line.{Line, terminal, inner, deeper}
 use Rattle.node_lines.proofs.Depth.{deeper-seat}
-use Rattle.import_bin.specs.Bin.{childAt, variableAt, resolved, byCode, binLineAt}
+use Rattle.line_numbers.specs.Numbers.{childAt, variableAt}
+use Rattle.import_bin.specs.Bin.{resolved, byCode, binLineAt}
 use Rattle.imported.specs.Build.{Inner, Judged}
 use Rattle.writers.specs.Binary.{escaped}
 use Rattle.writers.proofs.Decimal.{edge-signed}

@@ -10,8 +10,9 @@ use Rattle.codes.specs.Answer.{got}
 use Rattle.codes.specs.Codes.{codeOf}
 use Rattle.codes.specs.declared.Code.{Code}
 use Rattle.codes.specs.declared.Code.the-variants.{Terminal, AbsoluteID, RelativeID, Relative1}
-use Rattle.import_bin.specs.Bin.{below, idAt, childAt, variableAt, countsFrom, countedDown, positionBy, innerAt, byCode}
-use Rattle.import_bin.proofs.Children.{below-fits}
+use Rattle.line_numbers.specs.Numbers.{below, idAt, childAt, variableAt}
+use Rattle.import_bin.specs.Bin.{countsFrom, countedDown, positionBy, innerAt, byCode}
+use Rattle.line_numbers.proofs.Children.{below-fits}
 use Rattle.writers.proofs.SevenBit.{seven-bit-reads}
 use Rattle.node_writers.specs.Encoded.{codeBits, codeByte, numberFor, childCode, smaller, variableCode}
 use Rattle.reading_nodes.proofs.Standing.{Reads}

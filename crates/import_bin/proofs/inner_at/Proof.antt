@@ -3,8 +3,8 @@ use mathlib.Core.Path.{ap}
 use native.Mathlib.Omega.{arith}
 use borrow.Author.Needs.{needs}
 use denote.Ref.{now}
-use Rattle.import_bin.specs.Kinds.{ofReadNumber}
-use Rattle.import_bin.proofs.Children.{below-small}
+use Rattle.line_numbers.specs.Kinds.{ofReadNumber}
+use Rattle.line_numbers.proofs.Children.{below-small}
 use Rattle.import_bin.proofs.CodeByte.{inner-no-variable, inner-no-then, inner-no-else, inner-resolved}
 use Rattle.import_bin.proofs.inner_at.Statement.{statement}
 use Rattle.import_bin.proofs.inner_at.Tie as tie

@@ -1,7 +1,7 @@
 -- `id_after` meets its contract: it reads where the number before it ends.
 use borrow.Author.Needs.{needs}
-use Rattle.import_bin.proofs.id_after.Statement.{statement}
-use Rattle.import_bin.proofs.id_after.Tie as tie
+use Rattle.line_numbers.proofs.id_after.Statement.{statement}
+use Rattle.line_numbers.proofs.id_after.Tie as tie
 
 enum-known-last : tie.Need-enum-known-last
 enum-known-last c = search needs

@@ -1,9 +1,9 @@
 -- `variable_at` meets its contract: each arm is a case of `variableAt`, and the last one two.
 use mathlib.Core.Path.{sym, _∙_}
 use borrow.Author.Needs.{needs}
-use Rattle.import_bin.proofs.Children.{number-as, variable-terminal, variable-one-before, variable-written}
-use Rattle.import_bin.proofs.variable_at.Statement.{statement}
-use Rattle.import_bin.proofs.variable_at.Tie as tie
+use Rattle.line_numbers.proofs.Children.{number-as, variable-terminal, variable-one-before, variable-written}
+use Rattle.line_numbers.proofs.variable_at.Statement.{statement}
+use Rattle.line_numbers.proofs.variable_at.Tie as tie
 
 enum-told : tie.Need-enum-told
 enum-told c = search needs

@@ -1,8 +1,8 @@
 -- What the answers of the code stand for.
 use Prim.Native.Nat.{ℕ, _≤_, _<_}
 use Rattle.codes.specs.Answer.{Step, got, fails}
-use Rattle.import_bin.specs.declared.Read.{Read}
-use Rattle.import_bin.specs.declared.Read.the-variants as read
+use Rattle.line_numbers.specs.declared.Read.{Read}
+use Rattle.line_numbers.specs.declared.Read.the-variants as read
 
 abbrev pub ofReadNumber : Read → Step ℕ
 ofReadNumber (read.Number v next) = got v next

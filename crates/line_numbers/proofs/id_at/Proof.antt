@@ -1,9 +1,9 @@
 -- `id_at` meets its contract: each arm is a case of `idAt`.
 use mathlib.Core.Path.{sym, ap, _∙_}
 use borrow.Author.Needs.{needs}
-use Rattle.import_bin.proofs.Children.{number-as, id-terminal, id-absolute, id-relative, id-one-before}
-use Rattle.import_bin.proofs.id_at.Statement.{statement}
-use Rattle.import_bin.proofs.id_at.Tie as tie
+use Rattle.line_numbers.proofs.Children.{number-as, id-terminal, id-absolute, id-relative, id-one-before}
+use Rattle.line_numbers.proofs.id_at.Statement.{statement}
+use Rattle.line_numbers.proofs.id_at.Tie as tie
 
 enum-told : tie.Need-enum-told
 enum-told c = search needs

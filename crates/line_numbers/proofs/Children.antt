@@ -13,11 +13,11 @@ use Rattle.codes.proofs.Code.{the-type}
 use Rattle.read_binary.specs.declared.Number.{Number}
 use Rattle.read_binary.specs.Kinds.{ofNumber}
 use Rattle.read_binary.specs.Binary.{numberAt}
-use Rattle.import_bin.specs.declared.Read.{Read}
-use Rattle.import_bin.specs.declared.Read.the-variants as read
-use Rattle.import_bin.specs.Kinds.{ReadBelow}
-use Rattle.import_bin.specs.Bin.{idAt, below, childAt, variableAt}
-use Rattle.import_bin.proofs.Steps.{then-then}
+use Rattle.line_numbers.specs.declared.Read.{Read}
+use Rattle.line_numbers.specs.declared.Read.the-variants as read
+use Rattle.line_numbers.specs.Kinds.{ReadBelow}
+use Rattle.line_numbers.specs.Numbers.{idAt, below, childAt, variableAt}
+use Rattle.line_numbers.proofs.Steps.{then-then}
 
 -- what a number's answer that was taken apart stands for
 pub number-as : {r q : Number} {s : Step ℕ} → ofNumber r ≡ s → r ≡ q → s ≡ ofNumber q

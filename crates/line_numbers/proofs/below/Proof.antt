@@ -2,9 +2,9 @@
 use mathlib.Core.Path.{sym}
 use native.Mathlib.Omega.{arith}
 use borrow.Author.Needs.{needs}
-use Rattle.import_bin.proofs.Children.{below-zero, below-over, below-fits}
-use Rattle.import_bin.proofs.below.Statement.{statement}
-use Rattle.import_bin.proofs.below.Tie as tie
+use Rattle.line_numbers.proofs.Children.{below-zero, below-over, below-fits}
+use Rattle.line_numbers.proofs.below.Statement.{statement}
+use Rattle.line_numbers.proofs.below.Tie as tie
 
 enum-known-child : tie.Need-enum-known-child
 enum-known-child c = search needs

@@ -72,3 +72,23 @@ front-refuses xs ys e h = e ∙ sym (faults-front xs ys (λ z. h (e ∙ z)))
 -- where it has none
 pub front-passes : {r : ℕ} (xs ys : List ℕ) → r ≡ firstFault xs → r ≡ 0 → firstFault ys ≡ firstFault (xs ++ ys)
 front-passes xs ys e h = sym (faults-back xs ys (sym e ∙ h))
+
+-- What holds of no refusal and of each check holds of the first refusal.
+module _ (P : ℕ → Type 0) where
+  -- of no checks
+  pub none-in : P 0 → P (firstFault [])
+  unfolding firstFault
+  none-in h = h
+
+  -- of a check and others
+  pub first-in : (n : ℕ) (l : List ℕ) → P n → P (firstFault l) → P (firstFault (n ∷ l))
+  unfolding firstFault
+  first-in zero l h k = k
+  first-in (suc n) l h k = h
+
+  -- of two lists of checks
+  pub front-in : (xs ys : List ℕ) → P (firstFault xs) → P (firstFault ys) → P (firstFault (xs ++ ys))
+  unfolding firstFault
+  front-in [] ys h k = k
+  front-in (zero ∷ xs) ys h k = front-in xs ys h k
+  front-in (suc n ∷ xs) ys h k = h

@@ -3,3 +3,4 @@ pub mod Lent
 pub mod Bytes
 pub mod Faults
 pub mod Refusals
+pub mod Numbers

@@ -35,3 +35,13 @@ within-none lim n k h = go (ltb lim n) refl h
     go : (b : Bool) → ltb lim n ≡ b → when b (suc k) ≡ 0 → n ≤ lim
     go true e h = absurd (omega arith)
     go false e h = ltb-false lim n e
+
+-- What holds of no refusal and of a check's refusal holds of the check.
+module _ (P : ℕ → Type 0) (z : P 0) {n : ℕ} (h : P n) where
+  pub when-in : (b : Bool) → P (when b n)
+  when-in true = h
+  when-in false = z
+
+  pub unless-in : (b : Bool) → P (unless b n)
+  unless-in true = z
+  unless-in false = h

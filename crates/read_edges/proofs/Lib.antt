@@ -1,4 +1,5 @@
 pub mod EdgeList
 pub mod EdgeSteps
 pub mod EdgeWords
+pub mod Refusals
 pub mod SignedEntries

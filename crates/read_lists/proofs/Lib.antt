@@ -1,3 +1,4 @@
 pub mod Another
 pub mod Judge
 pub mod Judged
+pub mod Refusals

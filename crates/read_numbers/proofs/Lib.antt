@@ -1,4 +1,5 @@
 pub mod Digits
 pub mod Number
+pub mod Refusals
 pub mod Value
 pub mod Words

@@ -4,10 +4,11 @@ use mathlib.Core.List.{List, [], _∷_}
 use mathlib.Core.Bool.{Bool, true, false, _&&_}
 use Prim.Native.Nat.{ℕ, suc, _+_, _≤_, _<_}
 use native.Mathlib.Numerals.{add-one}
+use native.Mathlib.Omega.{arith}
 use lib.ListN.{length, getD, drop, drop-of-length-le}
 use lib.Seq.{drop-cons}
 use lib.Dec.{eqb}
-use borrow.Author.Tests.{eq-eqb, ne-eqb}
+use borrow.Author.Tests.{eqb-true, eq-eqb, ne-eqb}
 use Rattle.read_text.specs.Alike.{alike}
 
 -- a test and one that fails, together, fail
@@ -38,3 +39,21 @@ module _ (a b : List ℕ) (i : ℕ) where
   pub alike-end : length a ≤ i → length b ≤ i → alike (drop i a) (drop i b) ≡ true
   unfolding alike
   alike-end h k = rw (drop-of-length-le a h, drop-of-length-le b k)
+
+-- texts that are the same are one,
+pub alike-is : (a b : List ℕ) → alike a b ≡ true → a ≡ b
+unfolding alike
+alike-is [] [] e = refl
+alike-is [] (y ∷ ys) e = absurd (let z : _≡_ {A = ℕ} 0 1 = cc in omega arith)
+alike-is (x ∷ xs) [] e = absurd (let z : _≡_ {A = ℕ} 0 1 = cc in omega arith)
+alike-is (x ∷ xs) (y ∷ ys) e = of (eqb x y) refl (alike-is xs ys) e
+  where
+    of : (b : Bool) → eqb x y ≡ b → (alike xs ys ≡ true → xs ≡ ys) → b && alike xs ys ≡ true → x ∷ xs ≡ y ∷ ys
+    of true q r k = cc (eqb-true x y q, r k)
+    of false q r k = absurd (let z : _≡_ {A = ℕ} 0 1 = cc in omega arith)
+
+-- and a text is the same as itself
+pub alike-self : (a : List ℕ) → alike a a ≡ true
+unfolding alike
+alike-self [] = refl
+alike-self (x ∷ xs) = rw (eq-eqb x x refl) (alike-self xs)

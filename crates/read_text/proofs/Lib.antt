@@ -1,4 +1,5 @@
 pub mod Alike
 pub mod Encodings
 pub mod NameLists
+pub mod Refusals
 pub mod Texts

@@ -1,1 +1,2 @@
 pub mod RootEdges
+pub mod RootRefusals

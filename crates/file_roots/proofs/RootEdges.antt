@@ -1,16 +1,17 @@
 -- Laws of roots: their faults, and the edges that they are.
 use mathlib.Core.Path.{_≡_, refl, sym, ap, _∙_}
+use mathlib.Core.Logic.{_↔_}
 use mathlib.Core.Bool.{Bool, true, false, cond}
 use mathlib.Core.List.{List, [], _∷_, _++_, map, append-nil, append-assoc}
-use Prim.Native.Nat.{ℕ, _+_, _^_, _≤_, _<_}
+use Prim.Native.Nat.{ℕ, zero, suc, _+_, _^_, _≤_, _<_}
 use native.Mathlib.Omega.{arith}
-use native.Mathlib.Decide.{ℕ-discrete}
+use native.Mathlib.Decide.{decLt, ℕ-discrete}
 use native.Mathlib.Numerals.{add-one}
 use lib.IntN.{ℤ, pos, natAbs}
 use lib.ListN.{length, getD, drop, set, length-append, drop-of-length-le}
 use lib.Seq.{drop-cons, set-out}
 use lib.Dec.{ltb}
-use borrow.Author.Tests.{ltb-true, ltb-false, lt-ltb, le-ltb, eq-eqb, ne-eqb}
+use borrow.Author.Tests.{ltb-false, lt-ltb, le-ltb, eq-eqb, ne-eqb}
 use mir.Syntax.{Width}
 use mir.Val.{SFits, hbits, toZ, ofZ}
 use mir.ValLaws.{toZ-ofZ}
@@ -18,7 +19,7 @@ use Rattle.edges.proofs.Signed.{edge-fits, edge-back, abs-back}
 use Rattle.codes.specs.Limits.{nodeLimit}
 use Rattle.codes.specs.Lent.{laid}
 use Rattle.codes.proofs.Lent.{length-laid, laid-more, laid-none}
-use Rattle.file_roots.specs.Roots.{rootsFault, edgeOf}
+use Rattle.file_roots.specs.Roots.{RootsAllowed, rootsFault, edgeOf}
 
 module _ (n : ℕ) (r : ℤ) (rs : List ℤ) where
   -- a root that is 0
@@ -135,21 +136,36 @@ module _ (rs old : List ℤ) where
       pub edged-past : length dst ≤ i → Edged rs old dst (i + 1)
       edged-past k = rw (set-out dst i (edgeOf (getD rs i (pos 0))) k) at (edged-more refl)
 
--- where no root has a fault the first one fits and the others have none
-no-fault : (n : ℕ) (r : ℤ) (rs : List ℤ) → rootsFault n (r ∷ rs) ≡ 0 → (natAbs r ≤ n) × (rootsFault n rs ≡ 0)
-no-fault n r rs h = go (ℕ-discrete (natAbs r) 0)
+-- where no root has a fault the first one names a node and the others have none
+no-fault : (n : ℕ) (r : ℤ) (rs : List ℤ) → rootsFault n (r ∷ rs) ≡ 0 → ((1 ≤ natAbs r) × (natAbs r ≤ n)) × (rootsFault n rs ≡ 0)
+no-fault n r rs h = go (ℕ-discrete (natAbs r) 0) (decLt n (natAbs r))
   where
-    size : (natAbs r ≡ 0 → ⊥) → (b : Bool) → ltb n (natAbs r) ≡ b → (natAbs r ≤ n) × (rootsFault n rs ≡ 0)
-    size z true e = absurd (omega (arith, root-over n r rs z (ltb-true n (natAbs r) e)))
-    size z false e = let k = ltb-false n (natAbs r) e in (k, sym (root-fits n r rs z k) ∙ h)
+    go : Dec (natAbs r ≡ 0) → Dec (n < natAbs r) → ((1 ≤ natAbs r) × (natAbs r ≤ n)) × (rootsFault n rs ≡ 0)
+    go (yes z) d = absurd (omega (arith, root-zero n r rs z))
+    go (no z) (yes l) = absurd (omega (arith, root-over n r rs z l))
+    go (no z) (no l) = ((omega arith, omega arith), sym (root-fits n r rs z (omega arith)) ∙ h)
 
-    go : Dec (natAbs r ≡ 0) → (natAbs r ≤ n) × (rootsFault n rs ≡ 0)
-    go (yes z) = absurd (omega (arith, root-zero n r rs z))
-    go (no z) = size z (ltb n (natAbs r)) refl
+-- so each names one
+root-within : (n : ℕ) (rs : List ℤ) → rootsFault n rs ≡ 0 → RootsAllowed n rs
+root-within n [] h i k = absurd (omega arith)
+root-within n (r ∷ rs) h zero k = no-fault n r rs h .0
+root-within n (r ∷ rs) h (suc i) k = root-within n rs (no-fault n r rs h .1) i (omega arith)
+
+-- where each names one none has a fault
+within-tested : (n : ℕ) (rs : List ℤ) → RootsAllowed n rs → rootsFault n rs ≡ 0
+unfolding rootsFault
+within-tested n [] A = refl
+within-tested n (r ∷ rs) A =
+    let a = A 0 (omega arith) in
+    root-fits n r rs (λ z. omega (arith, a .0)) (a .1) ∙ within-tested n rs (λ i h. A (suc i) (omega arith))
+
+-- no root has a fault exactly where each is allowed: not zero, and its magnitude not above the number of nodes
+pub roots-allowed : (n : ℕ) (rs : List ℤ) → (rootsFault n rs ≡ 0) ↔ RootsAllowed n rs
+roots-allowed n rs = (root-within n rs, within-tested n rs)
 
 -- where no root has a fault each is itself as an edge
 pub faultless-edges : (n : ℕ) (rs : List ℤ) → rootsFault n rs ≡ 0 → n ≤ nodeLimit → map edgeOf rs ≡ rs
 faultless-edges n [] h k = refl
 faultless-edges n (r ∷ rs) h k =
     let f = no-fault n r rs h in
-    rw (edge-same r (omega (arith, f .0)), faultless-edges n rs (f .1) k)
+    rw (edge-same r (omega (arith, f .0 .1)), faultless-edges n rs (f .1) k)

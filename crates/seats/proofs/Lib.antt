@@ -1,2 +1,5 @@
+pub mod Counting
+pub mod MappedEntries
 pub mod NumberSeats
+pub mod OrderedLists
 pub mod Seating

@@ -1,2 +1,3 @@
 pub mod Ordered
+pub mod Outside
 pub mod Seats

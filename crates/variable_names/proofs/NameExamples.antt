@@ -33,6 +33,9 @@ b = place 12 1
 abbrev c : Place
 c = place 14 1
 
+abbrev d : Place
+d = place 16 1
+
 -- `.varnames` first
 pub from-all : variableNames 3 ids permids (a ∷ b ∷ c ∷ []) (c ∷ b ∷ a ∷ []) (a ∷ c ∷ []) ≡ a ∷ b ∷ c ∷ []
 unfolding variableNames
@@ -42,6 +45,11 @@ from-all = refl
 pub from-ordered : variableNames 3 ids permids [] (a ∷ b ∷ c ∷ []) (a ∷ c ∷ []) ≡ c ∷ b ∷ a ∷ []
 unfolding variableNames orderedSeats orderedFrom freeFrom seatOf
 from-ordered = refl
+
+-- four variables, of which 2 is the support variable, with permid 0: it has the first name, and the others have the other names in order
+pub from-ordered-rest : variableNames 4 (2 ∷ []) (0 ∷ []) [] (a ∷ b ∷ c ∷ d ∷ []) [] ≡ b ∷ c ∷ a ∷ d ∷ []
+unfolding variableNames orderedSeats orderedFrom freeFrom seatOf
+from-ordered-rest = refl
 
 -- else `.suppvarnames`
 pub from-supp : variableNames 3 ids permids [] [] (a ∷ c ∷ []) ≡ a ∷ emptyName ∷ c ∷ []

@@ -1,5 +1,6 @@
 -- The names of variables. Document 01, 'The file's writer, header as a whole' (24), and 'Header' ('Names: ..').
-use Prim.Native.Nat.{ℕ, zero, suc, _+_}
+use mathlib.Core.Path.{_≡_}
+use Prim.Native.Nat.{ℕ, zero, suc, _+_, _<_}
 use mathlib.Core.List.{List, [], _∷_, map}
 use mathlib.Core.Bool.{Bool, true, _&&_}
 use lib.ListN.{getD, drop}
@@ -16,6 +17,11 @@ unfoldable pub places : List ℕ → List ℕ → List Place
 places [] lens = []
 places (s ∷ ss) [] = []
 places (s ∷ ss) (n ∷ ns) = place s n ∷ places ss ns
+
+-- names at two places that aren't 'unlike': equally long, and byte by byte the same
+pub record LikeNames (f : List ℕ) (p q : Place) : Type 0 where
+  pub same-length : p .len ≡ q .len
+  pub same-bytes : (k : ℕ) → k < p .len → getD f (p .start + k) 0 ≡ getD f (q .start + k) 0
 
 -- whether the n bytes from a on are those from b on
 unfoldable pub sameBytes : List ℕ → ℕ → ℕ → ℕ → Bool

@@ -1,17 +1,33 @@
 -- Laws of what is judged before anything is read: the lengths of the lent lists, and the input's.
 use mathlib.Core.Path.{_≡_, refl, sym, _∙_}
-use mathlib.Core.Bool.{Bool, true, false, not}
-use mathlib.Core.List.{List, []}
+use mathlib.Core.Logic.{_↔_}
+use mathlib.Core.Bool.{Bool, true, false, not, _&&_}
+use mathlib.Core.List.{List, [], _∷_}
 use Prim.Native.Nat.{ℕ, _+_, _≤_, _<_}
 use native.Mathlib.Numerals.{add-one}
 use lib.ListN.{length, getD, drop, drop-of-length-le}
 use lib.Seq.{drop-cons}
-use borrow.Author.Tests.{le-leb, lt-leb, not-true, not-false}
+use lib.Dec.{leb}
+use borrow.Author.Tests.{leb-true, le-leb, lt-leb, not-true, not-false}
+use Rattle.codes.proofs.Bytes.{both}
+use Rattle.read_lines.specs.Each.{Each, none, each}
 use Rattle.codes.specs.Limits.{varLimit, rootLimit, inputLimit}
 use Rattle.codes.specs.Faults.{firstFault}
 use Rattle.codes.proofs.Faults.{refuses, first-none, rest-none}
 use Rattle.codes.proofs.Refusals.{over-refuses, within-passes, within-none}
 use Rattle.header.specs.Header.{atLeast, listsFault, lengthFault, lengthAfter, MayRead}
+
+-- Lengths pass exactly where each is enough.
+pub lengths-enough : (least : ℕ) (l : List ℕ) → (atLeast least l ≡ true) ↔ Each (λ n. least ≤ n) l
+unfolding atLeast
+lengths-enough least [] = (λ h. none, λ e. refl)
+lengths-enough least (n ∷ l) = (
+  λ h. let w = both (leb least n) (atLeast least l) h in each (leb-true least n (w .0)) (lengths-enough least l .0 (w .1)),
+  go (lengths-enough least l .1),
+)
+  where
+    go : (Each (λ n. least ≤ n) l → atLeast least l ≡ true) → Each (λ n. least ≤ n) (n ∷ l) → (leb least n && atLeast least l) ≡ true
+    go f (each h e) = rw (le-leb least n h) (f e)
 
 -- The first i lengths are enough, so that the others decide.
 module _ (least : ℕ) (l : List ℕ) (i : ℕ) (s : atLeast least l ≡ atLeast least (drop i l)) where

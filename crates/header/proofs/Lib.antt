@@ -1,3 +1,4 @@
+pub mod HeaderSays
 pub mod Lengths
 pub mod NoValues
 pub mod Faultless

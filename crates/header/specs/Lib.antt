@@ -1,4 +1,5 @@
 pub mod Header
+pub mod HeaderSaid
 pub mod Kinds
 pub mod Promises
 pub mod Examples

@@ -1,4 +1,3 @@
-pub mod Accepted
 pub mod Agreeing
 pub mod Checked
 pub mod NameCounts
@@ -7,3 +6,5 @@ pub mod Refusals
 pub mod Rooted
 pub mod Supporting
 pub mod Upward
+pub mod WholeNumbers
+pub mod WholeRules

@@ -44,11 +44,6 @@ module _ (nvars nnodes nsuppvars : ℕ) where
     unfolding numberFaults
     few-vars = within-none varLimit nvars 18 (first-none _ _ h)
 
-    -- and few nodes
-    pub few-nodes : nnodes ≤ nodeLimit
-    unfolding numberFaults
-    few-nodes = within-none nodeLimit nnodes 18 (first-none _ _ (rest-none _ _ h))
-
     -- and few support variables, since there are no more of them than variables
     pub few-supp : nsuppvars ≤ varLimit
     unfolding numberFaults

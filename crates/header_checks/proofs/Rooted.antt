@@ -12,8 +12,8 @@ use Rattle.file_roots.specs.Roots.{rootsFault}
 use Rattle.header_values.specs.Values.{nnodesIn, nrootsIn, namesIn, rootsIn}
 use Rattle.codes.specs.Faults.{firstFault}
 use Rattle.header_checks.specs.Whole.{givenFault, rootFaults}
-use Rattle.codes.proofs.Faults.{first-none, rest-none, refuses, passes, last-check}
-use Rattle.header_checks.proofs.Refusals.{count-right, count-wrong, count-none}
+use Rattle.codes.proofs.Faults.{refuses, passes, last-check}
+use Rattle.header_checks.proofs.Refusals.{count-right, count-wrong}
 
 -- a list that begins with n roots reaches as far
 pub roots-reach : (dst : List ℤ) {n : ℕ} {rs : List ℤ} → n ≡ length rs → take n dst ≡ rs → n ≤ length dst
@@ -45,15 +45,3 @@ module _ (f : List ℕ) (t : List Span) where
       unfolding rootFaults
       roots-pass z k g =
           rw (w, k) at g ∙ last-check _ ∙ passes _ (rw (v, r) at e) z ∙ passes _ refl (count-right _ _ (sym p ∙ h ∙ w))
-
-  -- where there is no refusal
-  module _ (h : firstFault (rootFaults f t) ≡ 0) where
-    -- there are as many roots as there must be
-    pub roots-counted : length (rootsIn f t) ≡ nrootsIn f t
-    unfolding rootFaults
-    roots-counted = count-none _ _ (first-none _ _ h)
-
-    -- none of them has a fault
-    pub roots-fit : rootsFault (nnodesIn f t) (rootsIn f t) ≡ 0
-    unfolding rootFaults
-    roots-fit = first-none _ _ (rest-none _ _ h)

@@ -15,9 +15,9 @@ use Rattle.header_values.specs.Values.{pad, nvarsIn, nsuppvarsIn, u32sIn}
 use Rattle.header_values.proofs.Fronts.{front-fits, front-is, front-long}
 use Rattle.codes.specs.Faults.{firstFault, unless}
 use Rattle.header_checks.specs.Whole.{givenFault, supportFaults, Supported, IdsRead, ListRoom}
-use Rattle.codes.proofs.Faults.{first-none, rest-none, refuses, passes, last-check}
-use Rattle.codes.proofs.Refusals.{unless-holds, unless-fails, unless-none}
-use Rattle.header_checks.proofs.Refusals.{count-right, count-wrong, count-none}
+use Rattle.codes.proofs.Faults.{refuses, passes, last-check}
+use Rattle.codes.proofs.Refusals.{unless-holds, unless-fails}
+use Rattle.header_checks.proofs.Refusals.{count-right, count-wrong}
 
 -- the counts are right, so that the ids and the permids decide
 abbrev pub CountsPass : List ℕ → List Span → Type 0
@@ -122,24 +122,3 @@ module _ (f : List ℕ) (t : List Span) where
           ∙ last-check _
           ∙ passes _ refl (unless-holds 22 (ids-answer ∙ not-false a h))
           ∙ pass
-
-  -- where there is no refusal
-  module _ (h : firstFault (supportFaults f t) ≡ 0) where
-    -- there are as many ids and permids as support variables
-    pub supported : Supported f t
-    unfolding supportFaults
-    supported =
-        record {
-          ids-counted = count-none _ _ (first-none _ _ h);
-          permids-counted = count-none _ _ (first-none _ _ (rest-none _ _ h));
-        }
-
-    -- the ids fit
-    pub ids-fit : idsFit (nvarsIn f t) (u32sIn f t Ids) ≡ true
-    unfolding supportFaults
-    ids-fit = unless-none _ 21 (first-none _ _ (rest-none _ _ (rest-none _ _ (rest-none _ _ h))))
-
-    -- the permids fit
-    pub permids-fit : permidsFit (nvarsIn f t) (u32sIn f t Permids) ≡ true
-    unfolding supportFaults
-    permids-fit = unless-none _ 22 (first-none _ _ (rest-none _ _ (rest-none _ _ (rest-none _ _ (rest-none _ _ h)))))

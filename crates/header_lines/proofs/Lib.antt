@@ -1,4 +1,6 @@
 pub mod Entries
+pub mod HeaderEnd
+pub mod LastLines
 pub mod Lasts
 pub mod Lines
 pub mod Progress

@@ -1,2 +1,4 @@
 pub mod Kinds
+pub mod Last
+pub mod SoundLines
 pub mod Sweep

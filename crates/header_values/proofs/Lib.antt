@@ -4,3 +4,4 @@ pub mod Fronts
 pub mod Padded
 pub mod Single
 pub mod Spanned
+pub mod ValuesSaid

@@ -1,3 +1,4 @@
 pub mod Kinds
 pub mod Promises
+pub mod Reading
 pub mod Values

@@ -1,3 +1,4 @@
 pub mod Faults
 pub mod TextLines
 pub mod Examples
+pub mod Refusals

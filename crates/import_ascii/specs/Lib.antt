@@ -1,3 +1,4 @@
 pub mod Text
 pub mod Kinds
 pub mod Examples
+pub mod TextNumbers

@@ -1,2 +1,3 @@
 pub mod Bin
+pub mod BinaryNumbers
 pub mod Examples

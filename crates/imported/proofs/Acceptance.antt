@@ -1,9 +1,9 @@
 -- The theorem of acceptance: the nodes of a file are read exactly where all lines can be read, the file ends well, and the store has room;
 -- and then each root answers in the store what the file's own lines say. Document 01, 'Node lines' and 'Whoever filled the store'.
 use mathlib.Core.Path.{_≡_, refl, sym, ap, subst, _∙_}
-use mathlib.Core.Logic.{_⊎_, inl, inr, _↔_}
+use mathlib.Core.Logic.{_⊎_, inl, inr, ⊎-elim, _↔_}
 use mathlib.Core.Bool.{Bool, true, false, cond}
-use mathlib.Core.List.{List, [], map}
+use mathlib.Core.List.{List, map}
 use Prim.Native.Nat.{ℕ, _+_, _≤_, _<_}
 use native.Mathlib.Omega.{arith}
 use native.Mathlib.Decide.{decLt}
@@ -16,14 +16,14 @@ use Rattle.store.specs.Store.{Store}
 use Rattle.store.specs.Rules.{limits, Rules}
 use Rattle.store.specs.Growth.{Grows}
 use Rattle.node_lines.specs.Decode.{DecodeEnd, allRead, stopped}
-use Rattle.import_bin.specs.Bin.{binLineAt}
+use Rattle.import_bin.specs.BinaryNumbers.{BinaryNumber}
 use Rattle.imported.specs.Build.{LevelsOf, edgeFor, countNeeded}
-use Rattle.imported.specs.Import.{Setup, lineBy, lineAt, linesIn, NodesAnswer, nodes, refusal, lineFor, answerBy, builtFrom, linesAnswer}
+use Rattle.imported.specs.Import.{Setup, linesIn, NodesAnswer, nodes, refusal, lineFor, answerBy, builtFrom, linesAnswer}
 use Rattle.imported.specs.Import.{endsWell, withEnd, edgesOf, rootEdge, rootsBy, isRead, Imported, importOf}
 use Rattle.imported.specs.Acceptance.{StoreRoom, Crowded, NodesAccepted, NodesLeft}
 use Rattle.imported.proofs.Building.{build-40}
 use Rattle.imported.proofs.Room.{build-room, build-count}
-use Rattle.imported.proofs.Refusals.{bin-refusal, decoded-stopped}
+use Rattle.imported.proofs.Refusals.{lines-stopped}
 use Rattle.imported.proofs.Settling.{lines-count, AllIn, answer-all, all-answer, lines-built}
 
 -- room, or too little of it
@@ -48,19 +48,9 @@ stopped-40 u k n h p q = go (u .ascii) h q
         omega (arith, c)
     go false h q = let a : k ≡ 40 = cc in omega (arith, h refl)
 
--- the reader of a binary file
-bin-line : (u : Setup) (f seats : List ℕ) (n at : ℕ) → u .ascii ≡ false
-    → lineAt u f seats n at ≡ binLineAt (u .levels) (u .list) seats n f at
-unfolding lineBy
-bin-line u f seats n at e = rw e
-
--- where a line is refused
-lines-stopped : (u : Setup) (f : List ℕ) (at k n : ℕ) → linesIn u f at .end ≡ stopped k n → (u .ascii ≡ false → k < 40) × (1 ≤ n)
-unfolding linesIn
-lines-stopped u f at k n q =
-    decoded-stopped (lineAt u f) (λ (r : ℕ). u .ascii ≡ false → r < 40)
-    (λ seats i from r x e. bin-refusal (u .levels) (u .list) seats i f from r (sym (bin-line u f seats i from e) ∙ x))
-    (u .nnodes) [] 1 at k n q
+-- a binary line's number is below 40
+binary-under : (k : ℕ) → BinaryNumber k → k < 40
+binary-under k h = ⊎-elim (λ z. omega arith) (λ z. omega (arith, z .1)) h
 
 module _ (u : Setup) (σ : Store) (f : List ℕ) (at : ℕ) (ids : List ℤ) (R : Rules limits σ) (W : LevelsOf σ (u .list)) where
   -- the answer, taken apart
@@ -73,10 +63,10 @@ module _ (u : Setup) (σ : Store) (f : List ℕ) (at : ℕ) (ids : List ℤ) (R 
   all-accepted next A = all-answer u f (linesIn u f at .end) (builtFrom u σ f at .answer) next A
 
   -- lines that have room are made
-  room-made : StoreRoom (u .list) σ (linesIn u f at .lines) → (edges : List ℤ) × (builtFrom u σ f at .answer ≡ value edges)
+  pub room-made : StoreRoom (u .list) σ (linesIn u f at .lines) → (edges : List ℤ) × (builtFrom u σ f at .answer ≡ value edges)
   room-made r = build-room limits (u .list) σ (linesIn u f at .lines) (R .sizes) .1 (r .slots, r .limit)
 
-  made-room : (edges : List ℤ) → builtFrom u σ f at .answer ≡ value edges → StoreRoom (u .list) σ (linesIn u f at .lines)
+  pub made-room : (edges : List ℤ) → builtFrom u σ f at .answer ≡ value edges → StoreRoom (u .list) σ (linesIn u f at .lines)
   made-room edges q =
       let w = build-room limits (u .list) σ (linesIn u f at .lines) (R .sizes) .0 (edges, q) in record { slots = w .0; limit = w .1 }
 
@@ -148,7 +138,8 @@ module _ (u : Setup) (σ : Store) (f : List ℕ) (at : ℕ) (ids : List ℤ) (R 
   forty-built : (x : Read (List ℤ)) (e : DecodeEnd) → linesIn u f at .end ≡ e → withEnd f (answerBy u e x) ≡ refusal 40 0
       → (k : ℕ) × (x ≡ refused k)
   forty-built (refused k) e p q = (k, refl)
-  forty-built (value edges) (stopped k n) p q = let w = lines-stopped u f at k n p in absurd (stopped-40 u k n (w .0) (w .1) q)
+  forty-built (value edges) (stopped k n) p q =
+      let w = lines-stopped u f at k n p in absurd (stopped-40 u k n (λ b. binary-under k (w .binary b)) (w .from-one) q)
   forty-built (value edges) (allRead next) p q = absurd (go (endsWell f next) q)
     where
       go : (b : Bool) → cond b (nodes next) (refusal 39 0) ≡ refusal 40 0 → ⊥
@@ -159,7 +150,7 @@ module _ (u : Setup) (σ : Store) (f : List ℕ) (at : ℕ) (ids : List ℤ) (R 
   unfolding importOf linesAnswer
   forty-refused q = forty-built (builtFrom u σ f at .answer) (linesIn u f at .end) refl q
 
-  refused-forty : (k : ℕ) → builtFrom u σ f at .answer ≡ refused k → importOf u σ f at ids .answer ≡ refusal 40 0
+  pub refused-forty : (k : ℕ) → builtFrom u σ f at .answer ≡ refused k → importOf u σ f at ids .answer ≡ refusal 40 0
   unfolding importOf linesAnswer
   refused-forty k q =
       ap (λ (x : Read (List ℤ)). withEnd f (answerBy u (linesIn u f at .end) x)) q

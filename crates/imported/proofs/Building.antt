@@ -1,13 +1,14 @@
 -- A file's node lines made into a store: the store keeps the rules and has only grown, and the edge of each root or child says what the
 -- file's own lines say. Document 01, 'Store and meaning' and 'Node lines'.
 use mathlib.Core.Path.{_≡_, refl, sym, ap, ap₂, subst, _∙_}
-use mathlib.Core.Bool.{true, cond}
+use mathlib.Core.Bool.{Bool, true, false, cond}
+use mathlib.Core.Option.{some}
 use mathlib.Core.List.{List, [], _∷_, _++_}
 use Prim.Native.Nat.{ℕ, suc, _+_, _-_, _≤_, _<_}
 use native.Mathlib.Omega.{arith}
 use native.Mathlib.Decide.{decLt}
 use borrow.Author.Tests.{ltb-true}
-use lib.ListN.{length, getD, length-append, List·getD-append}
+use lib.ListN.{length, getD, getElem?, length-append, List·getD-append}
 use lib.Seq.{append-snoc, getD-at}
 use lib.IntN.{ℤ, pos, negsuc, natAbs}
 use Rattle.codes.specs.Answer.{Read, value, refused}
@@ -22,10 +23,10 @@ use Rattle.store.proofs.Meaning.{node-one, opposite-edge, answer-opposite}
 use Rattle.store.proofs.Growth.{grows-refl, grows-trans, grow-edge, grow-depth, grow-answer}
 use Rattle.store.proofs.Makes.{Edged, make-gives, make-kept}
 use Rattle.node_lines.specs.Line.{Line, terminal, inner, seatOfLine, seatDeeper, deeper}
-use Rattle.node_lines.specs.Says.{saysBy, says}
+use Rattle.node_lines.specs.Says.{lineNumbered, turnSaid, saysBy, says}
 use Rattle.imported.specs.Build.{turnedOver, edgeFor, addLine, Built, built, onwards, buildOn, build}
 use Rattle.imported.specs.Build.{LevelsOf, ChildBelow, Inner, Judged, AllJudged, none, one}
-use Rattle.imported.proofs.SaysAs.{Falls, judged-falls, terminal-says, inner-says}
+use Rattle.imported.proofs.SaysAs.{getD-there, Falls, judged-falls, terminal-says, inner-says}
 
 -- an edge turned over under a minus names the same node, and its answer is turned over
 pub turned-abs : (c a : ℤ) → natAbs (turnedOver c a) ≡ natAbs a
@@ -44,7 +45,7 @@ turned-answer τ s (negsuc n) a h = answer-opposite τ s a h
 -- The edge a of line n, which has this seat, in the store as it is now: it says what the line says, and lies as deep as the line or deeper.
 record Stands (levels : List ℕ) (ls : List Line) (τ : Store) (n seat : ℕ) (a : ℤ) : Type 0 where
   edge : EdgeOf τ a
-  agrees : (s : Setting) → answer τ s a ≡ saysBy n levels ls s n
+  agrees : (s : Setting) → saysBy n levels ls s n ≡ some (answer τ s a)
   deep : (l : ℕ) → l < τ .levels → seatDeeper levels l seat ≡ true → l < depth τ (natAbs a)
 
 -- the lines so far
@@ -57,7 +58,7 @@ module _ (levels : List ℕ) (ls : List Line) where
   grow-stands : {τ υ : Store} (n seat : ℕ) (a : ℤ) → Grows τ υ → Nodes τ → Stands levels ls τ n seat a → Stands levels ls υ n seat a
   grow-stands n seat a G N S = record {
     edge = grow-edge G a (S .edge);
-    agrees = λ s. grow-answer G N s a (S .edge) ∙ S .agrees s;
+    agrees = λ s. S .agrees s ∙ ap some (sym (grow-answer G N s a (S .edge)));
     deep = λ l h d. rw (grow-depth G (natAbs a) (S .edge .there)) (S .deep l (rw (G .levels) at h) d);
   }
 
@@ -81,7 +82,7 @@ module _ (levels : List ℕ) (ls : List Line) where
 -- A root or child c of lines so far by its edge a: the edge is one of the store, and says what c says.
 record Root (levels : List ℕ) (ls : List Line) (τ : Store) (c a : ℤ) : Type 0 where
   edge : EdgeOf τ a
-  agrees : (s : Setting) → answer τ s a ≡ says levels ls s c
+  agrees : (s : Setting) → says levels ls s c ≡ some (answer τ s a)
 
 module _ (levels : List ℕ) (ls : List Line) (τ : Store) (seats : List ℕ) (edges : List ℤ) (L : Lined levels ls τ seats edges) where
   -- the line of a root or child
@@ -98,7 +99,10 @@ module _ (levels : List ℕ) (ls : List Line) (τ : Store) (seats : List ℕ) (e
   root-of c h k =
       let S = line-stands c h k in
       let a : ℤ = getD edges (natAbs c - 1) (pos 1) in
-      record { edge = turned-edge τ c a (S .edge); agrees = λ s. turned-answer τ s c a (S .edge .some) ∙ ap (turn c) (S .agrees s) }
+      record {
+        edge = turned-edge τ c a (S .edge);
+        agrees = λ s. ap (turnSaid c) (S .agrees s) ∙ ap some (sym (turned-answer τ s c a (S .edge .some)));
+      }
 
   -- a child of the next line, which lies deeper than level l
   child-deep : (n l : ℕ) (c : ℤ) → n ≡ length seats + 1 → l < τ .levels → ChildBelow levels seats n l c → l < depth τ (natAbs (edgeFor edges c))
@@ -106,6 +110,22 @@ module _ (levels : List ℕ) (ls : List Line) (τ : Store) (seats : List ℕ) (e
   child-deep n l c q h C =
       let S = line-stands c (C .some) (omega (arith, C .below, L .even)) in
       rw (turned-abs c (getD edges (natAbs c - 1) (pos 1))) (S .deep l h (C .deep))
+
+-- the line after lines of as many edges
+numbered-next : (ls : List Line) (n : ℕ) (l : Line) → getElem? ls n ≡ some l → lineNumbered ls (n + 1) ≡ some l
+numbered-next ls n l q =
+    let e : suc n ≡ n + 1 = omega arith in
+    subst (λ (k : ℕ). lineNumbered ls k ≡ some l) e q
+
+-- either side says something
+some-side : (b x y : Bool) → cond b (some x) (some y) ≡ some (cond b x y)
+some-side true x y = refl
+some-side false x y = refl
+
+-- the entry after others
+there-at : {A : Type 0} (done : List A) (a : A) (rest : List A) → getElem? (done ++ (a ∷ rest)) (length done) ≡ some a
+there-at [] a rest = refl
+there-at (x ∷ done) a rest = there-at done a rest
 
 -- a value has one answer
 value-one : {A : Type 0} (a b : A) → _≡_ {A = Read A} (value a) (value b) → b ≡ a
@@ -121,13 +141,12 @@ record Adds (m : Limits) (levels : List ℕ) (ls : List Line) (τ : Store) (n se
 module _ (m : Limits) (levels : List ℕ) (ls : List Line) (F : Falls ls) (τ : Store) (seats : List ℕ) (edges : List ℤ)
     (R : Rules m τ) (L : Lined levels ls τ seats edges) where
   -- 'A terminal line says yes at every setting', as node 1 does
-  one-stands : getD ls (length edges) terminal ≡ terminal → Stands levels ls τ (length edges + 1) 0 (pos 1)
+  one-stands : getElem? ls (length edges) ≡ some terminal → Stands levels ls τ (length edges + 1) 0 (pos 1)
   unfolding turn
   one-stands q =
-      let k : length edges + 1 - 1 ≡ length edges = omega arith in
       record {
         edge = record { some = omega arith; there = R .sizes .count-some };
-        agrees = λ s. node-one τ s ∙ sym (terminal-says levels ls F s (length edges + 1) (rw k q));
+        agrees = λ s. terminal-says levels ls F s (length edges + 1) (numbered-next ls (length edges) terminal q) ∙ ap some (sym (node-one τ s));
         deep = λ l h d. h;
       }
 
@@ -149,21 +168,24 @@ module _ (m : Limits) (levels : List ℕ) (ls : List Line) (F : Falls ls) (τ : 
       }
 
   -- and the node says what the line says
-  made-stands : (p : ℕ) (t e : ℤ) → Inner levels seats (length seats + 1) p t e → getD ls (length edges) terminal ≡ inner p t e → (υ : Store) (a : ℤ)
+  made-stands : (p : ℕ) (t e : ℤ) → Inner levels seats (length seats + 1) p t e → getElem? ls (length edges) ≡ some (inner p t e) → (υ : Store) (a : ℤ)
       → Edged υ τ (getD levels p 0) (edgeFor edges t) (edgeFor edges e) a → Stands levels ls υ (length edges + 1) (suc p) a
   made-stands p t e j q υ a X =
-      let k : length edges + 1 - 1 ≡ length edges = omega arith in
       let T = root-of levels ls τ seats edges L t (j .then .some) (omega (arith, j .then .below, L .even)) in
       let E = root-of levels ls τ seats edges L e (j .els .some) (omega (arith, j .els .below, L .even)) in
       record {
         edge = X .edge;
-        agrees = λ s. X .says s ∙ ap₂ (cond (s (getD levels p 0))) (T .agrees s) (E .agrees s)
-            ∙ sym (inner-says levels ls F s (length edges + 1) p t e (omega arith) (rw k q));
+        agrees = λ s.
+            inner-says levels ls F s (length edges + 1) p (getD levels p 0) t e (numbered-next ls (length edges) (inner p t e) q)
+            (getD-there levels p 0 (j .position))
+            ∙ ap₂ (cond (s (getD levels p 0))) (T .agrees s) (E .agrees s)
+            ∙ some-side (s (getD levels p 0)) _ _
+            ∙ ap some (sym (X .says s));
         deep = λ l h d. omega (arith, ltb-true l (getD levels p 0) d, X .deep);
       }
 
   -- the next line
-  line-adds : LevelsOf τ levels → (l : Line) → Judged levels seats (length seats + 1) l → getD ls (length edges) terminal ≡ l
+  line-adds : LevelsOf τ levels → (l : Line) → Judged levels seats (length seats + 1) l → getElem? ls (length edges) ≡ some l
       → Adds m levels ls τ (length edges + 1) (seatOfLine l) (addLine m levels τ edges l)
   unfolding addLine
   line-adds W terminal j q = record {
@@ -185,7 +207,7 @@ module _ (m : Limits) (levels : List ℕ) (ls : List Line) (F : Falls ls) (τ : 
 pub record Roots (levels : List ℕ) (ls : List Line) (τ : Store) (edges : List ℤ) : Type 0 where
   pub lines : length edges ≡ length ls
   pub edge : (c : ℤ) → 1 ≤ natAbs c → natAbs c ≤ length ls → EdgeOf τ (edgeFor edges c)
-  pub agrees : (c : ℤ) → 1 ≤ natAbs c → natAbs c ≤ length ls → (s : Setting) → answer τ s (edgeFor edges c) ≡ says levels ls s c
+  pub agrees : (c : ℤ) → 1 ≤ natAbs c → natAbs c ≤ length ls → (s : Setting) → says levels ls s c ≡ some (answer τ s (edgeFor edges c))
 
 -- The rules are kept, the store has only grown, in as many slots, and the edges of all lines are as the lines say.
 pub record Builds (m : Limits) (levels : List ℕ) (σ : Store) (ls : List Line) (r : Built) : Type 0 where
@@ -229,7 +251,7 @@ module _ (m : Limits) (levels : List ℕ) (σ : Store) (ls : List Line) where
   on-built (none {seats}) F W done edges τ q c R G long L =
       all-built τ seats edges R G long (rw q (length-append done [] ∙ omega (arith, c))) L
   on-built (one {seats} {l} {ls = rest} j js) F W done edges τ q c R G long L =
-      let here : getD ls (length edges) terminal ≡ l = rw q (getD-at done l rest terminal (length edges) c) in
+      let here : getElem? ls (length edges) ≡ some l = rw (q, sym c) (there-at done l rest) in
       let low : LevelsOf τ levels = λ p h. rw (G .levels) (W p h) in
       let A = line-adds m levels ls F τ seats edges R L low l j here in
       one-built τ (addLine m levels τ edges l) (λ a υ. buildOn m levels υ (edges ++ (a ∷ [])) rest) G long A

@@ -3,6 +3,7 @@ pub mod Building
 pub mod ChildEdge
 pub mod Decoded
 pub mod Modes
+pub mod NodesRefused
 pub mod Reading
 pub mod Refusals
 pub mod Room

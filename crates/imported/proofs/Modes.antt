@@ -3,7 +3,7 @@ use mathlib.Core.Path.{_≡_}
 use mathlib.Core.Bool.{Bool, true, false}
 use mathlib.Core.List.{List}
 use Prim.Native.Nat.{ℕ}
-use borrow.Author.Tests.{eq-eqb, ne-eqb}
+use borrow.Author.Tests.{ne-eqb}
 use Rattle.import_ascii.specs.Text.{textLineAt}
 use Rattle.import_bin.specs.Bin.{binLineAt}
 use Rattle.imported.specs.Import.{lineBy, lineFor}
@@ -21,7 +21,7 @@ module _ (ascii extra : Bool) (list : List ℕ) (levels : ℕ) (f seats : List �
 
 -- a refusal 30 names no line
 pub early-line : (ascii : Bool) (line k : ℕ) → ascii ≡ true → k ≡ 30 → 0 ≡ lineFor ascii line k
-early-line ascii line k p q = rw (p, eq-eqb k 30 q)
+early-line ascii line k p q = rw (p, q)
 
 -- another refusal of a line of text names the line
 pub own-line : (ascii : Bool) (line k : ℕ) → ascii ≡ true → (k ≡ 30 → ⊥) → line ≡ lineFor ascii line k

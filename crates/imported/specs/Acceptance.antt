@@ -4,6 +4,7 @@ use mathlib.Core.Path.{_≡_}
 use mathlib.Core.Logic.{_⊎_}
 use mathlib.Core.Bool.{true}
 use mathlib.Core.List.{List}
+use mathlib.Core.Option.{some}
 use lib.ListN.{length, getD}
 use lib.IntN.{ℤ, pos, natAbs}
 use Rattle.codes.specs.Limits.{nodeLimit}
@@ -36,7 +37,7 @@ pub record NodesAccepted (u : Setup) (σ : Store) (f : List ℕ) (at : ℕ) : Ty
 -- A root of the file by its edge a: it is an edge of the store, and answers what the file's own lines say.
 pub record RootSays (levels : List ℕ) (ls : List Line) (τ : Store) (c a : ℤ) : Type 0 where
   pub edge : EdgeOf τ a
-  pub agrees : (s : Setting) → answer τ s a ≡ says levels ls s c
+  pub agrees : (s : Setting) → says levels ls s c ≡ some (answer τ s a)
 
 -- What accepted nodes leave: a store that keeps the rules and has only grown, by the nodes that the lines need; and each root.
 pub record NodesLeft (u : Setup) (σ : Store) (f : List ℕ) (at : ℕ) (ids : List ℤ) (r : Imported) : Type 0 where

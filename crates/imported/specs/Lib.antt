@@ -1,3 +1,4 @@
 pub mod Acceptance
 pub mod Build
 pub mod Import
+pub mod Refused

@@ -18,7 +18,7 @@ use Rattle.export_nodes.specs.Lines.{renumbered, lineOfNode, linesFor}
 use Rattle.node_writers.specs.Encoded.{nodeBytes}
 use Rattle.export_nodes.specs.Tables.{lineBy, linesBy, ChildLine, Lined}
 use Rattle.export_nodes.specs.Exported.{Exported}
-use Rattle.export_nodes.proofs.TableLines.{map-at}
+use Rattle.seats.proofs.MappedEntries.{mapped-at}
 use Rattle.export_nodes.proofs.Renumbered.{seat-back, Numbered, renumbered-abs, NodeAt, terminalAt, innerAt, entry-node, lines-few, inner-at, node-at}
 use Rattle.export_nodes.proofs.Support.{support-few, level-seated, position-low}
 use Rattle.export_nodes.proofs.FilledTables.{number-seat, lines-by-tables}
@@ -106,7 +106,7 @@ module _ {σ : Store} {roots : List ℤ} {ns : List ℕ} (E : Exported σ roots 
   unfolding linesFor
   lines-small i h =
       let k : i < length ns = rw (length-map ns (lineOfNode σ (supportOf σ ns) ns)) at h in
-      rw (map-at (lineOfNode σ (supportOf σ ns) ns) ns i 0 terminal k) (line-small (node-at E i (getD ns i 0) k refl))
+      rw (mapped-at (lineOfNode σ (supportOf σ ns) ns) ns i 0 terminal k) (line-small (node-at E i (getD ns i 0) k refl))
 
   -- .. so they are short.
   pub lines-short : (ascii : Bool) → length (nodeBytes ascii (linesFor σ ns)) ≤ 32 * length ns

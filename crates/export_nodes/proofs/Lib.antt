@@ -4,6 +4,7 @@ pub mod TableLines
 pub mod Writing
 pub mod Renumbered
 pub mod Support
+pub mod Grown
 pub mod FilledTables
 pub mod ExportLines
 pub mod Examples

@@ -11,12 +11,13 @@ use Rattle.edges.specs.Edge.{minus}
 use Rattle.store.specs.Store.{Store, levelAt, thenAt, elseAt}
 use Rattle.store.specs.Rules.{depth, Fits}
 use Rattle.store.specs.Growth.{EdgeOf}
-use Rattle.store.proofs.Meaning.{depth-node, then-edge, else-edge}
+use Rattle.store.proofs.Meaning.{depth-node}
 use Rattle.seats.specs.Seats.{seatOf}
 use Rattle.seats.proofs.Seating.{seat-most}
 use Rattle.reached.specs.Reached.{Reached, root, then, els}
 use Rattle.reached.proofs.Members.{Among}
 use Rattle.reached.proofs.Few.{few}
+use Rattle.reached.proofs.Grown.{reached-node}
 use Rattle.reached.proofs.EntrySeats.{seat-entry, of-entry}
 use Rattle.export_nodes.specs.Lines.{renumbered}
 use Rattle.export_nodes.specs.Exported.{Exported}
@@ -42,10 +43,6 @@ module _ (ns : List ℕ) (c : ℤ) where
   unfolding renumbered minus
   renumbered-plain h = rw h
 
--- an edge's node as an edge
-node-of : {σ : Store} (e : ℤ) → EdgeOf σ e → EdgeOf σ (pos (natAbs e))
-node-of e E = record { some = E .some; there = E .there }
-
 -- a node that comes after i others and isn't the terminal: its children are among those
 pub record InnerAt (σ : Store) (ns : List ℕ) (i n : ℕ) : Type 0 where
   pub node : 2 ≤ n
@@ -62,14 +59,12 @@ pub data NodeAt (σ : Store) (ns : List ℕ) (i : ℕ) : ℕ → Type 0 where
 
 module _ {σ : Store} {roots : List ℤ} {ns : List ℕ} (E : Exported σ roots ns) where
   -- the roots lead to nodes of the store
-  reached-node : {n : ℕ} → Reached σ roots n → EdgeOf σ (pos n)
-  reached-node (root i h) = node-of (getD roots i (pos 0)) (E .roots-there i h)
-  reached-node (then {n} h r) = node-of (thenAt σ n) (then-edge σ (E .rules .nodes) n h (reached-node r .there))
-  reached-node (els {n} h r) = node-of (elseAt σ n) (else-edge σ (E .rules .nodes) n h (reached-node r .there))
+  met-node : {n : ℕ} → Reached σ roots n → EdgeOf σ (pos n)
+  met-node = reached-node (E .rules .nodes) (E .roots-there)
 
   -- so each line has one
   pub entry-node : (i : ℕ) → i < length ns → EdgeOf σ (pos (getD ns i 0))
-  entry-node i h = reached-node (E .allowed .only i h)
+  entry-node i h = met-node (E .allowed .only i h)
 
   -- and there are no more lines than nodes
   pub lines-few : length ns ≤ σ .count
@@ -97,10 +92,10 @@ module _ {σ : Store} {roots : List ℤ} {ns : List ℕ} (E : Exported σ roots 
   pub inner-at : (i n : ℕ) → i < length ns → getD ns i 0 ≡ n → 2 ≤ n → InnerAt σ ns i n
   inner-at i n h e p =
       let r : Reached σ roots n = rw e at (E .allowed .only i h) in
-      let F = E .rules .nodes .fits n p (reached-node r .there) in
+      let F = E .rules .nodes .fits n p (met-node r .there) in
       record {
         node = p;
-        there = reached-node r .there;
+        there = met-node r .there;
         seated = E .allowed .all n r;
         fits = F;
         then = child (thenAt σ n) (then p r) (F .then-deep);
@@ -131,14 +126,14 @@ module _ {σ : Store} {roots : List ℤ} {ns : List ℕ} (E : Exported σ roots 
 
   -- every node leads to the terminal
   to-terminal : (f n : ℕ) → n ≤ f → Reached σ roots n → Reached σ roots 1
-  to-terminal zero n h r = absurd (omega (arith, reached-node r .some))
+  to-terminal zero n h r = absurd (omega (arith, met-node r .some))
   to-terminal (suc f) n h r = go (decLe 2 n) (to-terminal f)
     where
       go : Dec (2 ≤ n) → ((m : ℕ) → m ≤ f → Reached σ roots m → Reached σ roots 1) → Reached σ roots 1
       go (yes p) ih =
-          let low = E .rules .nodes .fits n p (reached-node r .there) .then-low in
+          let low = E .rules .nodes .fits n p (met-node r .there) .then-low in
           ih (natAbs (thenAt σ n)) (omega arith) (then p r)
-      go (no q) ih = let e : n ≡ 1 = omega (arith, q, reached-node r .some) in rw e at r
+      go (no q) ih = let e : n ≡ 1 = omega (arith, q, met-node r .some) in rw e at r
 
   -- 'the terminal if reached, then ..': where there are lines its line is the first
   pub terminal-first : 0 < length ns → getD ns 0 0 ≡ 1

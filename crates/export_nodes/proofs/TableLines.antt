@@ -1,24 +1,19 @@
 -- The lines of nodes by the tables: the bytes of each node are those of its line, whose children have their seats in the list of all lines.
-use mathlib.Core.Path.{_≡_, refl, ap, _∙_}
+use mathlib.Core.Path.{_≡_, ap, _∙_}
 use mathlib.Core.Bool.{Bool, true, false}
-use mathlib.Core.List.{List, [], _∷_, map}
-use Prim.Native.Nat.{ℕ, zero, suc, _+_, _-_, _≤_, _<_}
+use mathlib.Core.List.{List, map}
+use Prim.Native.Nat.{ℕ, _+_, _-_, _≤_, _<_}
 use native.Mathlib.Omega.{arith}
 use native.Mathlib.Decide.{ℕ-discrete}
 use lib.ListN.{length, getD, length-map}
 use lib.IntN.{ℤ, natAbs}
 use borrow.Author.Tests.{ne-eqb}
 use Rattle.store.specs.Store.{Store, thenAt, elseAt}
+use Rattle.seats.proofs.MappedEntries.{mapped-at}
 use Rattle.node_lines.specs.Line.{seatOfLine}
 use Rattle.node_writers.specs.Encoded.{binBytes, lineBytes}
 use Rattle.export_nodes.specs.Tables.{lineNumberOf, lineBy, linesBy, seatBy, innerBy, nodeLineBy, ChildLine, Lined}
 use Rattle.export_nodes.proofs.EdgeNumbers.{number-abs}
-
--- an entry of a list that was mapped
-pub map-at : {A B : Type 0} (f : A → B) (l : List A) (i : ℕ) (a : A) (b : B) → i < length l → getD (map f l) i b ≡ f (getD l i a)
-map-at f [] i a b h = absurd (omega arith)
-map-at f (x ∷ l) zero a b h = refl
-map-at f (x ∷ l) (suc i) a b h = map-at f l i a b (omega arith)
 
 -- the seats of all lines
 abbrev pub lineSeats : Store → List ℕ → List ℕ → List ℕ → List ℕ
@@ -37,8 +32,8 @@ module _ {σ : Store} {nodes numbers seats : List ℕ} (L : Lined σ nodes numbe
   seat-at : (i : ℕ) → i < length nodes → getD (lineSeats σ numbers seats nodes) i 0 ≡ seatBy σ seats (getD nodes i 0)
   unfolding linesBy
   seat-at i h =
-      map-at seatOfLine (map (lineBy σ numbers seats) nodes) i (lineBy σ numbers seats 0) 0 (rw (length-map nodes (lineBy σ numbers seats)) h)
-      ∙ ap seatOfLine (map-at (lineBy σ numbers seats) nodes i 0 (lineBy σ numbers seats 0) h) ∙ own-seat i h
+      mapped-at seatOfLine (map (lineBy σ numbers seats) nodes) i (lineBy σ numbers seats 0) 0 (rw (length-map nodes (lineBy σ numbers seats)) h)
+      ∙ ap seatOfLine (mapped-at (lineBy σ numbers seats) nodes i 0 (lineBy σ numbers seats 0) h) ∙ own-seat i h
 
   -- a child is found by the number of its line
   child-seat : (n : ℕ) → n ≤ length nodes → (e : ℤ) → ChildLine σ numbers seats n (natAbs e)

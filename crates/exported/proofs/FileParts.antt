@@ -17,7 +17,7 @@ use Rattle.writers.proofs.Sets.{wrote-then, sets-laid}
 use Rattle.export_nodes.specs.Exported.{Exported}
 use Rattle.export_nodes.specs.Lines.{renumbered, linesFor}
 use Rattle.node_writers.specs.Encoded.{nodeBytes, endText}
-use Rattle.export_nodes.proofs.TableLines.{map-at}
+use Rattle.seats.proofs.MappedEntries.{mapped-at}
 use Rattle.export_nodes.proofs.Renumbered.{renumbered-abs, lines-few}
 use Rattle.export_nodes.proofs.Support.{support-few}
 use Rattle.export_nodes.proofs.ExportLines.{lines-short}
@@ -55,7 +55,7 @@ module _ (s : Settings) {σ : Store} {roots : List ℤ} {order : List ℕ} {p : 
         few-roots = omega (arith, A .roots-few);
         root-low = λ i h.
             let r = getD roots i (pos 0) in
-            rw (map-at (renumbered ns) roots i (pos 0) (pos 0) (rw many at h)) (omega (arith, renumbered-abs ns r, seat-most (natAbs r) ns));
+            rw (mapped-at (renumbered ns) roots i (pos 0) (pos 0) (rw many at h)) (omega (arith, renumbered-abs ns r, seat-most (natAbs r) ns));
         few-rootnames =
             ⊎-elim (λ e. omega arith) (λ e. omega arith) (list-count (length roots) (p .bytes) (p .rootstarts) (p .rootlens) (A .names .rootnames));
       }

@@ -3,3 +3,4 @@ pub mod Bare
 pub mod FileParts
 pub mod Prepared
 pub mod Started
+pub mod Grown

@@ -5,4 +5,5 @@ pub mod NodeNumbers
 pub mod NodeSlots
 pub mod Numbered
 pub mod Allowed
+pub mod Grown
 pub mod NumberingExamples

@@ -1,6 +1,7 @@
 pub mod Entries
 pub mod EntrySeats
 pub mod Few
+pub mod Grown
 pub mod Laid
 pub mod Marks
 pub mod Meeting

@@ -10,7 +10,7 @@ use Rattle.export_support.proofs.SupportLevels.{support-fits}
 use Rattle.export_nodes.specs.Exported.{Exported}
 use Rattle.export_nodes.specs.Lines.{renumbered}
 use Rattle.export_nodes.proofs.Renumbered.{lines-few}
-use Rattle.export_nodes.proofs.TableLines.{map-at}
+use Rattle.seats.proofs.MappedEntries.{mapped-at}
 use Rattle.heading.specs.Tables.{Lent}
 use Rattle.exported.specs.Settings.{Settings}
 use Rattle.exported.specs.Export.{headingOf}
@@ -25,7 +25,7 @@ module _ {σ : Store} {roots : List ℤ} {order : List ℕ} {p : Lent} {slots nu
       → (i : ℕ) → i < length (map (renumbered ns) roots) → P (getD (map (renumbered ns) roots) i (pos 0))
   of-root P h i k =
       let l : i < length roots = rw (length-map roots (renumbered ns)) at k in
-      rw (map-at (renumbered ns) roots i (pos 0) (pos 0) l) (h i l)
+      rw (mapped-at (renumbered ns) roots i (pos 0) (pos 0) l) (h i l)
 
   pub heading-fit : (s : Settings) → Fit (headingOf s σ roots order p ns)
   unfolding headingOf

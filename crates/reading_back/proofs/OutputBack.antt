@@ -17,7 +17,7 @@ use Rattle.exported.proofs.Accepted.{Accepted, accepted}
 use Rattle.exported.proofs.FileParts.{file-short}
 use Rattle.reading_back.specs.ReadsBack.{OutputBack}
 use Rattle.exported.proofs.Started.{exported}
-use Rattle.reading_back.proofs.ReadsBack.{accepted-back}
+use Rattle.reading_back.proofs.ReadsBack.{later-back}
 
 module _ {s : Settings} {σ : Store} {roots : List ℤ} {order : List ℕ} {p : Lent} (slots numbers lent : ℕ) (r : Exported) {out : List ℕ} {n : ℕ}
     (is : ofExported r ≡ value n) where
@@ -37,7 +37,12 @@ module _ {s : Settings} {σ : Store} {roots : List ℤ} {order : List ℕ} {p : 
   writes-back e w room =
       let A = accepted σ roots order p slots numbers lent e in
       let file = written-file A w in
-      record { nodes = w .nodes; file = file; back = rw file (accepted-back A (w .allowed) s room) }
+      record {
+        nodes = w .nodes;
+        allowed = w .allowed;
+        file = file;
+        back = λ τ G R. rw file (later-back A (w .allowed) G R s room);
+      }
 
   -- So where the answer of an export is a length, so many bytes of its output read back.
   pub exports-back : ExportsBy (exportFault σ roots order p slots numbers lent) s σ roots order p lent r out → (room : ℕ)

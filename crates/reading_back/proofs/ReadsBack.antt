@@ -1,5 +1,5 @@
--- An exported file reads back: into the store that it came from, with no new node, as the same roots.
-use mathlib.Core.Path.{_≡_, refl}
+-- An exported file reads back: into the store that it came from, or any that it has grown into, with no new node, as the same roots.
+use mathlib.Core.Path.{_≡_, refl, subst}
 use mathlib.Core.Bool.{true}
 use mathlib.Core.List.{List, _++_}
 use Prim.Native.Nat.{ℕ}
@@ -8,19 +8,22 @@ use lib.Seq.{drop-append-seam}
 use lib.IntN.{ℤ}
 use borrow.Author.Tests.{eq-eqb}
 use Rattle.store.specs.Store.{Store}
+use Rattle.store.specs.Rules.{limits, Rules}
+use Rattle.store.specs.Growth.{Grows}
 use Rattle.numbering.specs.Allowed.{Allowed}
 use Rattle.numbering.specs.Support.{supportOf}
+use Rattle.numbering.proofs.Grown.{allowed-grown}
 use Rattle.export_support.proofs.SupportLevels.{support-fits}
 use Rattle.export_nodes.specs.Exported.{Exported}
 use Rattle.export_nodes.specs.Lines.{linesFor}
 use Rattle.node_writers.specs.Encoded.{nodeBytes, endText}
-use Rattle.export_nodes.proofs.Renumbered.{lines-few}
 use Rattle.level_list.specs.List.{listFits}
 use Rattle.heading.specs.Heading.{headText}
 use Rattle.heading.specs.Tables.{Lent}
 use Rattle.exported.specs.Settings.{Settings}
 use Rattle.exported.specs.Export.{exportFault, headingOf, fileOf}
 use Rattle.exported.proofs.Accepted.{Accepted, accepted}
+use Rattle.exported.proofs.Grown.{file-grown, accepted-grown}
 use Rattle.reading_header.proofs.HeaderBack.{header-back}
 use Rattle.reading_nodes.specs.Back.{Stand}
 use Rattle.reading_nodes.proofs.NodesBack.{nodes-read-back}
@@ -62,9 +65,17 @@ module _ {σ : Store} {roots : List ℤ} {order : List ℕ} {p : Lent} {slots nu
         short = short;
         header-back = header-back _ f rest (heading-fit A E s) short refl;
         levels-fit = own-levels;
-        few-lines = lines-few E;
         nodes-back = nodes-read-back E (s .ascii) f (length head) _ stand lent;
       }
+
+-- So it does into every store that the exporting one has grown into: the file is as if exported from there.
+pub later-back : {σ τ : Store} {roots : List ℤ} {order : List ℕ} {p : Lent} {slots numbers out : ℕ} → Accepted σ roots order p slots numbers out
+    → {ns : List ℕ} → Allowed σ roots ns → Grows σ τ → Rules limits τ → (s : Settings) (lent : ℕ)
+    → ReadsBack s τ roots order p ns (fileOf s σ roots order p ns) lent
+later-back {σ} {τ} {roots} {order} {p} A {ns} allowed G R s lent =
+    let there = accepted-grown G R A in
+    let later = allowed-grown G (A .rules .nodes) (A .roots-there) allowed in
+    subst (λ f. ReadsBack s τ roots order p ns f lent) (file-grown G s order p (exported A allowed)) (accepted-back there later s lent)
 
 -- Demand 2: an export that isn't refused reads back.
 pub reads-back : {σ : Store} {roots : List ℤ} {order ns : List ℕ} {p : Lent} (slots numbers out : ℕ)

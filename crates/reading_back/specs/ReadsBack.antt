@@ -9,7 +9,10 @@ use lib.IntN.{ℤ, pos}
 use Rattle.codes.specs.Limits.{inputLimit}
 use Rattle.codes.specs.Lent.{laid}
 use Rattle.store.specs.Store.{Store}
+use Rattle.store.specs.Rules.{limits, Rules}
+use Rattle.store.specs.Growth.{Grows}
 use Rattle.header.specs.Header.{Header}
+use Rattle.numbering.specs.Allowed.{Allowed}
 use Rattle.numbering.specs.Support.{supportOf}
 use Rattle.level_list.specs.List.{listFits}
 use Rattle.imported.specs.Import.{Imported, setup, nodes, importOf}
@@ -28,8 +31,6 @@ pub record ReadsBack (s : Settings) (σ : Store) (roots : List ℤ) (order : Lis
   pub header-back : HeaderBack (headingOf s σ roots order p ns) f
   -- 'at its own levels': the levels of the support are a level list that nothing is refused of
   pub levels-fit : listFits (length (supportOf σ ns)) (σ .levels) (supportOf σ ns) ≡ true
-  -- `.nnodes` is at most the store's count: scratch of that length is enough
-  pub few-lines : length ns ≤ σ .count
   pub nodes-back : NodesBack (s .ascii) σ roots ns f (length (headText (headingOf s σ roots order p ns))) (length (headLines (headingOf s σ roots order p ns))) lent
 
 -- What an import of a file's nodes leaves, as the file's header leads to it: into a store, at a level list, with a lent list of roots of a
@@ -51,8 +52,10 @@ pub record ReadAlike (r q : Imported) : Type 0 where
   pub store : r .after ≡ q .after
   pub roots : r .roots ≡ q .roots
 
--- The first n bytes of an export's output are a file, and it reads back.
+-- The first n bytes of an export's output are a file, whose lines stand in an order that document 01 allows, and it reads back into every
+-- store that the exporting one has grown into.
 pub record OutputBack (s : Settings) (σ : Store) (roots : List ℤ) (order : List ℕ) (p : Lent) (n : ℕ) (out : List ℕ) (lent : ℕ) : Type 0 where
   pub nodes : List ℕ
+  pub allowed : Allowed σ roots nodes
   pub file : take n out ≡ fileOf s σ roots order p nodes
-  pub back : ReadsBack s σ roots order p nodes (take n out) lent
+  pub back : (τ : Store) → Grows σ τ → Rules limits τ → ReadsBack s τ roots order p nodes (take n out) lent

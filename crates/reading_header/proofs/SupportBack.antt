@@ -22,7 +22,7 @@ use Rattle.reached.proofs.Members.{in-none}
 use Rattle.variable_order.specs.Order.{isOrder}
 use Rattle.seats.proofs.NumberSeats.{seat-found}
 use Rattle.variable_order.proofs.Permutation.{few-differ, order-distinct, variable-seat, level-seated}
-use Rattle.export_nodes.proofs.TableLines.{map-at}
+use Rattle.seats.proofs.MappedEntries.{mapped-at}
 use Rattle.heading.specs.Heading.{Heading, idsFrom, permidsOf}
 use Rattle.reading_header.specs.HeadWords.{idsOf, levelsOf}
 use Rattle.reading_header.specs.HeaderBack.{Fit, variableOfLevel}
@@ -120,7 +120,7 @@ module _ (n : ℕ) (order : List ℕ) (perm : isOrder n order ≡ true) where
 
     -- each at its permid's position.
     pub id-there : (i : ℕ) → i < length permids → getD ids i 0 ≡ variableOfLevel order (getD permids i 0)
-    id-there i h = ap (λ l. getD l i 0) (sym variables-ids) ∙ map-at (variableOfLevel order) permids i 0 0 h
+    id-there i h = ap (λ l. getD l i 0) (sym variables-ids) ∙ mapped-at (variableOfLevel order) permids i 0 0 h
 
     -- the variable of a level, where that has a line
     order-one : (p : ℕ) → p < n → (b : Bool) → isIn p support ≡ b → (more : List ℕ)

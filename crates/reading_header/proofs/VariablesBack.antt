@@ -16,6 +16,7 @@ use Rattle.support.specs.Support.{allBelow, permidsFit}
 use Rattle.seats.specs.Ordered.{distinct}
 use Rattle.variable_names.specs.Names.{emptyName, freeFrom, orderedFrom, orderedSeats, variableNames}
 use Rattle.variable_names.specs.Names as places
+use Rattle.variable_names.proofs.RestInOrder.{ordered-seat}
 use Rattle.seats.proofs.Seating.{seat-most}
 use Rattle.support.proofs.Ascending.{ids-below}
 use Rattle.support.proofs.Distinct.{permids-below}
@@ -56,28 +57,6 @@ module _ (order : List ℕ) (names : List (List ℕ)) where
       let p = both (ltb l n) (allBelow n ls) h in
       let z : 0 + l ≡ l = omega arith in
       rw (names-of-levels n ls (p .1), name-of-level n 0 l (ltb-true l n (p .0)), z)
-
--- The seat in `.orderedvarnames` of a variable among the ids.
-module _ (ids permids : List ℕ) where
-  ordered-seat : (k w i j : ℕ) (free : List ℕ) → i < k → seatOf (w + i) ids ≡ suc j
-      → getD (orderedFrom k w ids permids free) i 0 ≡ suc (getD permids j 0)
-  unfolding orderedFrom
-  ordered-seat zero w i j free h e = absurd (omega arith)
-  ordered-seat (suc k) w zero j free h e =
-      let z : w + 0 ≡ w = omega arith in
-      let s : seatOf w ids ≡ suc j = rw z at e in
-      rw (getD, s)
-  ordered-seat (suc k) w (suc i) j free h e =
-      let z : w + suc i ≡ w + 1 + i = omega arith in
-      go (seatOf w ids) (λ free. ordered-seat k (w + 1) i j free (omega arith) (rw z at e))
-    where
-      go : (s : ℕ) → ((free : List ℕ) → getD (orderedFrom k (w + 1) ids permids free) i 0 ≡ suc (getD permids j 0))
-          → getD {A = ℕ} (elim s as (λ x. List ℕ) [
-            | suc i ↦ suc (getD permids i 0) ∷ orderedFrom k (w + 1) ids permids free
-            | zero ↦ getD free 0 0 ∷ orderedFrom k (w + 1) ids permids (drop 1 free)
-          ]) (suc i) 0 ≡ suc (getD permids j 0)
-      go zero later = later (drop 1 free)
-      go (suc s) later = later free
 
 module _ (n : ℕ) (order : List ℕ) (perm : isOrder n order ≡ true) (support : List ℕ) where
   abbrev ids : List ℕ

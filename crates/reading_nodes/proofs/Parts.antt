@@ -7,7 +7,7 @@ use lib.ListN.{length, getD, length-append, List·getD-append}
 use lib.Seq.{append-snoc, getD-append-seam}
 use Rattle.seats.specs.Seats.{seatOf}
 use Rattle.export_nodes.proofs.Renumbered.{seat-back}
-use Rattle.export_nodes.proofs.TableLines.{map-at}
+use Rattle.seats.proofs.MappedEntries.{mapped-at}
 
 -- the two make the whole
 pub record Parts (l before rest : List ℕ) : Type 0 where
@@ -39,5 +39,5 @@ pub seat-early : (x : ℕ) (l : List ℕ) → 1 ≤ seatOf x l → {A : Type 0} 
 seat-early x l h g d {before} {rest} p k =
     let s = seatOf x l - 1 in
     let i : s < length before = omega arith in
-    map-at g before s 0 d i
+    mapped-at g before s 0 d i
     ∙ ap g (sym (List·getD-append before rest 0 s i) ∙ ap (λ m. getD m s 0) (p .whole) ∙ seat-back x l h)

@@ -46,6 +46,13 @@ no-header q = absurd (let z : _≡_ {A = ℕ} 0 1 = cc in omega arith)
 pub one-header : {g h : Header} → header g ≡ header h → g ≡ h
 one-header q = cc
 
+-- one refusal is the other
+pub same-refusal : {n line k at : ℕ} → refusal k at ≡ refusal n line → (k ≡ n) × (at ≡ line)
+same-refusal {n} {line} {k} {at} q =
+    let a : k ≡ n = cc in
+    let b : at ≡ line = cc in
+    (a, b)
+
 module _ (f : List ℕ) (h : Header) where
   -- the header as a whole has no fault
   settled-sound : (next lines : ℕ) → endOf f (linesOf f) ≡ atNodes next lines → (m : ℕ) → wholeFault f (tableOf f) ≡ m
@@ -64,14 +71,17 @@ module _ (f : List ℕ) (h : Header) where
   after-sound zero q = (refl, judged-sound (endOf f (linesOf f)) refl q)
   after-sound (suc n) q = no-header q
 
-  -- and the other way
-  sound-after : (n : ℕ) → n ≡ 0 → Sound f h → after n f ≡ header h
+  -- a sound header is what the file's header says by itself
+  pub sound-read : Sound f h → readOf f ≡ header h
   unfolding readOf
-  sound-after n z s =
-      ap (λ k. after k f) z
-      ∙ ap (judgedHeader f) (s .ends)
+  sound-read s =
+      ap (judgedHeader f) (s .ends)
       ∙ ap (settled f (tableOf f) (s .next) (s .lines)) (s .whole)
       ∙ ap header (sym (s .is))
+
+  -- and the other way
+  sound-after : (n : ℕ) → n ≡ 0 → Sound f h → after n f ≡ header h
+  sound-after n z s = ap (λ k. after k f) z ∙ sound-read s
 
 -- the answer of a load is that of its lists
 pub lists-answer : (f : List ℕ) (a : HeaderAnswer) → listsBy f a .answer ≡ a

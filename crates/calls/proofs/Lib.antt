@@ -1,2 +1,12 @@
+pub mod Accepted
+pub mod Demand1
+pub mod Demand2
+pub mod Demand3
+pub mod Evaluating
+pub mod Growing
 pub mod HeaderStands
 pub mod Passes
+pub mod RootEntries
+pub mod RootsAnswer
+pub mod Refusals
+pub mod Numbers

@@ -1,6 +1,6 @@
 -- The stages of a load, in their order: header; scratch and level list; nodes. One of them refuses, and the load is that refusal; or all
 -- pass, and the load is what they leave.
-use mathlib.Core.Path.{_≡_, refl, sym, ap, subst, _∙_}
+use mathlib.Core.Path.{_≡_, refl, sym, ap, _∙_}
 use mathlib.Core.Bool.{true}
 use mathlib.Core.List.{[]}
 use Prim.Native.Nat.{ℕ, zero, suc, _≤_}
@@ -15,7 +15,7 @@ use Rattle.header.specs.Header.{Header, HeaderAnswer, header, refusal}
 use Rattle.level_list.specs.List.{listFits}
 use Rattle.imported.specs.Import as nodes
 use Rattle.calls.specs.Load.{Load, refusedAt, scratchFault, listFault, beforeNodes, headerOf, nodesOf, withNodes, withList, withHeader, loadOf}
-use Rattle.calls.proofs.HeaderStands.{one-header, no-header}
+use Rattle.calls.proofs.HeaderStands.{no-header, same-refusal}
 
 -- scratch and level list are refused nothing where they are long enough and fit
 module _ (c : Load) (σ : Store) (h : Header) where
@@ -40,10 +40,7 @@ pub record Passes (c : Load) (σ : Store) (h : Header) : Type 0 where
 
 -- one refusal is the other
 refused-alike : (c : Load) (σ : Store) {n line k at : ℕ} → refusal k at ≡ refusal n line → refusedAt c σ k at ≡ refusedAt c σ n line
-refused-alike c σ {n} {line} {k} {at} q =
-    let a : k ≡ n = cc in
-    let b : at ≡ line = cc in
-    rw (a, b)
+refused-alike c σ q = let s = same-refusal q in rw (s .0, s .1)
 
 module _ (c : Load) (σ : Store) where
   -- a refusal is that of one of the stages
@@ -68,22 +65,22 @@ module _ (c : Load) (σ : Store) where
   -- a header is the answer only where all stages pass
   module _ (h : Header) where
     nodes-pass : (g : Header) (r : nodes.Imported) (a : nodes.NodesAnswer) → withNodes c σ g r a .answer ≡ header h
-        → (g ≡ h) × ((at : ℕ) × (a ≡ nodes.nodes at))
+        → (at : ℕ) × (a ≡ nodes.nodes at)
     nodes-pass g r (nodes.refusal k at) q = no-header q
-    nodes-pass g r (nodes.nodes at) q = (one-header q, (at, refl))
+    nodes-pass g r (nodes.nodes at) q = (at, refl)
 
     list-passes : (g : Header) → headerOf c σ .answer ≡ header g → (k : ℕ) → beforeNodes c σ g ≡ k → withList c σ g k .answer ≡ header h
-        → Passes c σ h
+        → Passes c σ g
     list-passes g e zero b q =
         let w = nodes-pass g (nodesOf c σ g) (nodesOf c σ g .answer) q in
-        subst (Passes c σ) (w .0) (record { header-read = e; unrefused = b; at = w .1 .0; nodes-read = w .1 .1 })
+        record { header-read = e; unrefused = b; at = w .0; nodes-read = w .1 }
     list-passes g e (suc k) b q = no-header q
 
-    header-passes : (a : HeaderAnswer) → headerOf c σ .answer ≡ a → withHeader c σ a .answer ≡ header h → Passes c σ h
-    header-passes (header g) e q = list-passes g e (beforeNodes c σ g) refl q
+    header-passes : (a : HeaderAnswer) → headerOf c σ .answer ≡ a → withHeader c σ a .answer ≡ header h → (g : Header) × Passes c σ g
+    header-passes (header g) e q = (g, list-passes g e (beforeNodes c σ g) refl q)
     header-passes (refusal k at) e q = no-header q
 
-    pub load-passes : loadOf c σ .answer ≡ header h → Passes c σ h
+    pub load-passes : loadOf c σ .answer ≡ header h → (g : Header) × Passes c σ g
     unfolding loadOf
     load-passes q = header-passes (headerOf c σ .answer) refl q
 
@@ -94,7 +91,3 @@ module _ (c : Load) (σ : Store) where
         ap (withHeader c σ) (p .header-read)
         ∙ ap (withList c σ h) (p .unrefused)
         ∙ ap (withNodes c σ h (nodesOf c σ h)) (p .nodes-read)
-
-    -- so its roots are those that the nodes give
-    pub passes-roots : Passes c σ h → loadOf c σ .roots ≡ nodesOf c σ h .roots
-    passes-roots p = ap (λ r. r .roots) (passes-load p)

@@ -1,34 +1,29 @@
 -- What the nodes lean on holds wherever the stages before them pass: the store's rules, the level list, and the limits.
-use mathlib.Core.Path.{_≡_, refl, sym, ap, subst, _∙_}
-use mathlib.Core.Bool.{Bool, true, false, _&&_}
-use mathlib.Core.List.{List, _++_}
-use Prim.Native.Nat.{ℕ, zero, suc, _+_, _≤_, _<_, _^_}
+use mathlib.Core.Path.{_≡_, refl, sym, ap, subst}
+use mathlib.Core.Bool.{Bool, true, false}
+use mathlib.Core.List.{List}
+use Prim.Native.Nat.{ℕ, zero, suc, _+_, _≤_, _<_}
 use native.Mathlib.Omega.{arith}
 use lib.Dec.{eqb, ltb}
 use lib.ListN.{length}
 use borrow.Author.Tests.{eqb-true}
-use Rattle.codes.specs.Limits.{varLimit, nodeLimit, inputLimit}
 use Rattle.codes.proofs.Bytes.{both}
 use Rattle.read_lines.specs.Line.{lineOf}
 use Rattle.header_keys.specs.Keys.{slotOf}
 use Rattle.header_keys.specs.declared.Key.the-variants.{Nodes}
 use Rattle.header_lines.specs.Sweep.{keyAt, valueAt, said}
-use Rattle.header_lines.specs.Sweep.{Lines, cut, nodes, line, Said, SweepEnd, atNodes, refusedAt, faultIn, linesFrom, linesOf, endFrom, endOf}
-use Rattle.header_values.specs.Values.{nnodesIn, nvarsIn, nsuppvarsIn}
-use Rattle.codes.specs.Faults.{firstFault}
-use Rattle.header_checks.specs.Whole.{numberFaults, supportFaults, nameCountFaults, nameFaults, rootFaults, wholeFault}
-use Rattle.codes.proofs.Faults.{first-none, rest-none, front-none}
-use Rattle.codes.proofs.Refusals.{within-none}
-use Rattle.header_checks.proofs.Accepted as whole
+use Rattle.header_lines.specs.Sweep.{Lines, cut, nodes, line, Said, atNodes, refusedAt, faultIn, linesFrom, linesOf, endFrom, endOf}
+use Rattle.header_values.specs.Values.{nnodesIn, nsuppvarsIn}
+use Rattle.header_checks.proofs.WholeRules.{whole-rules}
 use Rattle.store.specs.Store.{Store}
-use Rattle.header.specs.Header.{Header, HeaderAnswer, header, refusal, tableOf, headerIn}
+use Rattle.header.specs.Header.{Header, HeaderAnswer, header, refusal, tableOf}
 use Rattle.level_list.specs.List.{listFits}
 use Rattle.imported.specs.Import.{Bounded}
 use Rattle.level_list.proofs.LevelLists.{list-levels}
 use Rattle.support.specs.Support.{idsFit}
 use Rattle.calls.specs.Load.{Load, headerOf, beforeNodes, setupFor}
 use Rattle.stages.specs.Stages.{unlessRefused, Readable}
-use Rattle.calls.proofs.HeaderStands.{Sound, Stands, answer-stands}
+use Rattle.calls.proofs.HeaderStands.{Stands, answer-stands}
 use Rattle.calls.proofs.Passes.{between-none}
 use Rattle.store.specs.Rules.{limits}
 use Rattle.store.specs.Keeps.{keeps-true}
@@ -75,19 +70,6 @@ module _ (f : List ℕ) (next lines : ℕ) where
   unfolding endOf linesOf
   lines-short q = let w = lines-few (length f) 1 0 q in omega arith
 
--- the checks of the header's numbers, and the others
-abbrev numbers : List ℕ → List ℕ
-numbers f = numberFaults (nvarsIn f (tableOf f)) (nnodesIn f (tableOf f)) (nsuppvarsIn f (tableOf f))
-
-abbrev others : List ℕ → List ℕ
-others f =
-    supportFaults f (tableOf f) ++ (nameCountFaults f (tableOf f) ++ (nameFaults f (tableOf f) ++ rootFaults f (tableOf f)))
-
--- where the header as a whole has no fault there are no more support variables than variables
-few-support : (f : List ℕ) → wholeFault f (tableOf f) ≡ 0 → nsuppvarsIn f (tableOf f) ≤ nvarsIn f (tableOf f)
-unfolding wholeFault numberFaults
-few-support f q = within-none _ _ 19 (first-none _ _ (rest-none _ _ (rest-none _ _ (front-none (numbers f) (others f) q))))
-
 -- a level list that fits has one level per support variable
 list-counted : (n m : ℕ) (l : List ℕ) → listFits n m l ≡ true → length l ≡ n
 unfolding listFits
@@ -99,14 +81,14 @@ module _ (c : Load) (σ : Store) where
       → listFits (h .nsuppvars) (σ .levels) (c .list) ≡ true → Bounded (setupFor (c .list) (σ .levels) h) (c .lent .edges) (c .lent .seats)
   bounded h S e s l =
       let w = S .sound in
-      let A = whole.accepted (c .file) (tableOf (c .file)) (w .whole) in
+      let R = whole-rules (c .file) (tableOf (c .file)) .0 (w .whole) in
       let few = lines-short (c .file) (w .next) (w .lines) (w .ends) in
       let n : h .nnodes ≡ nnodesIn (c .file) (tableOf (c .file)) = ap (λ g. g .nnodes) (w .is) in
       let v : h .nsuppvars ≡ nsuppvarsIn (c .file) (tableOf (c .file)) = ap (λ g. g .nsuppvars) (w .is) in
       let m : h .lines ≡ w .lines = ap (λ g. g .lines) (w .is) in
-      let a = A .few-nodes in
-      let b = A .few-vars in
-      let d = few-support (c .file) (w .whole) in
+      let a = R .few-nodes in
+      let b = R .few-vars in
+      let d = R .few-support in
       let k = list-counted (h .nsuppvars) (σ .levels) (c .list) l in
       let i = S .short in
       record { nodes = omega arith; edges-long = e; seats-long = s; few-levels = omega arith; few-lines = omega arith }

@@ -2,6 +2,7 @@
 use mathlib.Core.Path.{_≡_, refl, sym, ap, subst, _∙_}
 use mathlib.Core.Bool.{Bool, true, false, _&&_}
 use mathlib.Core.List.{[], _∷_}
+use mathlib.Core.Option.{none, some}
 use Prim.Native.Nat.{ℕ, _≤_}
 use native.Mathlib.Omega.{arith}
 use lib.ListN.{replicate}
@@ -33,6 +34,7 @@ use Rattle.header_checks.specs.Whole.{numberFaults, supportFaults, nameCountFau
 use Rattle.store.specs.Make.{findUpTo, find, added, insert, make}
 use Rattle.store.specs.Store.{Store}
 use Rattle.store.specs.Settings as settings
+use Rattle.store.specs.Meaning.{Setting}
 use Rattle.store.specs.Rules.{limits, Rules}
 use Rattle.store.specs.Keeps.{keeps, says-no, is-keeps, rules-keeps}
 use Rattle.store.specs.Empty.{empty}
@@ -49,11 +51,11 @@ use Rattle.imported.specs.Build.{edgeFor, addLine, buildOn, build}
 use Rattle.imported.specs.Import.{lineBy, linesIn, linesAnswer, blankAll, endsWell, importOf}
 use Rattle.level_list.specs.List.{listFits}
 use Rattle.calls.specs.Load.{Load, refusedAt, lentFault, inputFault, beforeHeader, scratchFault, listFault, beforeNodes, headerOf, setupOf, nodesOf, withHeader, loadOf}
-use Rattle.demands.specs.Roots.{fileSays}
+use Rattle.calls.specs.Roots.{rootsOf, fileSays}
 use Rattle.demands.specs.Examples.{bareLoad, bareHeader, exampleLoad, exampleHeader}
-use Rattle.calls.proofs.HeaderStands.{answer-roots}
+use Rattle.calls.proofs.HeaderStands.{sound-read, answer-sound, answer-roots}
 use Rattle.calls.proofs.Passes.{Passes, load-refused, passes-load}
-use Rattle.demands.proofs.RootsAnswer.{roots-answer}
+use Rattle.calls.proofs.RootsAnswer.{roots-answer}
 
 -- the header of a load, by whether the store keeps the rules
 abbrev pub headerBy : Load → Bool → head.HeaderLoaded
@@ -128,20 +130,39 @@ example-lines : linesIn (setupOf exampleLoad 2 exampleHeader) (exampleLoad .file
 unfolding run isBlank isDigit isLineEnd isOf seek trim feedAt lineOf digit number single first wordsFrom words entryStep edgeAt edgeEnd edgeList children deeper childFault decodeFrom wordFrom numbered afterExtra variableWord textLine textLineAt minus eqZ lineBy linesIn alike
 example-lines = refl
 
-example-ids : rootsIn (exampleLoad .file) (tableOf (exampleLoad .file)) ≡ pos 3 ∷ negsuc 2 ∷ []
+pub example-ids : rootsOf (exampleLoad .file) ≡ pos 3 ∷ negsuc 2 ∷ []
 example-ids =
     sym (answer-roots _ (exampleLoad .file) exampleHeader (ap (λ r. r .answer) example-header)) ∙ ap (λ r. r .roots) example-header
 
--- its first root says yes just where both levels are yes
-pub example-says : (a b : Bool) → fileSays exampleLoad 2 exampleHeader 0 (settings.chosen (a ∷ b ∷ [])) ≡ (a && b)
+-- its header by itself
+example-head : readOf (exampleLoad .file) ≡ head.header exampleHeader
+example-head = sound-read (exampleLoad .file) exampleHeader (answer-sound _ (exampleLoad .file) exampleHeader (ap (λ r. r .answer) example-header) .1)
+
+-- its first root says yes just where both levels are yes, and no elsewhere
+pub example-says : (a b : Bool) → fileSays (exampleLoad .file) (exampleLoad .list) 2 0 (settings.chosen (a ∷ b ∷ [])) ≡ some (a && b)
 unfolding says saysBy turn
-example-says a b = rw (example-lines, example-ids) (go a b)
+example-says a b = rw (example-head, example-lines, example-ids) (go a b)
   where
-    go : (a b : Bool) → says (0 ∷ 1 ∷ []) (terminal ∷ inner 1 (pos 1) (negsuc 0) ∷ inner 0 (pos 2) (negsuc 0) ∷ []) (settings.chosen (a ∷ b ∷ [])) (pos 3) ≡ (a && b)
+    go : (a b : Bool)
+        → says (0 ∷ 1 ∷ []) (terminal ∷ inner 1 (pos 1) (negsuc 0) ∷ inner 0 (pos 2) (negsuc 0) ∷ []) (settings.chosen (a ∷ b ∷ [])) (pos 3)
+        ≡ some (a && b)
     go true true = refl
     go true false = refl
     go false true = refl
     go false false = refl
+
+-- it has no third root: of that nothing is said
+pub example-silent : (s : Setting) → fileSays (exampleLoad .file) (exampleLoad .list) 2 2 s ≡ none
+example-silent s = rw example-ids
+
+-- nor do lines that are not there, or a level that is not on the list, say anything
+pub line-missing : (s : Setting) → says (0 ∷ 1 ∷ []) (terminal ∷ inner 1 (pos 1) (negsuc 0) ∷ []) s (pos 3) ≡ none
+unfolding says saysBy
+line-missing s = refl
+
+pub level-missing : (s : Setting) → says (0 ∷ []) (terminal ∷ inner 1 (pos 1) (negsuc 0) ∷ []) s (pos 2) ≡ none
+unfolding says saysBy
+level-missing s = refl
 
 -- with a slot less it is refused with 40
 pub example-crowded : loadOf exampleLoad (empty 2 2) ≡ refusedAt exampleLoad (empty 2 2) 40 0

@@ -1,14 +1,7 @@
-pub mod Accepted
-pub mod Demand1
-pub mod Demand2
-pub mod Demand3
-pub mod Evaluating
 pub mod Examples
-pub mod Growing
+pub mod Functions
 pub mod ListExample
 pub mod LoadsBack
-pub mod RootEntries
-pub mod RootsAnswer
-pub mod Starred
 pub mod Promised
-pub mod Functions
+pub mod ReadBack
+pub mod Starred

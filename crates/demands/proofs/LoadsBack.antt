@@ -1,5 +1,6 @@
--- The call load gives back an exported file, text or binary: into its store at its own levels, with no new node, as the same roots.
-use mathlib.Core.Path.{_≡_, refl, sym, ap, _∙_}
+-- The call load gives back an exported file, text or binary: into its store, or any that it has grown into, at its own levels, with no new
+-- node, as the same roots.
+use mathlib.Core.Path.{_≡_, refl, ap, _∙_}
 use mathlib.Core.Bool.{true}
 use mathlib.Core.List.{List}
 use Prim.Native.Nat.{ℕ, zero, suc, _≤_}
@@ -24,13 +25,18 @@ use Rattle.exported.specs.Export.{exportFault, headingOf}
 use Rattle.exporter.specs.Promise.{ofExported, Writes, ExportsBy}
 use Rattle.exporter.specs.declared.Exported.{Exported}
 use Rattle.exported.proofs.Accepted.{accepted}
+use Rattle.exported.proofs.Started.{exported}
+use Rattle.exported.proofs.Grown.{heading-grown}
+use Rattle.export_nodes.proofs.Grown.{levels-grown}
 use Rattle.reading_header.specs.HeaderBack.{headerFor, loadedFrom}
 use Rattle.reading_back.specs.ReadsBack.{ReadsBack, importBy, GivesBack}
-use Rattle.reading_back.proofs.ReadsBack.{accepted-back}
+use Rattle.reading_back.proofs.ReadsBack.{later-back}
 use Rattle.reading_back.proofs.ImportedAlike.{led-back}
 use Rattle.reading_back.proofs.OutputBack.{written-file}
 use Rattle.calls.specs.Load.{Lengths, Load, rootLists, headerOf, nodesOf, loadOf}
-use Rattle.demands.specs.LoadsBack.{ownLoad, LongEnough, LoadsBack, OutputLoads}
+use Rattle.demands.specs.LoadsBack.{ownLoad, LongEnough, LoadsBack, OutputLoads, OutputLoadsLater}
+use Rattle.calls.specs.Lists.{runCalls}
+use Rattle.calls.proofs.Growing.{run-grows, run-rules}
 use Rattle.calls.proofs.HeaderStands.{length-left, lists-answer}
 use Rattle.calls.proofs.Passes.{none-between, Passes, passes-load}
 
@@ -39,46 +45,43 @@ roots-room : (l : Lengths) → atLeast rootLimit (rootLists l) ≡ true → root
 unfolding atLeast
 roots-room l q = leb-true rootLimit (l .roots) (both (leb rootLimit (l .roots)) _ q .0)
 
-module _ {s : Settings} {σ : Store} {roots : List ℤ} {order : List ℕ} {p : Lent} {ns f : List ℕ} {l : Lengths} (R : Rules limits σ)
-    (few : length roots ≤ rootLimit) (long : LongEnough σ l) (b : ReadsBack s σ roots order p ns f (l .roots)) where
+module _ {s : Settings} {τ : Store} {roots : List ℤ} {order : List ℕ} {p : Lent} {ns f : List ℕ} {l : Lengths} (R : Rules limits τ)
+    (few : length roots ≤ rootLimit) (long : LongEnough (length ns) l) (b : ReadsBack s τ roots order p ns f (l .roots)) where
   abbrev c : Load
-  c = ownLoad σ ns f l
+  c = ownLoad τ ns f l
 
   abbrev h : Header
-  h = headerFor (headingOf s σ roots order p ns) (b .header-back .dd)
+  h = headerFor (headingOf s τ roots order p ns) (b .header-back .dd)
 
   -- neither lists nor store are refused: what is read is the file's header by itself
-  header-lists : headerOf c σ ≡ loadedFrom f
+  header-lists : headerOf c τ ≡ loadedFrom f
   unfolding headerOf head.loadHeader answerOf
-  header-lists = ap (λ n. head.loadHeader n f) (length-left c σ (long .variables) (long .roots) (rules-keeps limits σ R))
+  header-lists = ap (λ n. head.loadHeader n f) (length-left c τ (long .variables) (long .roots) (rules-keeps limits τ R))
 
-  header-read : headerOf c σ .answer ≡ header h
+  header-read : headerOf c τ .answer ≡ header h
   header-read = ap (λ r. r .answer) header-lists ∙ lists-answer f (answerOf f) ∙ b .header-back .answer
 
   -- the import of its nodes, as the header leads to it
-  import-given : GivesBack σ roots (l .roots) (importBy f h σ (supportOf σ ns) (l .roots))
+  import-given : GivesBack τ roots (l .roots) (importBy f h τ (supportOf τ ns) (l .roots))
   import-given = led-back b (b .header-back .answer)
 
   -- and that is the import of the load
-  nodes-read : nodesOf c σ h .answer ≡ nodes (import-given .end)
+  nodes-read : nodesOf c τ h .answer ≡ nodes (import-given .end)
   nodes-read = rw header-lists (import-given .accepted)
 
-  passes : Passes c σ h
+  passes : Passes c τ h
   unfolding headingOf
-  passes =
-      let edges : length ns ≤ l .edges = omega (arith, b .few-lines, long .edges) in
-      let seats : length ns ≤ l .seats = omega (arith, b .few-lines, long .seats) in
-      record {
-        header-read = header-read;
-        unrefused = none-between c σ h edges seats (b .levels-fit);
-        at = import-given .end;
-        nodes-read = nodes-read;
-      }
+  passes = record {
+    header-read = header-read;
+    unrefused = none-between c τ h (long .edges) (long .seats) (b .levels-fit);
+    at = import-given .end;
+    nodes-read = nodes-read;
+  }
 
   -- A file that reads back loads back.
-  pub loads-back : LoadsBack s σ roots order p ns f l (loadOf c σ)
+  pub loads-back : LoadsBack (headingOf s τ roots order p ns) roots τ f l (loadOf c τ)
   loads-back =
-      rw (passes-load c σ h passes, header-lists) (record {
+      rw (passes-load c τ h passes, header-lists) (record {
         header-back = b .header-back;
         accepted = refl;
         unchanged = import-given .unchanged;
@@ -100,16 +103,40 @@ module _ {s : Settings} {σ : Store} {roots : List ℤ} {order : List ℕ} {p : 
   writes-loads e w =
       let A = accepted σ roots order p slots numbers lent e in
       let file = written-file slots numbers lent r is A w in
+      let E = exported A (w .allowed) in
       record {
         nodes = w .nodes;
+        allowed = w .allowed;
         file = file;
-        loads = λ l long. loads-back (A .rules) (A .roots-few) long (rw file (accepted-back A (w .allowed) s (l .roots)));
+        loads = λ τ G R l long.
+            rw (← heading-grown G s order p E, ← levels-grown G E)
+            (loads-back R (A .roots-few) long (rw file (later-back A (w .allowed) G R s (l .roots))));
       }
 
-  -- Demand 2, for the call load: where the answer of an export is a length, so many bytes of its output load back.
-  pub exports-loads : ExportsBy (exportFault σ roots order p slots numbers lent) s σ roots order p lent r out → OutputLoads s σ roots order p n out
-  exports-loads w = go (exportFault σ roots order p slots numbers lent) refl w
+  -- an export that answers a length isn't refused
+  unrefused : ExportsBy (exportFault σ roots order p slots numbers lent) s σ roots order p lent r out
+      → (exportFault σ roots order p slots numbers lent ≡ 0) × Writes s σ roots order p lent r out
+  unrefused w = go (exportFault σ roots order p slots numbers lent) refl w
     where
-      go : (k : ℕ) → exportFault σ roots order p slots numbers lent ≡ k → ExportsBy k s σ roots order p lent r out → OutputLoads s σ roots order p n out
-      go zero e w = writes-loads e w
+      go : (k : ℕ) → exportFault σ roots order p slots numbers lent ≡ k → ExportsBy k s σ roots order p lent r out
+          → (exportFault σ roots order p slots numbers lent ≡ 0) × Writes s σ roots order p lent r out
+      go zero e w = (e, w)
       go (suc k) e w = let a = w .answer in absurd (let z : _≡_ {A = ℕ} 0 1 = cc in omega arith)
+
+  -- Demand 2, for the call load: where the answer of an export is a length, so many bytes of its output load back,
+  pub exports-loads : ExportsBy (exportFault σ roots order p slots numbers lent) s σ roots order p lent r out → OutputLoads s σ roots order p n out
+  exports-loads w = let u = unrefused w in writes-loads (u .0) (u .1)
+
+  -- after any calls too: the store has only grown, and keeps the rules that the export has shown.
+  pub exports-loads-later : ExportsBy (exportFault σ roots order p slots numbers lent) s σ roots order p lent r out
+      → OutputLoadsLater s σ roots order p n out
+  exports-loads-later w =
+      let u = unrefused w in
+      let b = writes-loads (u .0) (u .1) in
+      let R = accepted σ roots order p slots numbers lent (u .0) .rules in
+      record {
+        nodes = b .nodes;
+        allowed = b .allowed;
+        file = b .file;
+        loads = λ cs. b .loads (runCalls σ cs) (run-grows σ cs) (run-rules σ cs R);
+      }

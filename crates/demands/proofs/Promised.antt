@@ -27,9 +27,9 @@ use Rattle.c_answers.specs.declared.EvaluateAnswer.{EvaluateAnswer}
 use Rattle.c_answers.specs.declared.ExportAnswer.{ExportAnswer}
 use Rattle.c_answers.specs.Settings.{settingsOf}
 use Rattle.c_answers.specs.Answers as C
-use Rattle.demands.specs.Lists.{Call, load, evaluate, export}
-use Rattle.demands.specs.Outcome as outcomes
-use Rattle.demands.specs.Outcome.{Tells, Verdict, Outcome, outcome, verdictOf, verdictRead, outputsOf, scratchOf, Leaves, loads, evaluates, exports}
+use Rattle.calls.specs.Lists.{Call, load, evaluate, export}
+use Rattle.calls.specs.Outcome as outcomes
+use Rattle.calls.specs.Outcome.{Tells, Verdict, Outcome, outcome, verdictOf, verdictRead, outputsOf, scratchOf, Leaves, loads, evaluates, exports}
 
 -- `dddmp::load`
 module _ (f list : Part (List ℕ)) (levels : ℕ) (count : Part ℕ) (level : Part (List ℕ)) (then els : Part (List ℤ))

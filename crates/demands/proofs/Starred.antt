@@ -50,13 +50,14 @@ use Rattle.node_writers.specs.Encoded.{childCode, variableCode, innerBytes, bin
 use Rattle.calls.specs.Load.{scratchFault, listFault, beforeNodes, headerOf, nodesOf, withHeader, loadOf}
 use Rattle.demands.specs.Examples.{exampleLoad, exampleHeader}
 use Rattle.demands.specs.Starred.{exampleLeft, exampleRoots, ThoseNodes, threeVariables, twoVariables, threeHeader, AllRows, starred}
-use Rattle.calls.proofs.Passes.{Passes, load-refused, load-passes, passes-load}
+use Rattle.calls.proofs.Passes.{Passes, load-refused, passes-load}
+use Rattle.calls.proofs.Accepted.{answered-passes}
 use Rattle.demands.proofs.Examples.{headerBy, header-by, kept, example-loads, example-roots}
 
 -- the store that the example's load leaves is that of its nodes
 left-by-nodes : exampleLeft .after ≡ nodesOf exampleLoad (empty 2 3) exampleHeader .after
 left-by-nodes =
-    let p = load-passes exampleLoad (empty 2 3) exampleHeader example-loads in
+    let p = answered-passes exampleLoad (empty 2 3) exampleHeader example-loads in
     ap (λ r. r .after) (passes-load exampleLoad (empty 2 3) exampleHeader p)
 
 -- and its first two entries of the lent list are the roots 3 and -3

@@ -1,5 +1,5 @@
--- Demand 2, for the call load: an exported file, text or binary, reads back into its store at its own levels, with no new node, as the same
--- roots.
+-- Demand 2, for the call load: an exported file, text or binary, reads back into its store, or any that it has grown into, at its own levels,
+-- with no new node, as the same roots.
 use Prim.Native.Nat.{ℕ, _≤_}
 use mathlib.Core.Path.{_≡_}
 use mathlib.Core.Bool.{true}
@@ -9,34 +9,39 @@ use lib.IntN.{ℤ, pos}
 use Rattle.codes.specs.Limits.{varLimit, rootLimit}
 use Rattle.codes.specs.Lent.{laid}
 use Rattle.store.specs.Store.{Store}
+use Rattle.store.specs.Rules.{limits, Rules}
+use Rattle.store.specs.Growth.{Grows}
 use Rattle.header.specs.Header.{header, atLeast}
+use Rattle.numbering.specs.Allowed.{Allowed}
 use Rattle.numbering.specs.Support.{supportOf}
+use Rattle.heading.specs.Heading.{Heading}
 use Rattle.heading.specs.Tables.{Lent}
 use Rattle.exported.specs.Settings.{Settings}
 use Rattle.exported.specs.Export.{headingOf, fileOf}
 use Rattle.reading_header.specs.HeaderBack.{headerFor, loadedFrom, HeaderBack}
 use Rattle.calls.specs.Load.{Lengths, variableLists, rootLists, Load, Loaded, loadOf}
+use Rattle.calls.specs.Lists.{Call, runCalls}
 
 -- a load of a file at the levels of its own nodes ns, lent lists of these lengths
 abbrev pub ownLoad : Store → List ℕ → List ℕ → Lengths → Load
 ownLoad σ ns f l = record { file = f; list = supportOf σ ns; lent = l }
 
--- '1 a lent part too short' isn't met: '4,096 entries for each variable list, 1,024 for each root list', and scratch for each node of the
--- store
-pub record LongEnough (σ : Store) (l : Lengths) : Type 0 where
+-- '1 a lent part too short: 4,096 entries for each variable list, 1,024 for each root list, `.nnodes` for node scratch' isn't met, where
+-- `.nnodes` is n
+pub record LongEnough (n : ℕ) (l : Lengths) : Type 0 where
   pub variables : atLeast varLimit (variableLists l) ≡ true
   pub roots : atLeast rootLimit (rootLists l) ≡ true
-  pub edges : σ .count ≤ l .edges
-  pub seats : σ .count ≤ l .seats
+  pub edges : n ≤ l .edges
+  pub seats : n ≤ l .seats
 
--- What a load of the file f leaves, where f is an export of the roots whose lines are those of the nodes ns.
-pub record LoadsBack (s : Settings) (σ : Store) (roots : List ℤ) (order : List ℕ) (p : Lent) (ns f : List ℕ) (l : Lengths) (r : Loaded) : Type 0 where
+-- What a load into the store τ leaves, where its file f is an export of the roots with the header h.
+pub record LoadsBack (h : Heading) (roots : List ℤ) (τ : Store) (f : List ℕ) (l : Lengths) (r : Loaded) : Type 0 where
   -- what the header of the file says is what was exported
-  pub header-back : HeaderBack (headingOf s σ roots order p ns) f
+  pub header-back : HeaderBack h f
   -- the load is accepted, and its answer is that header
-  pub accepted : r .answer ≡ header (headerFor (headingOf s σ roots order p ns) (header-back .dd))
+  pub accepted : r .answer ≡ header (headerFor h (header-back .dd))
   -- no new node
-  pub unchanged : r .after ≡ σ
+  pub unchanged : r .after ≡ τ
   -- the same roots, signs included: all of them, and zeros after them
   pub roots-fit : length roots ≤ l .roots
   pub same : r .roots ≡ laid roots (replicate (l .roots) (pos 0))
@@ -48,9 +53,23 @@ pub record LoadsBack (s : Settings) (σ : Store) (roots : List ℤ) (order : Lis
   pub names : r .names ≡ loadedFrom f .names
   pub rootnames : r .rootnames ≡ loadedFrom f .rootnames
 
--- The first n bytes of an export's output are a file, and every load of it that is lent long enough parts gives back what was exported.
+-- Every load into the store τ, lent long enough parts, of a file f of the nodes ns that was exported from the store σ, gives back what was
+-- exported. The file's `.nnodes` is the number of its nodes.
+abbrev pub LoadsInto : Settings → Store → List ℤ → List ℕ → Lent → List ℕ → List ℕ → Store → Type 0
+LoadsInto s σ roots order p ns f τ =
+    (l : Lengths) → LongEnough (length ns) l → LoadsBack (headingOf s σ roots order p ns) roots τ f l (loadOf (ownLoad σ ns f l) τ)
+
+-- The first n bytes of an export's output are a file, whose lines stand in an order that document 01 allows, and it loads back into every
+-- store that the exporting one has grown into.
 pub record OutputLoads (s : Settings) (σ : Store) (roots : List ℤ) (order : List ℕ) (p : Lent) (n : ℕ) (out : List ℕ) : Type 0 where
   pub nodes : List ℕ
+  pub allowed : Allowed σ roots nodes
   pub file : take n out ≡ fileOf s σ roots order p nodes
-  pub loads : (l : Lengths) → LongEnough σ l
-      → LoadsBack s σ roots order p nodes (take n out) l (loadOf (ownLoad σ nodes (take n out) l) σ)
+  pub loads : (τ : Store) → Grows σ τ → Rules limits τ → LoadsInto s σ roots order p nodes (take n out) τ
+
+-- The same after any calls: export, load other files, load back.
+pub record OutputLoadsLater (s : Settings) (σ : Store) (roots : List ℤ) (order : List ℕ) (p : Lent) (n : ℕ) (out : List ℕ) : Type 0 where
+  pub nodes : List ℕ
+  pub allowed : Allowed σ roots nodes
+  pub file : take n out ≡ fileOf s σ roots order p nodes
+  pub loads : (cs : List Call) → LoadsInto s σ roots order p nodes (take n out) (runCalls σ cs)

@@ -10,9 +10,9 @@ use Rattle.store.specs.Store.{Store}
 use Rattle.header.specs.Header as head
 use Rattle.exporter.specs.Promise.{ofExported}
 use Rattle.exporter.specs.declared.Exported.{Exported}
 use Rattle.calls.specs.Load.{Load, Parts, partsOf, loadOf}
 use Rattle.calls.specs.Calls.{Export, Exports, evaluateOf}
-use Rattle.demands.specs.Lists.{Call, load, evaluate, export}
+use Rattle.calls.specs.Lists.{Call, load, evaluate, export}
 
 -- 'A refusal is a number and a line.'
 pub data Verdict : Type 0 where

@@ -9,11 +9,11 @@ use Rattle.store.specs.Rules.{limits, Rules}
 use Rattle.store.specs.Growth.{Grows}
 use Rattle.store.proofs.Growth.{grows-refl, grows-trans}
 use Rattle.header.specs.Header.{HeaderAnswer, header, refusal}
 use Rattle.calls.specs.Load.{Load, loadOf}
-use Rattle.demands.specs.Lists.{Call, load, evaluate, export, leaves, runCalls, before}
-use Rattle.demands.specs.Roots.{At, here, later}
+use Rattle.calls.specs.Lists.{Call, load, evaluate, export, leaves, runCalls, before}
+use Rattle.calls.specs.Roots.{At, here, later}
 use Rattle.calls.proofs.Passes.{load-refused}
-use Rattle.demands.proofs.RootsAnswer.{roots-answer}
+use Rattle.calls.proofs.RootsAnswer.{roots-answer}
 
 -- a load leaves a store that has only grown
 load-grows : (c : Load) (σ : Store) → Grows σ (loadOf c σ .after)
@@ -69,7 +69,7 @@ call-rules (evaluate e s) σ R = R
 call-rules (export x) σ R = R
 
 -- and a list of calls
-run-rules : (σ : Store) (cs : List Call) → Rules limits σ → Rules limits (runCalls σ cs)
+pub run-rules : (σ : Store) (cs : List Call) → Rules limits σ → Rules limits (runCalls σ cs)
 unfolding runCalls
 run-rules σ [] R = R
 run-rules σ (c ∷ cs) R = run-rules (leaves c σ) cs (call-rules c σ R)

@@ -2,7 +2,6 @@
 use mathlib.Core.Path.{_≡_, refl, sym, ap}
 use mathlib.Core.List.{List}
 use Prim.Native.Nat.{ℕ, zero, suc}
-use native.Mathlib.Omega.{arith}
 use lib.ListN.{replicate, length-replicate}
 use lib.IntN.{pos}
 use Rattle.codes.specs.Lent.{laid}
@@ -10,12 +9,14 @@ use Rattle.store.specs.Store.{Store}
 use Rattle.header.specs.Header as head
 use Rattle.exporter.specs.Promise as promise
 use Rattle.exporter.specs.declared.Exported.{Exported}
 use Rattle.calls.specs.Load.{Load, refusedAt, partsOf, loadOf}
-use Rattle.demands.specs.Lists.{Call, leaves}
+use Rattle.calls.specs.Lists.{Call, leaves}
 use Rattle.calls.specs.Calls.{Export, Exports, exportFaultOf}
-use Rattle.demands.specs.Outcome.{accepted, refusal, verdictOf, verdictRead, numbers, edges, Zeros, AllZeros, Outcome, outputsOf, Leaves}
-use Rattle.demands.specs.Outcome.{loads, evaluates, exports}
+use Rattle.calls.specs.Outcome.{refusal, verdictOf, verdictRead, numbers, edges, Zeros, AllZeros, Outcome, outputsOf, Leaves}
+use Rattle.calls.specs.Outcome.{loads, evaluates, exports}
+use Rattle.calls.specs.Refusals.{RefusalNumber, RefusedFor}
 use Rattle.calls.proofs.Passes.{load-refused}
+use Rattle.calls.proofs.Numbers.{not-refused, refused-for, refusal-number}
 
 -- a list of zeros holds zeros
 zeros : (n : ℕ) → Zeros (numbers (replicate n 0))
@@ -26,10 +27,6 @@ no-edges n = ap (λ k. replicate k (pos 0)) (sym (length-replicate n (pos 0)))
 
 and-zeros : {P : Type 0} (n : ℕ) → P → Zeros (numbers (replicate n 0)) × P
 and-zeros n w = (zeros n, w)
-
--- what is accepted is not refused
-not-refused : {n line : ℕ} {B : Type 0} → accepted ≡ refusal n line → B
-not-refused q = absurd (let z : _≡_ {A = ℕ} 0 1 = cc in omega arith)
 
 module _ (c : Load) (σ : Store) where
   -- the lists of a refused load hold zeros
@@ -64,6 +61,12 @@ pub demand-1 : {c : Call} {σ : Store} {o : Outcome} → Leaves c σ o → (n li
 demand-1 (loads c σ) n line q = load-nothing c σ n line q
 demand-1 (evaluates e s σ) n line q = (refl, tt)
 demand-1 (exports x σ r out w) n line q = (refl, (export-nothing x σ r out n line w q, tt))
+
+-- 'A bad one gets its number from document 01': a call is refused exactly for a rule that is broken, of a load the first in document 01's
+-- order, with one of its numbers, which is never 0, and at the line that it says.
+pub demand-1-number : {c : Call} {σ : Store} {o : Outcome} → Leaves c σ o → (n line : ℕ) → o .verdict ≡ refusal n line
+    → RefusedFor c σ n line × RefusalNumber n
+demand-1-number {c} {σ} L n line q = let w = refused-for L n line q in (w, refusal-number c σ n line w)
 
 -- 'Scratch ends as zeros': refused or not.
 pub scratch-zeros : {c : Call} {σ : Store} {o : Outcome} → Leaves c σ o → AllZeros (o .scratch)

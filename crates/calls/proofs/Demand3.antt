@@ -1,43 +1,55 @@
 -- Demand 3: of every list of public calls on one store, from an empty one on: two roots are equal as signed numbers exactly where their
 -- files' lines answer alike at every setting. Document 01, 'Agreed between us'.
-use mathlib.Core.Path.{_≡_, sym, _∙_}
+use mathlib.Core.Path.{_≡_, sym, ap, subst, _∙_}
 use mathlib.Core.Logic.{_↔_}
+use mathlib.Core.Bool.{Bool}
 use mathlib.Core.List.{List}
+use mathlib.Core.Option.{Option, some, Option·some-injective}
 use Prim.Native.Nat.{ℕ, suc, _≤_}
 use native.Mathlib.Omega.{arith}
 use native.Mathlib.Decide.{decLe}
 use lib.ListN.{take}
 use lib.IntN.{ℤ}
 use Rattle.store.specs.Store.{Store}
+use Rattle.store.specs.Meaning.{answer}
 use Rattle.store.specs.Settings.{chosen}
 use Rattle.store.specs.Rules.{limits, Rules}
 use Rattle.store.specs.Growth.{Grows}
 use Rattle.store.specs.Empty.{empty}
 use Rattle.store.proofs.Growth.{grow-edge, grow-answer}
 use Rattle.store.proofs.Canonicity.{canonicity}
-use Rattle.demands.specs.Lists.{Call, leaves, before}
-use Rattle.demands.specs.Roots.{Meaning, Means, Gives, loaded, Root, Alike}
-use Rattle.demands.proofs.RootsAnswer.{roots-answer}
-use Rattle.demands.proofs.Growing.{run-grows, after-grows, after-rules}
+use Rattle.calls.specs.Load.{loadOf}
+use Rattle.calls.specs.Lists.{Call, leaves, before}
+use Rattle.calls.specs.Roots.{Meaning, loadSays, Means, Gives, loaded, Root, SameAnswer, Alike}
+use Rattle.calls.proofs.RootsAnswer.{roots-answer}
+use Rattle.calls.proofs.Growing.{run-grows, after-grows, after-rules}
 
 -- a call that gives a root leaves a store that keeps the rules, where the root has its meaning
 gives-rules : {c : Call} {σ : Store} {e : ℤ} {m : Meaning} → Gives c σ e m → Rules limits (leaves c σ)
-gives-rules (loaded c σ h i q k) = roots-answer c σ h q .rules
+gives-rules (loaded c σ h i e q k t) = roots-answer c σ h q .rules
 
 gives-means : {c : Call} {σ : Store} {e : ℤ} {m : Meaning} → Gives c σ e m → Means (leaves c σ) e m
-gives-means (loaded c σ h i q k) = roots-answer c σ h q .root i k
+gives-means (loaded c σ h i e q k t) =
+    let w = roots-answer c σ h q .root i k in
+    subst (λ (r : ℤ). Means (loadOf c σ .after) r (loadSays c σ i)) (Option·some-injective (w .root) e (sym (w .there) ∙ t)) (w .means)
 
 -- an edge keeps its meaning while the store grows
 means-grown : {σ τ : Store} {e : ℤ} {m : Meaning} → Grows σ τ → Rules limits σ → Means σ e m → Means τ e m
-means-grown {e = e} G R M = record { edge = grow-edge G e (M .edge); agrees = λ s. grow-answer G (R .nodes) s e (M .edge) ∙ M .agrees s }
+means-grown {e = e} G R M = record { edge = grow-edge G e (M .edge); agrees = λ s. M .agrees s ∙ ap some (sym (grow-answer G (R .nodes) s e (M .edge))) }
+
+-- an answer that two have is one that the other two have
+swapped : {x y : Option Bool} → SameAnswer x y → SameAnswer y x
+swapped w = (w .0, (w .1 .1, w .1 .0))
 
 -- two edges of a store that keeps the rules, each with its meaning
 one-store : (levels : ℕ) {τ : Store} (a b : ℤ) (m n : Meaning) → τ .levels ≡ levels → Rules limits τ → Means τ a m → Means τ b n
     → (a ≡ b) ↔ Alike levels m n
 one-store levels {τ} a b m n v R M N =
     let C = canonicity τ (R .nodes) a b (M .edge) (N .edge) in (
-      λ q s l. sym (M .agrees (chosen s)) ∙ C .1 q s (l ∙ sym v) ∙ N .agrees (chosen s),
-      λ S. C .0 (λ s l. M .agrees (chosen s) ∙ S s (l ∙ v) ∙ sym (N .agrees (chosen s))),
+      λ q s l. (answer τ (chosen s) b, (M .agrees (chosen s) ∙ ap some (C .1 q s (l ∙ sym v)), N .agrees (chosen s))),
+      λ S. C .0 (λ s l.
+          let w = S s (l ∙ v) in
+          Option·some-injective _ _ (sym (M .agrees (chosen s)) ∙ w .1 .0 ∙ sym (w .1 .1) ∙ N .agrees (chosen s))),
     )
 
 module _ (levels slots : ℕ) (cs : List Call) where
@@ -74,4 +86,4 @@ demand-3 levels slots cs a b = go (decLe (a .place) (b .place))
     go (yes h) = ordered levels slots cs a b h
     go (no f) =
         let w = ordered levels slots cs b a (omega arith) in
-        (λ q s l. sym (w .0 (sym q) s l), λ S. sym (w .1 (λ s l. sym (S s l))))
+        (λ q s l. swapped (w .0 (sym q) s l), λ S. sym (w .1 (λ s l. swapped (S s l))))

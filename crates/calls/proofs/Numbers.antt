@@ -1,0 +1,169 @@
+-- Every refusal of every call is one of document 01's numbers, and so is never 0, which is no refusal for C.
+use mathlib.Core.Path.{_≡_, refl, sym, subst, _∙_}
+use mathlib.Core.Logic.{_⊎_, inl, inr, ⊎-elim, _↔_}
+use mathlib.Core.Bool.{Bool, true, false, _&&_, cond}
+use mathlib.Core.List.{List, [], _∷_}
+use Prim.Native.Nat.{ℕ, zero, suc, _≤_}
+use native.Mathlib.Omega.{arith}
+use lib.IntN.{ℤ}
+use Rattle.codes.specs.Answer.{value, refused}
+use Rattle.codes.specs.Faults.{firstFault, unless}
+use Rattle.codes.proofs.Faults.{none-in, first-in}
+use Rattle.codes.proofs.Refusals.{unless-in}
+use Rattle.header_lines.specs.Sweep.{linesOf}
+use Rattle.header_lines.specs.SoundLines.{cut-short, faulty}
+use Rattle.imported.specs.Refused.{crowded, early, text, binary, unended}
+use Rattle.header_lines.proofs.HeaderEnd.{refused-lines, lines-numbers}
+use Rattle.header_checks.proofs.WholeNumbers.{whole-numbers}
+use Rattle.store.specs.Store.{Store}
+use Rattle.store.specs.Rules.{limits}
+use Rattle.store.specs.Keeps.{keeps}
+use Rattle.evaluation.specs.Evaluation.{isRoot, isSetting, evaluation}
+use Rattle.header.specs.Header as head
+use Rattle.header.specs.Header.{tableOf}
+use Rattle.level_list.proofs.LevelLists.{list-levels, list-allowed}
+use Rattle.imported.proofs.NodesRefused.{refused-nodes, nodes-numbers}
+use Rattle.variable_order.specs.Order.{isOrder}
+use Rattle.exported.specs.Export.{rootsFit, longEnough, namesFit, exportFault}
+use Rattle.exporter.specs.Promise as promise
+use Rattle.exporter.specs.declared.Exported.{Exported}
+use Rattle.calls.specs.Load.{Load, setupOf, loadOf}
+use Rattle.calls.specs.Calls.{Export, Exports, exportFaultOf, evaluateOf}
+use Rattle.calls.specs.Lists.{Call, load, evaluate, export}
+use Rattle.calls.specs.Outcome.{Verdict, accepted, refusal, Tells, verdictOf, verdictRead, Outcome, Leaves, loads, evaluates, exports}
+use Rattle.calls.specs.Refusals.{RefusalNumber, LoadRefused, lists-short, store-broken, input-long, line-refused, whole-refused, scratch-short, list-refused, nodes-refused, CarriesLine, RefusedFor}
+use Rattle.calls.proofs.Refusals.{refused-exactly}
+
+-- what is accepted is not refused
+pub not-refused : {n line : ℕ} {B : Type 0} → accepted ≡ refusal n line → B
+not-refused q = absurd (let z : _≡_ {A = ℕ} 0 1 = cc in omega arith)
+
+-- one refusal is the other
+same-verdict : {n line k at : ℕ} → refusal k at ≡ refusal n line → (k ≡ n) × (at ≡ line)
+same-verdict {n} {line} {k} {at} q =
+    let a : k ≡ n = cc in
+    let b : at ≡ line = cc in
+    (a, b)
+
+-- a load
+load-refuses : (c : Load) (σ : Store) (n line : ℕ) → verdictOf (loadOf c σ .answer) ≡ refusal n line → LoadRefused c σ n line
+load-refuses c σ n line q = go (loadOf c σ .answer) refl q
+  where
+    go : (a : head.HeaderAnswer) → loadOf c σ .answer ≡ a → verdictOf a ≡ refusal n line → LoadRefused c σ n line
+    go (head.header h) e q = not-refused q
+    go (head.refusal k at) e q =
+        let s = same-verdict q in
+        refused-exactly c σ n line .0 (e ∙ rw (s .0, s .1))
+
+-- an evaluation: 'Evaluation gives 3, 4'
+evaluate-refuses : (e : ℤ) (s : List ℕ) (σ : Store) (n line : ℕ) → verdictRead (evaluateOf e s σ) ≡ refusal n line
+    → ((n ≡ 3) ⊎ (n ≡ 4)) × (line ≡ 0)
+unfolding evaluation
+evaluate-refuses e s σ n line q = go (keeps limits σ) (isRoot σ e && isSetting σ s) _ q
+  where
+    go : (k r b : Bool) → verdictRead (cond k (cond r (value b) (refused 4)) (refused 3)) ≡ refusal n line → ((n ≡ 3) ⊎ (n ≡ 4)) × (line ≡ 0)
+    go false r b q = let s = same-verdict q in (inl (sym (s .0)), sym (s .1))
+    go true false b q = let s = same-verdict q in (inr (sym (s .0)), sym (s .1))
+    go true true b q = not-refused q
+
+-- an export: 'Export gives 1, 3, 4, 6, 5'; 0 where none of them is
+abbrev ExportNumber : ℕ → Type 0
+ExportNumber n = (n ≡ 0) ⊎ ((n ≡ 1) ⊎ ((3 ≤ n) × (n ≤ 6)))
+
+-- a check more in front
+checked : (n : ℕ) (b : Bool) (l : List ℕ) → (n ≡ 1) ⊎ ((3 ≤ n) × (n ≤ 6)) → ExportNumber (firstFault l) → ExportNumber (firstFault (unless b n ∷ l))
+checked n b l h w = first-in ExportNumber (unless b n) l (unless-in ExportNumber (inl refl) {n = n} (inr h) b) w
+
+fault-number : (x : Export) (σ : Store) → ExportNumber (exportFaultOf x σ)
+unfolding exportFault
+fault-number x σ =
+    checked 1 (longEnough σ (x .roots) (x .names) (x .slots) (x .numbers) (x .out)) _ (inl refl)
+    (checked 3 (keeps limits σ) _ (inr (omega arith))
+    (checked 4 (rootsFit (σ .count) (x .roots)) _ (inr (omega arith))
+    (checked 6 (isOrder (σ .levels) (x .order)) _ (inr (omega arith))
+    (checked 5 (namesFit σ (x .roots) (x .names)) _ (inr (omega arith))
+    (none-in ExportNumber (inl refl))))))
+
+export-refuses : (x : Export) (σ : Store) (r : Exported) (out : List ℕ) (n line : ℕ) → Exports x σ r out
+    → verdictRead (promise.ofExported r) ≡ refusal n line → ((n ≡ 1) ⊎ ((3 ≤ n) × (n ≤ 6))) × (line ≡ 0)
+export-refuses x σ r out n line w q = go (exportFaultOf x σ) (fault-number x σ) w
+  where
+    some : (k : ℕ) → ExportNumber (suc k) → (suc k ≡ 1) ⊎ ((3 ≤ suc k) × (suc k ≤ 6))
+    some k (inl z) = absurd (omega arith)
+    some k (inr z) = z
+
+    go : (k : ℕ) → ExportNumber k → promise.ExportsBy k (x .settings) σ (x .roots) (x .order) (x .names) (x .out) r out
+        → ((n ≡ 1) ⊎ ((3 ≤ n) × (n ≤ 6))) × (line ≡ 0)
+    go zero N w = not-refused (rw (w .answer) at q)
+    go (suc k) N w =
+        let s = same-verdict (rw (w .answer) at q) in
+        (subst (λ (m : ℕ). (m ≡ 1) ⊎ ((3 ≤ m) × (m ≤ 6))) (s .0) (some k N), sym (s .1))
+
+-- Every call is refused by a rule that is broken, and at the line that document 01 names.
+pub refused-for : {c : Call} {σ : Store} {o : Outcome} → Leaves c σ o → (n line : ℕ) → o .verdict ≡ refusal n line → RefusedFor c σ n line
+refused-for (loads c σ) n line q = load-refuses c σ n line q
+refused-for (evaluates e s σ) n line q = evaluate-refuses e s σ n line q
+refused-for (exports x σ r out w) n line q = export-refuses x σ r out n line w q
+
+-- the numbers of a load's refusals
+load-number : (c : Load) (σ : Store) {n line : ℕ} → LoadRefused c σ n line → RefusalNumber n
+load-number c σ (lists-short w) = inl (omega arith)
+load-number c σ (store-broken L w) = inl (omega arith)
+load-number c σ (input-long L R w) = inr (inl (omega arith))
+load-number c σ (line-refused {n} {line} O w) = go (lines-numbers (c .file) (linesOf (c .file)) n line (refused-lines (c .file) (linesOf (c .file)) n line .1 w))
+  where
+    go : ((n ≡ 10) × (line ≡ 0)) ⊎ (((11 ≤ n) × (n ≤ 19)) × (1 ≤ line)) → RefusalNumber n
+    go (inl z) = inr (inl (omega (arith, z .0)))
+    go (inr z) = inr (inl (omega (arith, z .0 .0, z .0 .1)))
+load-number c σ (whole-refused {n} O s q k) = go (whole-numbers (c .file) (tableOf (c .file)) n q)
+  where
+    go : (n ≡ 0) ⊎ ((19 ≤ n) × (n ≤ 26)) → RefusalNumber n
+    go (inl z) = absurd (omega arith)
+    go (inr z) = inr (inl (omega (arith, z .0, z .1)))
+load-number c σ (scratch-short H w) = inl (omega arith)
+load-number c σ (list-refused H S w) = inl (omega arith)
+load-number c σ (nodes-refused {h} {n} {line} H S L w) =
+    let W = list-levels _ _ (c .list) (list-allowed (h .nsuppvars) (σ .levels) (c .list) .1 (L .counted, L .levels)) in
+    let R = H .opened .rules in
+    let u = setupOf c (σ .levels) h in
+    ⊎-elim (λ z. inr (inl (omega (arith, z .0, z .1)))) (λ z. inr (inr (omega (arith, z .0, z .1))))
+    (nodes-numbers u σ (c .file) (h .next) [] R W n line (refused-nodes u σ (c .file) (h .next) [] R W n line .1 w))
+
+-- A load's refusal has a line from 1 on exactly where it carries one: else its line is 0.
+pub line-carried : (c : Load) (σ : Store) {n line : ℕ} (w : LoadRefused c σ n line) → (1 ≤ line) ↔ CarriesLine w
+line-carried c σ (lists-short w) = (λ h. omega arith, λ z. absurd z)
+line-carried c σ (store-broken L w) = (λ h. omega arith, λ z. absurd z)
+line-carried c σ (input-long L R w) = (λ h. omega arith, λ z. absurd z)
+line-carried c σ (line-refused O (cut-short e s)) = (λ h. omega arith, λ z. absurd z)
+line-carried c σ (line-refused O (faulty before s after e b q k)) = (λ h. tt, λ z. omega arith)
+line-carried c σ (whole-refused O s q k) = (λ h. omega arith, λ z. absurd z)
+line-carried c σ (scratch-short H w) = (λ h. omega arith, λ z. absurd z)
+line-carried c σ (list-refused H S w) = (λ h. omega arith, λ z. absurd z)
+line-carried c σ (nodes-refused H S L (crowded w)) = (λ h. omega arith, λ z. absurd z)
+line-carried c σ (nodes-refused H S L (early r a e)) = (λ h. omega arith, λ z. absurd z)
+line-carried c σ (nodes-refused H S L (text r a e k t i m)) = (λ h. tt, λ z. omega (arith, i))
+line-carried c σ (nodes-refused H S L (binary r a e k)) = (λ h. omega arith, λ z. absurd z)
+line-carried c σ (nodes-refused H S L (unended r e w)) = (λ h. omega arith, λ z. absurd z)
+
+-- Document 01's numbers are all that a call is refused with.
+pub refusal-number : (c : Call) (σ : Store) (n line : ℕ) → RefusedFor c σ n line → RefusalNumber n
+refusal-number (load c) σ n line w = load-number c σ w
+refusal-number (evaluate e s) σ n line w = ⊎-elim (λ z. inl (omega (arith, z))) (λ z. inl (omega (arith, z))) (w .0)
+refusal-number (export x) σ n line w = ⊎-elim (λ z. inl (omega (arith, z))) (λ z. inl (omega (arith, z .0, z .1))) (w .0)
+
+-- 0 is none of them
+pub number-some : {n : ℕ} → RefusalNumber n → 1 ≤ n
+number-some (inl z) = z .0
+number-some (inr (inl z)) = omega (arith, z .0)
+number-some (inr (inr z)) = omega (arith, z .0)
+
+-- So C is told 0 exactly where a call isn't refused.
+pub told-zero : {c : Call} {σ : Store} {o : Outcome} → Leaves c σ o → (n line : ℕ) → Tells n line (o .verdict) → (n ≡ 0) ↔ (o .verdict ≡ accepted)
+told-zero {c} {σ} {o} L n line t = go (o .verdict) refl t
+  where
+    go : (v : Verdict) → o .verdict ≡ v → Tells n line v → (n ≡ 0) ↔ (v ≡ accepted)
+    go accepted q t = (λ z. refl, λ z. t .0)
+    go (refusal k at) q t = (
+      λ z. absurd (omega (arith, number-some (refusal-number c σ k at (refused-for L k at q)), t .0)),
+      λ z. not-refused (sym z),
+    )

@@ -1,2 +1,3 @@
+pub mod RecodeLevels
 pub mod Taken
 pub mod VariableLevels

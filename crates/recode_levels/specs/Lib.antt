@@ -1,1 +1,2 @@
+pub mod LevelRules
 pub mod Levels

@@ -5,3 +5,5 @@ pub mod Passing
 pub mod Reloaded
 pub mod Whole
 pub mod Fitting
+pub mod RecodeLoads
+pub mod RecodeRefusals

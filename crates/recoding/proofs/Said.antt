@@ -6,22 +6,26 @@ use native.Mathlib.Omega.{arith}
 use lib.ListN.{length}
 use Rattle.codes.specs.Limits.{varLimit, rootLimit}
 use Rattle.header_keys.specs.declared.Key.the-variants.{Ids, Permids}
+use Rattle.support.specs.Support.{IdsAllowed, PermidsAllowed}
 use Rattle.header_values.specs.Values.{u32sIn}
 use Rattle.header_values.proofs.Counted.{u32s-most, roots-most}
-use Rattle.header_checks.proofs.Accepted as whole
+use Rattle.header_checks.proofs.WholeRules.{whole-rules}
 use Rattle.store.specs.Store.{Store}
 use Rattle.header.specs.Header.{Header, HeaderAnswer, header, refusal, tableOf, listsBy, after, loadHeader}
 use Rattle.header.proofs.Faultless.{faultless-settled}
 use Rattle.calls.specs.Load as calls
 use Rattle.calls.proofs.HeaderStands.{Sound, no-header, answer-sound}
-use Rattle.calls.proofs.Passes.{load-passes, passes-load}
+use Rattle.calls.proofs.Passes.{passes-load}
+use Rattle.calls.proofs.Accepted.{answered-passes}
 use Rattle.recode_levels.specs.Levels.{JudgedLevels}
 
--- the limits, and as many ids and permids as support variables
+-- the limits, and as many ids and permids as support variables, which are allowed
 pub record Says (h : Header) (ids permids : List ℕ) : Type 0 where
   pub judged : JudgedLevels (h .nvars) ids permids
   pub ids-counted : length ids ≡ h .nsuppvars
   pub permids-counted : length permids ≡ h .nsuppvars
+  pub ids-are : IdsAllowed (h .nvars) ids
+  pub permids-are : PermidsAllowed (h .nvars) permids
   pub few-support : h .nsuppvars ≤ varLimit
   pub few-roots : h .nroots ≤ rootLimit
 
@@ -29,17 +33,19 @@ pub record Says (h : Header) (ids permids : List ℕ) : Type 0 where
 table-says : (f : List ℕ) (h : Header) → Sound f h → Says h (u32sIn f (tableOf f) Ids) (u32sIn f (tableOf f) Permids)
 table-says f h s =
     let t = tableOf f in
-    let A = whole.accepted f t (s .whole) in
+    let R = whole-rules f t .0 (s .whole) in
     let S = faultless-settled f t (s .whole) in
     let ids = u32s-most f t Ids in
     let permids = u32s-most f t Permids in
     let roots = roots-most f t in
-    let a = A .ids-counted in
-    let b = A .roots-counted in
+    let a = R .ids-counted in
+    let b = R .roots-counted in
     subst (λ g. Says g (u32sIn f t Ids) (u32sIn f t Permids)) (sym (s .is)) (record {
-      judged = record { few = A .few-vars; ids-few = ids; permids-few = permids; below = S .below };
-      ids-counted = A .ids-counted;
-      permids-counted = A .permids-counted;
+      judged = record { few = R .few-vars; ids-few = ids; permids-few = permids; below = S .below };
+      ids-counted = R .ids-counted;
+      permids-counted = R .permids-counted;
+      ids-are = R .ids;
+      permids-are = R .permids;
       few-support = omega arith;
       few-roots = omega arith;
     })
@@ -64,5 +70,5 @@ module _ (c : calls.Load) (σ : Store) (h : Header) where
   -- What the header of an accepted load says.
   pub load-says : calls.loadOf c σ .answer ≡ header h → Says h (calls.loadOf c σ .ids) (calls.loadOf c σ .permids)
   load-says q =
-      let p = load-passes c σ h q in
+      let p = answered-passes c σ h q in
       subst (λ r. Says h (r .ids) (r .permids)) (sym (passes-load c σ h p)) (read-says (p .header-read))

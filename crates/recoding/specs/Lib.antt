@@ -1,3 +1,4 @@
 pub mod Recode
 pub mod Kinds
 pub mod Promises
+pub mod RecodeNumbers

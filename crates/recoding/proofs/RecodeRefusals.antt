@@ -1,0 +1,110 @@
+-- Which numbers `recode` refuses with: never 2, 3, 4 or 6, since its level list fits, its store keeps the rules, its roots are edges of that
+-- store, and its variable order is a permutation.
+use mathlib.Core.Path.{_≡_, refl, sym, ap, subst, _∙_}
+use mathlib.Core.Logic.{_⊎_, inl, inr, ⊎-elim, _≢_}
+use mathlib.Core.Bool.{Bool, true, false}
+use mathlib.Core.List.{List}
+use Prim.Native.Nat.{ℕ, zero, suc, _≤_}
+use native.Mathlib.Omega.{arith}
+use lib.Dec.{ltb}
+use lib.ListN.{length}
+use Rattle.codes.specs.Limits.{inputLimit}
+use Rattle.header_lines.specs.Sweep.{SweepEnd, atNodes, refusedAt, linesOf, endOf}
+use Rattle.header_lines.proofs.HeaderEnd.{lines-numbers}
+use Rattle.header_checks.specs.Whole.{wholeFault}
+use Rattle.header_checks.proofs.WholeNumbers.{whole-numbers}
+use Rattle.store.specs.Store.{Store}
+use Rattle.header.specs.Header as head
+use Rattle.header.specs.Header.{HeaderAnswer, tableOf, settled, judgedHeader, readOf, after, lengthFault}
+use Rattle.exporter.specs.Promise as promise
+use Rattle.calls.specs.Calls.{Export, exportFaultOf}
+use Rattle.calls.proofs.HeaderStands.{no-header, lists-answer}
+use Rattle.recoding.specs.Recode.{Recoded, written, refusal, inputMost, headRead, loadedAt, reloadOf, exportOf, ofRead, RefusesFile, ExportingAgain, Reloads, Heads, Sized, Recodes}
+use Rattle.recoding.specs.RecodeNumbers.{RecodeNumber}
+use Rattle.recoding.proofs.RecodeLoads.{load-refuses, export-refuses}
+
+-- a refusal of the header by itself is one of the file's writer
+module _ (f : List ℕ) (n line : ℕ) where
+  -- of the header as a whole
+  settled-low : (next lines m : ℕ) → wholeFault f (tableOf f) ≡ m → settled f (tableOf f) next lines m ≡ head.refusal n line → 10 ≤ n
+  settled-low next lines zero e q = no-header (sym q)
+  settled-low next lines (suc m) e q =
+      let s : suc m ≡ n = cc in
+      ⊎-elim (λ z. absurd (omega arith)) (λ w. omega (arith, w .0)) (whole-numbers f (tableOf f) (suc m) e)
+
+  -- of a line
+  judged-low : (e : SweepEnd) → endOf f (linesOf f) ≡ e → judgedHeader f e ≡ head.refusal n line → 10 ≤ n
+  judged-low (atNodes next lines) e q = settled-low next lines (wholeFault f (tableOf f)) refl q
+  judged-low (refusedAt m at) e q =
+      let s : m ≡ n = cc in
+      ⊎-elim (λ w. omega (arith, w .0)) (λ w. omega (arith, w .0 .0)) (lines-numbers f (linesOf f) m at e)
+
+  -- or 19, of the input's length
+  after-low : (k : ℕ) → ((k ≡ 0) ⊎ (k ≡ 19)) → after k f ≡ head.refusal n line → 10 ≤ n
+  unfolding readOf
+  after-low zero w q = judged-low (endOf f (linesOf f)) refl q
+  after-low (suc k) w q =
+      let s : suc k ≡ n = cc in
+      ⊎-elim (λ z. absurd (omega arith)) (λ z. omega arith) w
+
+  -- the input's length is refused with 19 or not
+  length-19 : (lengthFault (length f) ≡ 0) ⊎ (lengthFault (length f) ≡ 19)
+  unfolding lengthFault
+  length-19 = go (ltb inputLimit (length f)) refl
+    where
+      go : (b : Bool) → ltb inputLimit (length f) ≡ b → (lengthFault (length f) ≡ 0) ⊎ (lengthFault (length f) ≡ 19)
+      go true e = inr (rw (lengthFault, e))
+      go false e = inl (rw (lengthFault, e))
+
+  -- the header that is read first
+  head-low : headRead f .answer ≡ head.refusal n line → 10 ≤ n
+  unfolding headRead head.loadHeader
+  head-low q = after-low (lengthFault (length f)) length-19 (sym (lists-answer f (after (lengthFault (length f)) f)) ∙ q)
+
+module _ (f : List ℕ) (lent n line : ℕ) (out : List ℕ) where
+  -- the number of a refusal
+  refused-number : {k at : ℕ} → RefusesFile k at lent (refusal n line) out → k ≡ n
+  refused-number {k} {at} w = let a : refusal n line ≡ refusal k at = w .answer in cc
+
+  -- an export refuses with the number of its fault
+  export-number : (x : Export) (τ : Store) → ExportingAgain x τ (refusal n line) out → (k : ℕ) × ((exportFaultOf x τ ≡ suc k) × (suc k ≡ n))
+  export-number x τ w = go (exportFaultOf x τ) refl (w .exports)
+    where
+      go : (k : ℕ) → exportFaultOf x τ ≡ k → promise.ExportsBy k (x .settings) τ (x .roots) (x .order) (x .names) (x .out) (w .exported) out
+          → (k : ℕ) × ((exportFaultOf x τ ≡ suc k) × (suc k ≡ n))
+      go zero e v = let a : refusal n line ≡ written _ = w .answer ∙ ap ofRead (v .answer) in absurd (let z : _≡_ {A = ℕ} 0 1 = cc in omega arith)
+      go (suc k) e v = let a : refusal n line ≡ refusal (suc k) 0 = w .answer ∙ ap ofRead (v .answer) in (k, (e, cc))
+
+  module _ (h : head.Header) (read : headRead f .answer ≡ head.header h) where
+    -- by what the load answered
+    reload-number : (a : HeaderAnswer) → reloadOf f h .answer ≡ a → Reloads f (reloadOf f h) a lent (refusal n line) out → RecodeNumber n
+    unfolding loadedAt
+    reload-number (head.refusal k at) e w =
+        let s = refused-number w in
+        ⊎-elim (λ z. inl (sym s ∙ z)) (λ z. inr (inr (omega arith))) (load-refuses f h read k at e)
+    reload-number (head.header g) e w =
+        let r = export-number (exportOf f g (reloadOf f h) lent) (reloadOf f h .after) w in
+        ⊎-elim (λ z. inl (sym (r .1 .1) ∙ z)) (λ z. inr (inl (sym (r .1 .1) ∙ z))) (export-refuses f h read g e _ _ _ _ (r .0) (r .1 .0))
+
+  -- by what the header's reading answered
+  head-number : (a : HeaderAnswer) → headRead f .answer ≡ a → Heads f a lent (refusal n line) out → RecodeNumber n
+  head-number (head.refusal k at) e w = inr (inr (omega (arith, refused-number w, head-low f k at e)))
+  head-number (head.header h) e w = reload-number h e (reloadOf f h .answer) refl w
+
+  -- by whether the input is too long
+  sized-number : (long : Bool) → Sized long f lent (refusal n line) out → RecodeNumber n
+  sized-number true w = inr (inr (omega (arith, refused-number w)))
+  sized-number false w = head-number (headRead f .answer) refl w
+
+  -- A refusal of `recode` is 1, 5 or from 10 on.
+  pub recode-number : {a : Recoded} → a ≡ refusal n line → Recodes f lent a out → RecodeNumber n
+  recode-number e w = sized-number (ltb inputMost (length f)) (subst (λ a. Recodes f lent a out) e w)
+
+  -- So the program never answers 2, 3, 4 or 6: its own level list, store, roots and variable order are never at fault.
+  pub recode-never : {a : Recoded} → a ≡ refusal n line → Recodes f lent a out → (n ≢ 2) × ((n ≢ 3) × ((n ≢ 4) × (n ≢ 6)))
+  recode-never e w = go (recode-number e w)
+    where
+      go : RecodeNumber n → (n ≢ 2) × ((n ≢ 3) × ((n ≢ 4) × (n ≢ 6)))
+      go (inl a) = (λ z. omega arith, (λ z. omega arith, (λ z. omega arith, λ z. omega arith)))
+      go (inr (inl a)) = (λ z. omega arith, (λ z. omega arith, (λ z. omega arith, λ z. omega arith)))
+      go (inr (inr a)) = (λ z. omega arith, (λ z. omega arith, (λ z. omega arith, λ z. omega arith)))

@@ -1,0 +1,3 @@
+pub mod Decides
+pub mod Limits
+pub mod Computed

@@ -55,7 +55,7 @@ END {
         if (stored[name] != after[name] + 0)
             print name " has " stored[name] " cases, the index " after[name] + 0
     }
-    if (replays != 5)
+    if (replays != 6)
         print "there are " replays " replays"
     for (pair in judged)
         if (judged[pair] != told[pair] + 0) {

@@ -28,9 +28,9 @@ import oracle  # noqa: E402
 from record import DOCUMENT, KEYS, REASONS, RUST  # noqa: E402
 
 RUST_FOLDER, OUT = "build/oracle", "build/cases"
-REPLAYS = ("readers", "header", "loads", "store", "exports")
+REPLAYS = ("readers", "header", "loads", "store", "exports", "large")
 # Where the cases of a replay stand, and its expected output.
-IN_C = {name: ("tests/vectors/%s/" % name, "tests/vectors/%s/expected" % name) for name in ("loads", "exports")}
+IN_C = {name: ("tests/vectors/%s/" % name, "tests/vectors/%s/expected" % name) for name in ("loads", "exports", "large")}
 PLACES = {name: IN_C.get(name, ("crates/vectors_%s/data/" % name, "crates/vectors_%s/stdout" % name)) for name in REPLAYS}
 DATA = ("cases.bin", "falsified.bin", "cut.bin")
 # The generated files: folder, and the words for gen.py (seed, rounds).
@@ -80,6 +80,7 @@ def make():
     lists = folder("exports") + "/stored.tsv", folder("exports") + "/generated.tsv"
     run("tests/export/rust_cases.py", RUST_FOLDER, folder("seed7"), LOAD, FILES, EXPORT, folder("exports"))
     made["exports"] = run("tests/export/make_cases.py", folder("exports"), *lists, "tests/export/differences.tsv")
+    made["large"] = run("tests/export/large_cases.py", RUST_FOLDER, folder("large"))
     return {name: falsified(report) for name, report in made.items()}
 
 
@@ -91,8 +92,9 @@ class Known:
 
     def __init__(self, replay, line):
         self.replay = replay
-        self.refusal, self.source, self.judge, self.reason, keys, self.mode, self.version, self.names = line.rstrip("\n").split("\t")
+        self.refusal, self.source, self.judge, self.reason, keys, self.mode, self.version, self.names, met = line.rstrip("\n").split("\t")
         self.keys = [] if keys == "-" else keys.split(",")
+        self.met = [] if met == "-" else met.split(",")
         self.has_file = self.mode != "-"
         self.kind = self.source.split(" ", 1)[1] if re.match("(short|seed7|vectors)/", self.source) and " " in self.source else self.source
 
@@ -145,6 +147,10 @@ def by_number(kind):
     return int(number.group()) if number else 0, kind
 
 
+def first_number(kind):
+    return int(kind.split(" ")[0]), kind
+
+
 FORMS = {"none": "none of the three", "v": "`.varnames`", "o": "`.orderedvarnames`", "s": "`.suppvarnames`", "vo": "`.varnames`, `.orderedvarnames`",
          "vs": "`.varnames`, `.suppvarnames`", "os": "`.orderedvarnames`, `.suppvarnames`", "vos": "all three"}
 
@@ -164,16 +170,22 @@ def coverage_text(cases):
     lines += table("Accepted and refused", "answer", cases, lambda c: ["accepted" if c.refusal == "0" else "refused"])
     lines += table("Answers", "refusal, 0 for none", cases, lambda c: [(int(c.refusal), c.refusal)])
     lines += table("Answers that the Rust gave too", "refusal, 0 for none", (c for c in cases if c.judge == RUST), lambda c: [(int(c.refusal), c.refusal)])
-    lines += ["", "The following counts are of the cases that have a file: those of `header` and `loads`, and of `exports` those that are written."]
+    lines += ["", "The following counts are of the cases that have a file: those of `header` and `loads`, and of `exports` and",
+              "`large` those that are written."]
     lines += table("Keys", "key", with_file, lambda c: [(KEYS.index(k), "`%s`" % k) for k in c.keys])
     lines += table("Mode", "`.mode`", with_file, lambda c: [c.mode])
     lines += table("Version", "`.ver`", with_file, lambda c: [c.version])
     lines += table("Lists of variable names", "not empty", with_file, lambda c: [(order.index(c.names), FORMS[c.names])])
+    lines += ["", "Next, what the nodes of exported files in binary have: how many files have a node line with this code for its variable, then or",
+              "else; a number of so many 7-bit groups there; some numbers at which groups or limits end; bytes that are written with an escape.",
+              "An export writes no number over 16,383, so none of three groups: the smaller of a child's number and its distance is written."]
+    lines += table("Nodes in binary", "has", (c for c in cases if c.met), lambda c: c.met)
     lines += ["", "The kinds of files in `loads`: `vectors` and `room` are those of `tests/vectors`; of the generated ones `whole` was made to be",
               "read, `made to meet N` to meet that refusal, `made` for a place between, `damaged` at random in the way that is named, and `short`",
               "has every short text of a small alphabet in that place."]
     lines += table("Kinds of loads", "kind", (c for c in cases if c.replay == "loads"), lambda c: [by_number(c.kind)])
     lines += table("Kinds of headers", "kind", (c for c in cases if c.replay == "header"), lambda c: [c.kind])
+    lines += table("Sizes of large exports", "size", (c for c in cases if c.replay == "large"), lambda c: [first_number(c.kind)])
     lines += table("Kinds of stores", "kind", (c for c in cases if c.replay == "store"), lambda c: [c.kind])
     lines += table("Readers", "reader", (c for c in cases if c.replay == "readers"), lambda c: [c.kind])
     return "".join(line + "\n" for line in lines)

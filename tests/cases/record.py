@@ -1,7 +1,8 @@
 """What is known of each stored case: where it comes from, who judged it, and what its file has.
 
 A script that makes cases adds each case to a Record, in the order in which it stores them, and writes the Record beside them as index.tsv,
-a case a line: the refusal, the source, the judge, the reason, then for a case with a file its keys, mode, version and lists of names.
+a case a line: the refusal, the source, the judge, the reason, then for a case with a file its keys, mode, version and lists of names, and
+what the nodes of an exported file in binary have.
 """
 import os
 import re
@@ -56,9 +57,9 @@ class Record:
     def __init__(self):
         self.rows = []
 
-    def add(self, refusal, source, judge, reason="-", file=None):
+    def add(self, refusal, source, judge, reason="-", file=None, met=()):
         assert judge == RUST and reason == "-" or reason in REASONS, (judge, reason)
-        self.rows.append([str(refusal), source, judge, reason] + list(features(file) if file is not None else "----"))
+        self.rows.append([str(refusal), source, judge, reason] + list(features(file) if file is not None else "----") + [",".join(sorted(met)) or "-"])
 
     def write(self, folder):
         with open(os.path.join(folder, "index.tsv"), "w", encoding="utf-8") as f:

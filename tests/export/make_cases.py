@@ -32,6 +32,7 @@ import random
 import sys
 
 sys.path.insert(0, os.path.join(os.path.dirname(os.path.abspath(__file__)), "..", "cases"))
+from binary import met  # noqa: E402
 from record import Record  # noqa: E402
 
 
@@ -124,7 +125,7 @@ def main():
             for k, line in enumerate(f):
                 case = Case(line)
                 whole_file.append(case_bytes(case, case.refusal, case.file))
-                record.add(case.refusal, *case.judged, file=case.file or None)
+                record.add(case.refusal, *case.judged, file=case.file or None, met=met(case.file))
                 tally[case.refusal] = tally.get(case.refusal, 0) + 1
                 if k % 3 == 1:
                     false_file.append(case_bytes(case, *falsified(rng, case)))

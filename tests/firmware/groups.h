@@ -46,9 +46,10 @@ void setting_of(size_t k, size_t levels, uint8_t *setting);
 /* vectors.c: makes a stored load, and holds it to what is stored */
 void hold_load(const struct load_vector *v);
 
-/* replay_loads.c, replay_exports.c: the stored cases in binary files, and falsified ones */
+/* replay_loads.c, replay_exports.c, replay_large.c: the stored cases in binary files, and falsified ones */
 void try_stored_loads(void);
 void try_stored_exports(void);
+void try_large_exports(void);
 
 /* exports.c: stored exports, as other groups use them */
 struct export_vector {

@@ -40,6 +40,7 @@ static void try_all(size_t damaged)
     try_exports();
     try_stored_loads();
     try_stored_exports();
+    try_large_exports();
     try_reading_back();
     try_one_store();
     try_full_store();

@@ -1,7 +1,7 @@
 /*
  * Stored cases in binary files, and their replay. A case is a head and three parts. The head is numbers of 16 bits, lowest byte first; its
  * last six are the lengths of the parts, two numbers each, the lower first. tests/nodes/make_cases.py says what the parts of a load hold,
- * tests/export/make_cases.py those of an export.
+ * tests/export/make_cases.py those of an export, tests/export/large_cases.py those of an export of a large store.
  */
 #ifndef STORED_H
 #define STORED_H

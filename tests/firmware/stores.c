@@ -79,8 +79,7 @@ size_t magnitude_of(zt_edge edge)
     return edge < 0 ? (size_t)-(long)edge : (size_t)edge;
 }
 
-/* 'level + 3 x then + 5 x else, where the sum wraps at 65,536, remainder by 256' */
-static size_t bucket_of(uint16_t level, zt_edge then, zt_edge els)
+size_t bucket_of(uint16_t level, zt_edge then, zt_edge els)
 {
     long sum = (long)level + 3L * then + 5L * els;
 

@@ -41,4 +41,7 @@ size_t reached_levels(const struct store *s, const zt_edge *roots, size_t count,
 
 size_t magnitude_of(zt_edge edge);
 
+/* 'level + 3 x then + 5 x else, where the sum wraps at 65,536, remainder by 256' */
+size_t bucket_of(uint16_t level, zt_edge then, zt_edge els);
+
 #endif

@@ -1,0 +1,57 @@
+"""Reads the nodes of a file in binary, to count what they have: the codes of variable, then and else, the numbers, and the escapes."""
+
+CODES = ("terminal", "absolute", "relative", "one before")
+WHOLE = {0: 0x00, 1: 0x0a, 2: 0x0d, 3: 0x1a}  # document 01: bytes 00, 0a, 0d, 1a are written 00 00, 00 01, 00 02, 00 03
+PARTS = ("variable", "then", "else")
+
+
+class Nodes:
+    """The bytes after `.nodes`' line, taken apart line by line. `has` is the set of what was met."""
+
+    def __init__(self, file, at, count):
+        self.file, self.at, self.has, self.lines = file, at, set(), 0
+        for _ in range(count):
+            self.line()
+        assert file[self.at:] == b".end\n", file[self.at:self.at + 20]
+
+    def byte(self, where):
+        byte = self.file[self.at]
+        self.at += 1
+        if byte == 0:
+            byte = WHOLE[self.file[self.at]]
+            self.at += 1
+            self.has.add("escape: %02x in %s" % (byte, where))
+        return byte
+
+    def number(self, what):
+        value, groups = 0, 0
+        while True:
+            byte = self.byte("a number")
+            value, groups = value * 128 + byte // 2, groups + 1
+            if byte % 2 == 0:
+                break
+        self.has.add("group: %s of %s" % (what, {1: "one group", 2: "two groups"}.get(groups, "three groups or more")))
+        if value in (127, 128, 16383):
+            self.has.add("value: %s %d" % (what, value))
+
+    def line(self):
+        code = self.byte("a code")
+        codes = [CODES[code >> shift & 3] for shift in (5, 3, 0)]
+        self.lines += 1
+        if codes[0] == "terminal":
+            self.has.add("code: variable terminal")
+            return
+        for part, said in zip(PARTS, codes):
+            self.has.add("code: %s %s" % (part, said))
+            if said in ("absolute", "relative"):
+                self.number("%s %s" % (part, said))
+        self.has.add("code: else turned over" if code & 4 else "code: else not turned over")
+
+
+def met(file):
+    """What the nodes of an exported file have; nothing for a file of text."""
+    head, _, _ = file.partition(b".nodes\n")
+    said = dict(line.partition(b" ")[::2] for line in head.split(b"\n"))
+    if said.get(b".mode") != b"B":
+        return set()
+    return Nodes(file, len(head) + len(b".nodes\n"), int(said[b".nnodes"])).has

@@ -10,7 +10,7 @@ use lib.Dec.{eqb, leb}
 use lib.ListN.{length, getD, drop, drop-of-length-le}
 use lib.Seq.{drop-cons}
 use lib.IntN.{ℤ, natAbs}
-use mir.Syntax.{w16}
+use Rattle.edges.specs.Width.{edgeWidth}
 use mir.Val.{SFits, toZ, ofZ}
 use mir.ValLaws.{toZ-ofZ}
 use Rattle.codes.specs.Answer.{value, refused}
@@ -37,10 +37,10 @@ module _ (s : List ℕ) (i : ℕ) where
   unfolding onlyBits
   bits-end h = rw (drop-of-length-le s)
 
--- a root, by its magnitude k, which the code takes of `toZ w16 (ofZ w16 e)`
-module _ (e : ℤ) (k count : ℕ) (f : SFits w16 e) (h : k ≡ natAbs (toZ w16 (ofZ w16 e))) where
+-- a root, by its magnitude k, which the code takes of `toZ edgeWidth (ofZ edgeWidth e)`
+module _ (e : ℤ) (k count : ℕ) (f : SFits edgeWidth e) (h : k ≡ natAbs (toZ edgeWidth (ofZ edgeWidth e))) where
   pub root-node : k ≡ natAbs e
-  root-node = h ∙ ap natAbs (toZ-ofZ w16 e f)
+  root-node = h ∙ ap natAbs (toZ-ofZ edgeWidth e f)
 
   pub root-is : 1 ≤ k → leb k count ≡ (leb 1 (natAbs e) && leb (natAbs e) count)
   root-is p = rw (← root-node, le-leb 1 k p)
@@ -89,15 +89,15 @@ fails {a = true} h k = absurd (true≢false (sym k))
 fails {a = false} h k = sym h
 
 -- The outcomes, in the order of the checks, by the code's tests: whether the store keeps its rules, whether the root, which the code reads
--- as `toZ w16 (ofZ w16 e)`, is one, and whether the setting is one.
-module _ (σ : Store) (e : ℤ) (s : List ℕ) (f : SFits w16 e) {kept : Bool} (k : kept ≡ keeps limits σ) where
+-- as `toZ edgeWidth (ofZ edgeWidth e)`, is one, and whether the setting is one.
+module _ (σ : Store) (e : ℤ) (s : List ℕ) (f : SFits edgeWidth e) {kept : Bool} (k : kept ≡ keeps limits σ) where
   pub not-kept : not kept ≡ true → refused 3 ≡ evaluation limits σ e s
   unfolding evaluation
   not-kept h = rw (fails k h)
 
-  module _ (h : not kept ≡ false) {root : Bool} (r : root ≡ isRoot σ (toZ w16 (ofZ w16 e))) where
+  module _ (h : not kept ≡ false) {root : Bool} (r : root ≡ isRoot σ (toZ edgeWidth (ofZ edgeWidth e))) where
     root-back : root ≡ isRoot σ e
-    root-back = r ∙ ap (isRoot σ) (toZ-ofZ w16 e f)
+    root-back = r ∙ ap (isRoot σ) (toZ-ofZ edgeWidth e f)
 
     pub not-root : not root ≡ true → refused 4 ≡ evaluation limits σ e s
     unfolding evaluation
@@ -109,9 +109,9 @@ module _ (σ : Store) (e : ℤ) (s : List ℕ) (f : SFits w16 e) {kept : Bool} (
       not-setting j = rw (passes k h, passes root-back i, fails t j)
 
       module _ (j : not setting ≡ false) where
-        pub walks : Walks (σ .level) (σ .then) (σ .els) s (natAbs (toZ w16 (ofZ w16 e)))
-        walks = rw (toZ-ofZ w16 e f) (rules-walk (keeps-true limits σ (passes k h)) (natAbs e) (root-there σ e (passes root-back i)) (setting-long s (σ .levels) (passes t j)))
+        pub walks : Walks (σ .level) (σ .then) (σ .els) s (natAbs (toZ edgeWidth (ofZ edgeWidth e)))
+        walks = rw (toZ-ofZ edgeWidth e f) (rules-walk (keeps-true limits σ (passes k h)) (natAbs e) (root-there σ e (passes root-back i)) (setting-long s (σ .levels) (passes t j)))
 
-        pub answered : (a : Bool) → a ≡ answer (slots (σ .level) (σ .then) (σ .els)) (settingOf s) (toZ w16 (ofZ w16 e)) → value a ≡ evaluation limits σ e s
+        pub answered : (a : Bool) → a ≡ answer (slots (σ .level) (σ .then) (σ .els)) (settingOf s) (toZ edgeWidth (ofZ edgeWidth e)) → value a ≡ evaluation limits σ e s
         unfolding evaluation
-        answered a p = rw (passes k h, passes root-back i, passes t j) (ap value (p ∙ ap (answer (slots (σ .level) (σ .then) (σ .els)) (settingOf s)) (toZ-ofZ w16 e f) ∙ sym (slots-answer σ (settingOf s) e)))
+        answered a p = rw (passes k h, passes root-back i, passes t j) (ap value (p ∙ ap (answer (slots (σ .level) (σ .then) (σ .els)) (settingOf s)) (toZ-ofZ edgeWidth e f) ∙ sym (slots-answer σ (settingOf s) e)))

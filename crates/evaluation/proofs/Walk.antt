@@ -9,7 +9,7 @@ use native.Mathlib.Nat.{le-refl}
 use borrow.Author.Tests.{eq-eqb, ne-eqb}
 use lib.ListN.{length, getD}
 use lib.IntN.{ℤ, pos, natAbs}
-use mir.Syntax.{w16}
+use Rattle.edges.specs.Width.{edgeWidth}
 use mir.Val.{toZ, ofZ}
 use Rattle.edges.specs.Edge.{IsEdge, minus, turn}
 use Rattle.edges.proofs.Edge.{turn-minus, turn-plain}
@@ -52,12 +52,12 @@ module _ (σ : Store) (s : Setting) (e : ℤ) (k : ℕ) (a : Bool) (at : k ≡ n
   pub edge-plain : minus e ≡ false → a ≡ answer σ s e
   edge-plain h = says ∙ ap (node σ s) at ∙ sym (turn-plain e (node σ s (natAbs e)) h)
 
--- the edges that the walk starts from and goes on from, which the code reads as `toZ w16 (ofZ w16 e)`
-pub walk-back : {level : List ℕ} {then els : List ℤ} {b : List ℕ} (e : ℤ) → Walks level then els b (natAbs e) → toZ w16 (ofZ w16 e) ≡ e
-walk-back e w = edge-back w16 e (w .small)
+-- the edges that the walk starts from and goes on from, which the code reads as `toZ edgeWidth (ofZ edgeWidth e)`
+pub walk-back : {level : List ℕ} {then els : List ℤ} {b : List ℕ} (e : ℤ) → Walks level then els b (natAbs e) → toZ edgeWidth (ofZ edgeWidth e) ≡ e
+walk-back e w = edge-back edgeWidth e (w .small)
 
-pub leads-back : {σ : Store} {s : Setting} {n : ℕ} (e : ℤ) → IsEdge (pos n) → LeadsDown σ s n e → LeadsDown σ s n (toZ w16 (ofZ w16 e))
-leads-back e h l = rw (edge-back w16 e (omega (arith, l .lower))) l
+pub leads-back : {σ : Store} {s : Setting} {n : ℕ} (e : ℤ) → IsEdge (pos n) → LeadsDown σ s n e → LeadsDown σ s n (toZ edgeWidth (ofZ edgeWidth e))
+leads-back e h l = rw (edge-back edgeWidth e (omega (arith, l .lower))) l
 
 module _ {level : List ℕ} {then els : List ℤ} {b : List ℕ} {n : ℕ} (w : Walks level then els b n) where
   pub walks-lower : (k : ℕ) → k ≤ n → Walks level then els b k
@@ -75,13 +75,13 @@ module _ {level : List ℕ} {then els : List ℤ} {b : List ℕ} {n : ℕ} (w : 
     fits = w .nodes .fits n h (le-refl n)
 
     -- the child, by the setting's byte for the node's level
-    pub chosen-then : getD b (getD level (n - 1) 0) 0 ≡ 1 → toZ w16 (ofZ w16 (getD then (n - 1) (pos 0))) ≡ child (slots level then els) (settingOf b) n
+    pub chosen-then : getD b (getD level (n - 1) 0) 0 ≡ 1 → toZ edgeWidth (ofZ edgeWidth (getD then (n - 1) (pos 0))) ≡ child (slots level then els) (settingOf b) n
     unfolding child
-    chosen-then k = rw (eq-eqb (getD b (getD level (n - 1) 0) 0) 1 k) (edge-back w16 (getD then (n - 1) (pos 0)) (omega (arith, fits .then-low, w .small)))
+    chosen-then k = rw (eq-eqb (getD b (getD level (n - 1) 0) 0) 1 k) (edge-back edgeWidth (getD then (n - 1) (pos 0)) (omega (arith, fits .then-low, w .small)))
 
-    pub chosen-else : (getD b (getD level (n - 1) 0) 0 ≡ 1 → ⊥) → toZ w16 (ofZ w16 (getD els (n - 1) (pos 0))) ≡ child (slots level then els) (settingOf b) n
+    pub chosen-else : (getD b (getD level (n - 1) 0) 0 ≡ 1 → ⊥) → toZ edgeWidth (ofZ edgeWidth (getD els (n - 1) (pos 0))) ≡ child (slots level then els) (settingOf b) n
     unfolding child
-    chosen-else k = rw (ne-eqb (getD b (getD level (n - 1) 0) 0) 1 k) (edge-back w16 (getD els (n - 1) (pos 0)) (omega (arith, fits .else-low, w .small)))
+    chosen-else k = rw (ne-eqb (getD b (getD level (n - 1) 0) 0) 1 k) (edge-back edgeWidth (getD els (n - 1) (pos 0)) (omega (arith, fits .else-low, w .small)))
 
     module _ (s : Setting) where
       child-low : natAbs (child (slots level then els) s n) < n
@@ -106,6 +106,6 @@ module _ {level : List ℕ} {then els : List ℤ} {b : List ℕ} {n : ℕ} (w : 
         go false = slots-answer (store (length b) n level then els [] []) s (getD els (n - 1) (pos 0))
 
       -- the walk goes on from the child r
-      pub child-leads : (r : ℤ) → r ≡ child (slots level then els) s n → LeadsDown (slots level then els) s n (toZ w16 (ofZ w16 r))
+      pub child-leads : (r : ℤ) → r ≡ child (slots level then els) s n → LeadsDown (slots level then els) s n (toZ edgeWidth (ofZ edgeWidth r))
       child-leads r is =
           leads-back r (w .small) (rw is (record { says = sym node-child; some = child-some; lower = child-low }))

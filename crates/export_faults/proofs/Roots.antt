@@ -8,7 +8,7 @@ use lib.Dec.{leb}
 use lib.ListN.{length, getD, drop, drop-of-length-le}
 use lib.Seq.{drop-cons}
 use lib.IntN.{ℤ, pos, natAbs}
-use mir.Syntax.{w16}
+use Rattle.edges.specs.Width.{edgeWidth}
 use mir.Val.{SFits, toZ, ofZ}
 use mir.ValLaws.{toZ-ofZ}
 use borrow.Author.Tests.{le-leb, lt-leb}
@@ -42,9 +42,9 @@ module _ (count : ℕ) (roots : List ℤ) where
     turned h = k .rest ∙ rw (add-one i, drop-cons roots i (pos 0) h)
 
     -- the answer of its test, which is given its bits
-    module _ (h : i < length roots) (f : SFits w16 (getD roots i (pos 0))) {r : Bool} (e : r ≡ isRoot count (toZ w16 (ofZ w16 (getD roots i (pos 0))))) where
+    module _ (h : i < length roots) (f : SFits edgeWidth (getD roots i (pos 0))) {r : Bool} (e : r ≡ isRoot count (toZ edgeWidth (ofZ edgeWidth (getD roots i (pos 0))))) where
       tested : r ≡ isRoot count (getD roots i (pos 0))
-      tested = e ∙ ap (isRoot count) (toZ-ofZ w16 (getD roots i (pos 0)) f)
+      tested = e ∙ ap (isRoot count) (toZ-ofZ edgeWidth (getD roots i (pos 0)) f)
 
       -- one root more is fit
       pub roots-more : not r ≡ false → RootsFrom (i + 1)

@@ -6,7 +6,7 @@ use Prim.Native.Nat.{ℕ, _-_, _^_, _≤_, _<_}
 use native.Mathlib.Omega.{arith}
 use lib.ListN.{getD}
 use lib.IntN.{ℤ, pos, negℤ, natAbs}
-use mir.Syntax.{w16}
+use Rattle.edges.specs.Width.{edgeWidth, edgeLimit}
 use mir.Val.{SFits, toZ, ofZ}
 use mir.Facts.{toZ-pos}
 use Rattle.codes.specs.Limits.{nodeLimit}
@@ -27,18 +27,18 @@ number-abs numbers e = signed-abs (minus e) (getD numbers (natAbs e - 1) 0)
 
 -- A number n that an edge can have, as the code reads it, and the edge that it becomes.
 module _ (n : ℕ) (small : n ≤ nodeLimit) where
-  pub number-fits : SFits w16 (pos n)
-  number-fits = edge-fits w16 (pos n) (omega arith)
+  pub number-fits : SFits edgeWidth (pos n)
+  number-fits = edge-fits edgeWidth (pos n) (omega arith)
 
-  number-back : toZ w16 n ≡ pos n
-  number-back = toZ-pos w16 (omega arith)
+  number-back : toZ edgeWidth n ≡ pos n
+  number-back = toZ-pos edgeWidth (omega arith)
 
-  pub number-edge : natAbs (toZ w16 n) < 2 ^ 15
+  pub number-edge : natAbs (toZ edgeWidth n) < edgeLimit
   number-edge = rw number-back (omega arith)
 
   module _ (e : ℤ) where
-    pub number-plain : minus e ≡ false → toZ w16 n ≡ signed (minus e) n
+    pub number-plain : minus e ≡ false → toZ edgeWidth n ≡ signed (minus e) n
     number-plain h = rw h number-back
 
-    pub number-minus : {r : ℤ} → minus e ≡ true → r ≡ negℤ (toZ w16 n) → toZ w16 (ofZ w16 r) ≡ signed (minus e) n
-    number-minus h k = rw (h, k, number-back) (edge-back w16 (negℤ (pos n)) (rw (abs-neg (pos n)) (omega arith)))
+    pub number-minus : {r : ℤ} → minus e ≡ true → r ≡ negℤ (toZ edgeWidth n) → toZ edgeWidth (ofZ edgeWidth r) ≡ signed (minus e) n
+    number-minus h k = rw (h, k, number-back) (edge-back edgeWidth (negℤ (pos n)) (rw (abs-neg (pos n)) (omega arith)))

@@ -4,6 +4,7 @@ ghost use mathlib.Core.List.{map};
 ghost use lib.IntN.{natAbs};
 ghost use Rattle.codes.specs.Lent.{laid};
 ghost use Rattle.file_roots.specs.Roots.{rootsFault, edgeOf};
+use codes::limits;
 use codes::refusal;
 use edges::Edge;
 
@@ -42,7 +43,7 @@ pub fn roots_fault(roots: &[i64], nnodes: u64) -> u8
 pub fn edge_of(r: i64) -> Edge
     ensures { λ e. ⌜ e ≡ edgeOf r ⌝ }
 {
-    if 32767 < magnitude(r) {
+    if (limits::NODE_LIMIT as u64) < magnitude(r) {
         return 0;
     }
     r as Edge

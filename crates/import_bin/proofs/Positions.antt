@@ -6,7 +6,7 @@ use Prim.Native.Nat.{ℕ, zero, suc, _-_, _≤_, _<_, _^_}
 use native.Mathlib.Omega.{arith}
 use lib.ListN.{length, getD}
 use lib.IntN.{ℤ, pos, negℤ, natAbs, _-ℤ_}
-use mir.Syntax.{w16}
+use Rattle.edges.specs.Width.{edgeWidth, edgeLimit}
 use mir.Val.{SFits, toZ, ofZ}
 use mir.Facts.{toZ-pos, toZ-ofZ}
 use borrow.Author.Tests.{lt-ltb, le-ltb}
@@ -80,28 +80,28 @@ module _ (code : Code) (from v : ℕ) where
     pub position-down : v ≤ from → positionBy code from v ≡ got (from - v) 0
     position-down k = by-down code from v h ∙ down-fits from v k
 
--- A number below 2 ^ 15 is an edge, and so is its negation.
-module _ (n : ℕ) (h : n < 2 ^ 15) where
+-- A number below the limit of edges is an edge, and so is its negation.
+module _ (n : ℕ) (h : n < edgeLimit) where
   -- the negation, which the code takes from 0, fits
-  pub minus-fits : SFits w16 (pos 0 -ℤ toZ w16 n)
-  minus-fits = negation-fits w16 (pos n) h
+  pub minus-fits : SFits edgeWidth (pos 0 -ℤ toZ edgeWidth n)
+  minus-fits = negation-fits edgeWidth (pos n) h
 
   -- and is read back as the negation
-  pub minus-is : toZ w16 (ofZ w16 (pos 0 -ℤ toZ w16 n)) ≡ negℤ (pos n)
-  minus-is = negation-back w16 (pos n) h
+  pub minus-is : toZ edgeWidth (ofZ edgeWidth (pos 0 -ℤ toZ edgeWidth n)) ≡ negℤ (pos n)
+  minus-is = negation-back edgeWidth (pos n) h
 
   -- without a minus the number is read as it is
-  pub plain-is : toZ w16 n ≡ pos n
-  plain-is = toZ-pos w16 h
+  pub plain-is : toZ edgeWidth n ≡ pos n
+  plain-is = toZ-pos edgeWidth h
 
   -- with either sign the magnitude is the number
-  signed-small : (complement : Bool) → natAbs (signed complement n) < 2 ^ 15
+  signed-small : (complement : Bool) → natAbs (signed complement n) < edgeLimit
   signed-small true = rw (abs-neg (pos n)) h
   signed-small false = h
 
   -- either is read back as it was
-  pub signed-back : (complement : Bool) {r : ℤ} → r ≡ signed complement n → toZ w16 (ofZ w16 r) ≡ signed complement n
-  signed-back complement k = rw k (edge-back w16 (signed complement n) (signed-small complement))
+  pub signed-back : (complement : Bool) {r : ℤ} → r ≡ signed complement n → toZ edgeWidth (ofZ edgeWidth r) ≡ signed complement n
+  signed-back complement k = rw k (edge-back edgeWidth (signed complement n) (signed-small complement))
 
 module _ (levels seats : List ℕ) (t e : ℕ) (els : ℤ) (next p : ℕ) where
   -- a position beyond the level list
@@ -119,9 +119,9 @@ module _ (levels seats : List ℕ) (t e : ℕ) (els : ℤ) (next p : ℕ) where
       placed-else b = rw (lt-ltb p (length levels), a, b)
 
       -- both are, and the children are edges
-      pub placed-fits : deeper levels seats (getD levels p 0) e ≡ true → {r : ℤ} → r ≡ signed false t → t < 2 ^ 15 → SFits w16 els
-          → placedAt levels seats t e els next p ≡ got (inner p (toZ w16 (ofZ w16 r)) (toZ w16 (ofZ w16 els))) next
-      placed-fits b k l f = rw (lt-ltb p (length levels), a, b, k, toZ-pos w16 l, toZ-ofZ f)
+      pub placed-fits : deeper levels seats (getD levels p 0) e ≡ true → {r : ℤ} → r ≡ signed false t → t < edgeLimit → SFits edgeWidth els
+          → placedAt levels seats t e els next p ≡ got (inner p (toZ edgeWidth (ofZ edgeWidth r)) (toZ edgeWidth (ofZ edgeWidth els))) next
+      placed-fits b k l f = rw (lt-ltb p (length levels), a, b, k, toZ-pos edgeWidth l, toZ-ofZ f)
 
 -- A line with both children read, from what the code found: the seats of the children, what is counted down from, and the position.
 module _ (count : ℕ) (levels seats : List ℕ) (code : Code) (v : ℕ) (complement : Bool) (t e next : ℕ) {a b from : ℕ}

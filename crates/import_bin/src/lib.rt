@@ -2,6 +2,7 @@
 ghost use mathlib.Core.Path.{_≡_};
 ghost use Prim.Native.Nat.{_-_, _≤_, _<_, _^_};
 ghost use lib.ListN.{length, getD};
+ghost use Rattle.edges.specs.Width.{edgeLimit, positionLimit};
 ghost use Rattle.codes.specs.Answer.{then};
 ghost use Rattle.node_lines.specs.Kinds.{ofDecoded};
 ghost use Rattle.read_edges.specs.Edges.{signed};
@@ -50,7 +51,7 @@ fn position_by(code: Code, from: u16, v: u64) -> Read
 
 // A child with its sign.
 fn signed(complement: bool, e: Index) -> Edge
-    requires { ⌜ e < 2 ^ 15 ⌝ }
+    requires { ⌜ e < edgeLimit ⌝ }
     ensures { λ r. ⌜ r ≡ signed complement e ⌝ }
 {
     if complement { -(e as Edge) } else { e as Edge }
@@ -66,7 +67,7 @@ fn placed(
     next: usize,
     p: u64,
 ) -> Decoded
-    requires { ⌜ (1 ≤ t) × (1 ≤ e) × (t < 2 ^ 15) × (length (now levels) < 2 ^ 16) ⌝ }
+    requires { ⌜ (1 ≤ t) × (1 ≤ e) × (t < edgeLimit) × (length (now levels) < positionLimit) ⌝ }
     ensures { λ r. ⌜ ofDecoded r ≡ placedAt (now (levels .entry)) (now (seats .entry)) t e els next p ⌝ }
 {
     if (levels.len() as u64) <= p {
@@ -106,7 +107,7 @@ fn resolved(
     e: Index,
     next: usize,
 ) -> Decoded
-    requires { ⌜ (1 ≤ t) × (1 ≤ e) × (t < 2 ^ 15) × (e < 2 ^ 15) × (length (now levels) < 2 ^ 16) ⌝ }
+    requires { ⌜ (1 ≤ t) × (1 ≤ e) × (t < edgeLimit) × (e < edgeLimit) × (length (now levels) < positionLimit) ⌝ }
     ensures { λ r. ⌜ ofDecoded r ≡ resolved count (now (levels .entry)) (now (seats .entry)) code v complement t e next ⌝ }
 {
     let from = counts_from(count, seat(seats, t), seat(seats, e));
@@ -128,7 +129,7 @@ fn inner_at(
     code: Code,
     at: usize,
 ) -> Decoded
-    requires { ⌜ (node < 2 ^ 15) × (length (now levels) < 2 ^ 16) ⌝ }
+    requires { ⌜ (node < edgeLimit) × (length (now levels) < positionLimit) ⌝ }
     ensures { λ r. ⌜ ofDecoded r ≡ innerAt count (now (levels .entry)) (now (seats .entry)) node (now (f .entry)) b code at ⌝ }
 {
     let v = line_numbers::variable_at(code, f, at);
@@ -168,7 +169,7 @@ pub fn line_at(
     seats: &[u16],
     node: Index,
 ) -> Decoded
-    requires { ⌜ (node < 2 ^ 15) × (length (now levels) < 2 ^ 16) ⌝ }
+    requires { ⌜ (node < edgeLimit) × (length (now levels) < positionLimit) ⌝ }
     ensures { λ r. ⌜ ofDecoded r ≡ binLineAt count (now (levels .entry)) (now (seats .entry)) node (now (f .entry)) at ⌝ }
 {
     match read_binary::read_unescape(f, at) {

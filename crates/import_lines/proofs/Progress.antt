@@ -10,7 +10,7 @@ use borrow.Author.Tests.{ltb-true}
 use lib.ListN.{length, getD, take, set, length-set, List·getD-append, List·getD-eq-default}
 use lib.Seq.{getD-at, take-suc-set, length-take-le}
 use lib.IntN.{ℤ, pos, natAbs}
-use mir.Syntax.{w16}
+use Rattle.edges.specs.Width.{edgeWidth, edgeLimit}
 use mir.Val.{SFits, toZ, ofZ}
 use mir.ValLaws.{toZ-ofZ}
 use Rattle.codes.specs.Answer.{value, refused, Step, got, fails}
@@ -155,7 +155,7 @@ module _ (u : Setup) (σ : Store) (f : List ℕ) (from : ℕ) where
     pub progress-edges : AllEdges (take n edges)
     progress-edges i = go (decLt i n)
       where
-        go : Dec (i < n) → natAbs (getD (take n edges) i (pos 1)) < 2 ^ 15
+        go : Dec (i < n) → natAbs (getD (take n edges) i (pos 1)) < edgeLimit
         go (yes h) = omega (arith, P .each i h .edge .there, P .rules .sizes .count-limit)
         go (no h) = rw (List·getD-eq-default (take n edges) (pos 1) {n = i} (omega (arith, edges-length))) (omega arith)
 
@@ -255,11 +255,11 @@ module _ (u : Setup) (σ : Store) (f : List ℕ) (from : ℕ) where
           rw (turned-abs c (getD (take n edges) (natAbs c - 1) (pos 1))) (child-lies c l C .deep l v (C .deep))
 
       -- its edge, as the code reads it
-      pub child-back : (c : ℤ) (l : ℕ) → ChildBelow (u .list) (take n seats) (n + 1) l c → SFits w16 c → (a : ℤ)
-          → a ≡ edgeFor (take n edges) (toZ w16 (ofZ w16 c)) → toZ w16 (ofZ w16 a) ≡ edgeFor (take n edges) c
+      pub child-back : (c : ℤ) (l : ℕ) → ChildBelow (u .list) (take n seats) (n + 1) l c → SFits edgeWidth c → (a : ℤ)
+          → a ≡ edgeFor (take n edges) (toZ edgeWidth (ofZ edgeWidth c)) → toZ edgeWidth (ofZ edgeWidth a) ≡ edgeFor (take n edges) c
       child-back c l C v a q =
-          let z : a ≡ edgeFor (take n edges) c = q ∙ ap (edgeFor (take n edges)) (toZ-ofZ w16 c v) in
-          rw z (edge-back w16 (edgeFor (take n edges) c) (omega (arith, child-edge c l C .there, P .rules .sizes .count-limit)))
+          let z : a ≡ edgeFor (take n edges) c = q ∙ ap (edgeFor (take n edges)) (toZ-ofZ edgeWidth c v) in
+          rw z (edge-back edgeWidth (edgeFor (take n edges) c) (omega (arith, child-edge c l C .there, P .rules .sizes .count-limit)))
 
       module _ (p : ℕ) (t x : ℤ) (J : Inner (u .list) (take n seats) (n + 1) p t x) (a b : ℤ) (A : a ≡ edgeFor (take n edges) t)
           (B : b ≡ edgeFor (take n edges) x) where

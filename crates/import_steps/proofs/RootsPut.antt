@@ -7,7 +7,7 @@ use native.Mathlib.Omega.{arith}
 use lib.IntN.{ℤ, pos, negsuc, natAbs}
 use lib.ListN.{length, getD, set}
 use borrow.Author.Tests.{ne-eqb}
-use mir.Syntax.{w16}
+use Rattle.edges.specs.Width.{edgeWidth}
 use mir.Val.{SFits, toZ, ofZ}
 use mir.ValLaws.{toZ-ofZ}
 use Rattle.edges.proofs.Signed.{edge-back}
@@ -50,23 +50,23 @@ module _ (ok : Bool) (edges old roots : List ℤ) (i : ℕ) (p : Put ok edges ol
   pub put-zero : ok ≡ false → Put ok edges old (set roots i (pos 0)) (i + 1)
   put-zero q = mapped-more p (pos 0) h (rw q)
 
-  module _ (q : ok ≡ true) (f : SFits w16 (getD roots i (pos 0))) {m : ℕ} (k : m ≡ natAbs (toZ w16 (ofZ w16 (getD roots i (pos 0))))) where
+  module _ (q : ok ≡ true) (f : SFits edgeWidth (getD roots i (pos 0))) {m : ℕ} (k : m ≡ natAbs (toZ edgeWidth (ofZ edgeWidth (getD roots i (pos 0))))) where
     -- the code reads the root as it was
-    read-back : toZ w16 (ofZ w16 (getD roots i (pos 0))) ≡ getD old i (pos 0)
-    read-back = toZ-ofZ w16 _ f ∙ p .rest i (omega arith)
+    read-back : toZ edgeWidth (ofZ edgeWidth (getD roots i (pos 0))) ≡ getD old i (pos 0)
+    read-back = toZ-ofZ edgeWidth _ f ∙ p .rest i (omega arith)
 
     -- its number counts from 1
-    pub root-some : (m ≡ 0 → ⊥) → 1 ≤ natAbs (toZ w16 (ofZ w16 (getD roots i (pos 0))))
+    pub root-some : (m ≡ 0 → ⊥) → 1 ≤ natAbs (toZ edgeWidth (ofZ edgeWidth (getD roots i (pos 0))))
     root-some n = omega (arith, k, n)
 
     -- its edge
-    pub put-edge : AllEdges edges → (m ≡ 0 → ⊥) → (a : ℤ) → a ≡ edgeFor edges (toZ w16 (ofZ w16 (getD roots i (pos 0))))
-        → Put ok edges old (set roots i (toZ w16 (ofZ w16 a))) (i + 1)
+    pub put-edge : AllEdges edges → (m ≡ 0 → ⊥) → (a : ℤ) → a ≡ edgeFor edges (toZ edgeWidth (ofZ edgeWidth (getD roots i (pos 0))))
+        → Put ok edges old (set roots i (toZ edgeWidth (ofZ edgeWidth a))) (i + 1)
     put-edge E n a e =
         let d = ne-eqb (natAbs (getD old i (pos 0))) 0 (λ z. n (k ∙ ap natAbs read-back ∙ z)) in
-        let b : toZ w16 (ofZ w16 a) ≡ edgeFor edges (getD old i (pos 0)) =
-        rw (e, read-back) (edge-back w16 (edgeFor edges (getD old i (pos 0))) (edge-for-edge edges (getD old i (pos 0)) E)) in
-        mapped-more p (toZ w16 (ofZ w16 a)) h (rw (q, d) b)
+        let b : toZ edgeWidth (ofZ edgeWidth a) ≡ edgeFor edges (getD old i (pos 0)) =
+        rw (e, read-back) (edge-back edgeWidth (edgeFor edges (getD old i (pos 0))) (edge-for-edge edges (getD old i (pos 0)) E)) in
+        mapped-more p (toZ edgeWidth (ofZ edgeWidth a)) h (rw (q, d) b)
 
     -- none
     pub put-none : m ≡ 0 → Put ok edges old roots (i + 1)

@@ -1,4 +1,4 @@
--- The edge of a root or child, as the code finds it: the code reads an edge e as `toZ w16 (ofZ w16 e)`.
+-- The edge of a root or child, as the code finds it: the code reads an edge e as `toZ edgeWidth (ofZ edgeWidth e)`.
 use mathlib.Core.Path.{_≡_, refl, sym, ap, _∙_}
 use mathlib.Core.Bool.{Bool, true, false, true≢false}
 use mathlib.Core.List.{List, [], _∷_}
@@ -6,7 +6,7 @@ use Prim.Native.Nat.{ℕ, zero, suc, _-_, _^_, _≤_, _<_}
 use native.Mathlib.Omega.{arith}
 use lib.IntN.{ℤ, pos, negsuc, negℤ, natAbs}
 use lib.ListN.{length, getD, List·getD-eq-default}
-use mir.Syntax.{w16}
+use Rattle.edges.specs.Width.{edgeWidth, edgeLimit}
 use mir.Val.{SFits, toZ, ofZ}
 use mir.ValLaws.{toZ-ofZ}
 use Rattle.edges.specs.Edge.{IsEdge, minus}
@@ -42,23 +42,23 @@ edge-for-edge edges c E = turned-edge c _ (E (natAbs c - 1))
 
 -- the edge of the line of a root or child
 abbrev pub Found : List ℤ → ℤ → ℕ → Type 0
-Found edges c e = toZ w16 e ≡ getD edges (natAbs c - 1) (pos 1)
+Found edges c e = toZ edgeWidth e ≡ getD edges (natAbs c - 1) (pos 1)
 
-module _ (edges : List ℤ) (c : ℤ) (f : SFits w16 c) where
-  module _ {m : ℕ} (p : m ≡ natAbs (toZ w16 (ofZ w16 c))) where
+module _ (edges : List ℤ) (c : ℤ) (f : SFits edgeWidth c) where
+  module _ {m : ℕ} (p : m ≡ natAbs (toZ edgeWidth (ofZ edgeWidth c))) where
     -- its magnitude is read as it is
     number-is : m ≡ natAbs c
-    number-is = p ∙ abs-back w16 c f
+    number-is = p ∙ abs-back edgeWidth c f
 
     -- its number counts from 1
     pub number-some : 1 ≤ natAbs c → 1 ≤ m
     number-some h = omega (arith, number-is)
 
     -- its edge is read from the list
-    pub found-there : {e : ℕ} → AllEdges edges → m - 1 < length edges → e ≡ ofZ w16 (getD edges (m - 1) (pos 0)) → Found edges c e
+    pub found-there : {e : ℕ} → AllEdges edges → m - 1 < length edges → e ≡ ofZ edgeWidth (getD edges (m - 1) (pos 0)) → Found edges c e
     found-there E h q =
         let k : natAbs c - 1 < length edges = omega (arith, number-is) in
-        rw (q, number-is, within edges (natAbs c - 1) (pos 0) (pos 1) k) (edge-back w16 (getD edges (natAbs c - 1) (pos 1)) (E (natAbs c - 1)))
+        rw (q, number-is, within edges (natAbs c - 1) (pos 0) (pos 1) k) (edge-back edgeWidth (getD edges (natAbs c - 1) (pos 1)) (E (natAbs c - 1)))
 
     -- beyond the list it is 1
     pub found-beyond : {e : ℕ} → length edges ≤ m - 1 → e ≡ 1 → Found edges c e
@@ -68,22 +68,22 @@ module _ (edges : List ℤ) (c : ℤ) (f : SFits w16 c) where
 
   module _ (e : ℕ) (E : AllEdges edges) (x : Found edges c e) where
     -- it has an opposite
-    pub found-edge : natAbs (toZ w16 e) < 2 ^ 15
+    pub found-edge : natAbs (toZ edgeWidth e) < edgeLimit
     found-edge = rw x (E (natAbs c - 1))
 
-    module _ {b : Bool} (s : b ≡ minus (toZ w16 (ofZ w16 c))) where
+    module _ {b : Bool} (s : b ≡ minus (toZ edgeWidth (ofZ edgeWidth c))) where
       -- its sign is read as it is
       sign-is : b ≡ minus c
-      sign-is = s ∙ ap minus (toZ-ofZ w16 c f)
+      sign-is = s ∙ ap minus (toZ-ofZ edgeWidth c f)
 
       -- which stands for a root or child with a minus
-      pub found-minus : b ≡ true → {r : ℤ} → r ≡ negℤ (toZ w16 e) → toZ w16 (ofZ w16 r) ≡ edgeFor edges c
+      pub found-minus : b ≡ true → {r : ℤ} → r ≡ negℤ (toZ edgeWidth e) → toZ edgeWidth (ofZ edgeWidth r) ≡ edgeFor edges c
       unfolding edgeFor
       found-minus k q =
           let a : ℤ = getD edges (natAbs c - 1) (pos 1) in
-          rw (q, x) (edge-back w16 (negℤ a) (edge-neg a (E (natAbs c - 1))) ∙ turned-minus c a (sym sign-is ∙ k))
+          rw (q, x) (edge-back edgeWidth (negℤ a) (edge-neg a (E (natAbs c - 1))) ∙ turned-minus c a (sym sign-is ∙ k))
 
       -- with no minus it stands as it is
-      pub found-plain : b ≡ false → toZ w16 e ≡ edgeFor edges c
+      pub found-plain : b ≡ false → toZ edgeWidth e ≡ edgeFor edges c
       unfolding edgeFor
       found-plain k = x ∙ turned-plain c _ (sym sign-is ∙ k)

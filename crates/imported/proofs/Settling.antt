@@ -8,6 +8,7 @@ use native.Mathlib.Omega.{arith}
 use native.Mathlib.Decide.{decLt}
 use lib.ListN.{length, getD, take, replicate, List·getD-eq-default}
 use lib.IntN.{ℤ, pos, natAbs}
+use Rattle.edges.specs.Width.{edgeLimit}
 use Rattle.codes.specs.Answer.{Read, value, refused, Step, got, fails}
 use Rattle.store.specs.Store.{Store}
 use Rattle.store.specs.Rules.{limits, Rules}
@@ -118,7 +119,7 @@ module _ (u : Setup) (σ : Store) (f : List ℕ) (at : ℕ) (R : Rules limits σ
       B : Roots (u .list) (linesIn u f at .lines) (builtFrom u σ f at .after) edges
       B = lines-built .roots edges q
 
-      go : Dec (i < length edges) → natAbs (getD edges i (pos 1)) < 2 ^ 15
+      go : Dec (i < length edges) → natAbs (getD edges i (pos 1)) < edgeLimit
       go (yes h) =
           let k : i + 1 - 1 ≡ i = omega arith in
           let E = B .edge (pos (i + 1)) (omega arith) (omega (arith, B .lines)) .there in

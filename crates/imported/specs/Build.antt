@@ -6,6 +6,7 @@ use mathlib.Core.Bool.{Bool, true}
 use mathlib.Core.List.{List, [], _∷_, _++_}
 use lib.ListN.{length, getD, replicate}
 use lib.IntN.{ℤ, pos, negsuc, negℤ, natAbs}
+use Rattle.edges.specs.Width.{edgeLimit}
 use Rattle.codes.specs.Answer.{Read, value, refused}
 use Rattle.store.specs.Store.{Store}
 use Rattle.store.specs.Rules.{Limits}
@@ -23,7 +24,7 @@ edgeFor edges c = turnedOver c (getD edges (natAbs c - 1) (pos 1))
 
 -- each is an edge
 abbrev pub AllEdges : List ℤ → Type 0
-AllEdges edges = (i : ℕ) → natAbs (getD edges i (pos 1)) < 2 ^ 15
+AllEdges edges = (i : ℕ) → natAbs (getD edges i (pos 1)) < edgeLimit
 
 -- One line made into the store, after lines of these edges: a terminal line is node 1.
 unfoldable pub addLine : Limits → List ℕ → Store → List ℤ → Line → Made

@@ -6,6 +6,7 @@ use mathlib.Core.List.{List, [], _∷_, map}
 use lib.ListN.{length, take, drop}
 use lib.IntN.{ℤ, pos, natAbs}
 use lib.Dec.{eqb}
+use Rattle.edges.specs.Width.{edgeLimit, positionLimit}
 use Rattle.codes.specs.Texts.{bytes}
 use Rattle.codes.specs.Answer.{Read, value, refused, Step}
 use Rattle.codes.specs.Bytes.{isWhitespace}
@@ -134,8 +135,8 @@ EdgesIf false edges = Unit
 
 -- what the calls lean on: limits that were judged before
 pub record Bounded (u : Setup) (edges seats : ℕ) : Type 0 where
-  pub nodes : u .nnodes < 2 ^ 15
+  pub nodes : u .nnodes < edgeLimit
   pub edges-long : u .nnodes ≤ edges
   pub seats-long : u .nnodes ≤ seats
-  pub few-levels : length (u .list) < 2 ^ 16
+  pub few-levels : length (u .list) < positionLimit
   pub few-lines : u .lines < 2 ^ 32

@@ -6,6 +6,7 @@ use Prim.Native.Nat.{ℕ, _<_, _^_}
 use lib.Dec.{eqb}
 use lib.ListN.{length, replicate}
 use lib.IntN.{ℤ, pos}
+use Rattle.edges.specs.Width.{edgeLimit}
 use Rattle.header_values.specs.Kinds.{ofVarInfo}
 use Rattle.store.specs.Store.{Store}
 use Rattle.store.specs.Rules.{limits, Rules}
@@ -30,7 +31,7 @@ module _ (r : Loaded) (σ : Store) (list : List ℕ) where
 
     module _ (e s : ℕ) (p : Readable (ofLoaded r) σ list e s) where
       -- where the answer so far is a header, its nodes are few
-      pub few-nodes : h .nnodes < 2 ^ 15
+      pub few-nodes : h .nnodes < edgeLimit
       few-nodes = (rw q at p) .1 .1 .nodes
 
       -- and what their import leans on holds

@@ -6,6 +6,7 @@ use native.Mathlib.Omega.{arith}
 use borrow.Author.Tests.{lt-leb, le-leb, ne-eqb}
 use types.Run.{OneOf, miss}
 use denote.Enum.Declared.{tagOf}
+use Rattle.edges.specs.Width.{edgeLimit}
 use Rattle.codes.specs.Answer.{Step, got, fails, then}
 use Rattle.codes.specs.declared.Code.{Code}
 use Rattle.codes.specs.declared.Code.the-variants.{Terminal, AbsoluteID, RelativeID, Relative1}
@@ -37,8 +38,8 @@ module _ (n id next : ℕ) where
     pub below-fits : id < n → below n id next ≡ got id next
     below-fits h = rw (ne-eqb id 0, lt-leb n id)
 
--- where line n is below 2 ^ 15, so is a line below it
-pub below-small : (n : ℕ) {r : Read} {v next : ℕ} → r ≡ read.Number v next → ReadBelow n r → n < 2 ^ 15 → (1 ≤ v) × (v < 2 ^ 15)
+-- where line n is below the limit of edges, so is a line below it
+pub below-small : (n : ℕ) {r : Read} {v next : ℕ} → r ≡ read.Number v next → ReadBelow n r → n < edgeLimit → (1 ≤ v) × (v < edgeLimit)
 below-small n k h s = let l = rw k at h in (l .0, omega arith)
 
 -- The number of a child, by its code.

@@ -2,6 +2,7 @@
 ghost use mathlib.Core.List.{[]};
 ghost use Prim.Native.Nat.{_≤_, _<_};
 ghost use lib.ListN.{length};
+ghost use Rattle.edges.specs.Width.{edgeLimit};
 ghost use Rattle.store.specs.Lent.{oldStore};
 ghost use Rattle.store.specs.Store.{store, slots};
 ghost use Rattle.store.specs.Rules.{limits, Sizes, Fits};
@@ -97,7 +98,7 @@ pub fn node_fits(levels: u16, level: &[u16], n: Index, l: u16, t: Edge, e: Edge)
 
 // Does every node fit?
 pub fn nodes_fit(levels: u16, count: Index, level: &[u16], then: &[Edge], els: &[Edge]) -> bool
-    requires { ⌜ (1 ≤ count) × (count < 32768) ⌝ }
+    requires { ⌜ (1 ≤ count) × (count < edgeLimit) ⌝ }
     requires { ⌜ (count ≤ length (now level)) × ((count ≤ length (now then)) × (count ≤ length (now els))) ⌝ }
     ensures { λ r. ⌜ Decides r (AllFit (store levels count (now (level .entry)) (now (then .entry)) (now (els .entry)) [] [])) ⌝ }
 {

@@ -5,7 +5,7 @@ use mathlib.Core.Bool.{Bool, true, false, cond}
 use Prim.Native.Nat.{ℕ, _+_, zero, suc}
 use native.Mathlib.Omega.{arith}
 use lib.IntN.{ℤ, pos, negℤ}
-use mir.Syntax.{w16}
+use Rattle.edges.specs.Width.{edgeWidth}
 use mir.Val.{toZ, ofZ}
 use Rattle.codes.specs.Answer.{Read, value, refused}
 use Rattle.edges.specs.Edge.{IsEdge, minus, eqZ}
@@ -25,14 +25,14 @@ module _ (x : Bool) (e : ℤ) (h : IsEdge e) where
   turned-edge true = rw (abs-neg e) h
   turned-edge false = h
 
-  pub opposite : (a : ℤ) → x ≡ true → a ≡ negℤ (toZ w16 (ofZ w16 e)) → toZ w16 (ofZ w16 a) ≡ cond x (negℤ e) e
-  opposite a p q = rw (p, q, edge-back w16 e h) (edge-back w16 (negℤ e) (turned-edge true))
+  pub opposite : (a : ℤ) → x ≡ true → a ≡ negℤ (toZ edgeWidth (ofZ edgeWidth e)) → toZ edgeWidth (ofZ edgeWidth a) ≡ cond x (negℤ e) e
+  opposite a p q = rw (p, q, edge-back edgeWidth e h) (edge-back edgeWidth (negℤ e) (turned-edge true))
 
-  pub itself : x ≡ false → toZ w16 (ofZ w16 e) ≡ cond x (negℤ e) e
-  itself p = rw p (edge-back w16 e h)
+  pub itself : x ≡ false → toZ edgeWidth (ofZ edgeWidth e) ≡ cond x (negℤ e) e
+  itself p = rw p (edge-back edgeWidth e h)
 
-  pub turned-back : (a : ℤ) → a ≡ cond x (negℤ (toZ w16 (ofZ w16 e))) (toZ w16 (ofZ w16 e)) → toZ w16 (ofZ w16 a) ≡ cond x (negℤ e) e
-  turned-back a q = rw (q, edge-back w16 e h) (edge-back w16 (cond x (negℤ e) e) (turned-edge x))
+  pub turned-back : (a : ℤ) → a ≡ cond x (negℤ (toZ edgeWidth (ofZ edgeWidth e))) (toZ edgeWidth (ofZ edgeWidth e)) → toZ edgeWidth (ofZ edgeWidth a) ≡ cond x (negℤ e) e
+  turned-back a q = rw (q, edge-back edgeWidth e h) (edge-back edgeWidth (cond x (negℤ e) e) (turned-edge x))
 
 -- the same of an answer
 module _ (x : Bool) (r : Making) where
@@ -48,10 +48,10 @@ module _ (x : Bool) (r : Making) where
     node-edge : IsEdge a
     node-edge = rw q at h
 
-    pub node-back : IsEdge (toZ w16 (ofZ w16 a))
-    node-back = rw (edge-back w16 a node-edge) node-edge
+    pub node-back : IsEdge (toZ edgeWidth (ofZ edgeWidth a))
+    node-back = rw (edge-back edgeWidth a node-edge) node-edge
 
-    pub node-turned : (b : ℤ) → b ≡ cond x (negℤ (toZ w16 (ofZ w16 a))) (toZ w16 (ofZ w16 a)) → value (toZ w16 (ofZ w16 b)) ≡ cond x (negated (ofMaking r)) (ofMaking r)
+    pub node-turned : (b : ℤ) → b ≡ cond x (negℤ (toZ edgeWidth (ofZ edgeWidth a))) (toZ edgeWidth (ofZ edgeWidth a)) → value (toZ edgeWidth (ofZ edgeWidth b)) ≡ cond x (negated (ofMaking r)) (ofMaking r)
     node-turned b p = rw q (ap value (turned-back x a node-edge b p) ∙ negated-value x a)
 
   pub full-turned : r ≡ making.Full → refused 40 ≡ cond x (negated (ofMaking r)) (ofMaking r)

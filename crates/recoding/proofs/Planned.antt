@@ -4,6 +4,7 @@ use mathlib.Core.List.{List}
 use Prim.Native.Nat.{ℕ, _≤_, _<_, _^_}
 use native.Mathlib.Omega.{arith}
 use lib.ListN.{length, take}
+use Rattle.edges.specs.Width.{positionLimit}
 use Rattle.codes.specs.Lent.{laid}
 use Rattle.codes.specs.Limits.{varLimit}
 use Rattle.header_values.specs.Values.{pad}
@@ -69,7 +70,7 @@ module _ (f : List ℕ) (found : ℕ) (e : found ≡ head.lengthAfter 0 (length 
       list-may = (says .judged .few, rw permids-are (says .judged .permids-few))
 
       -- the level count fits
-      pub count-fits : h .nvars < 2 ^ 16
+      pub count-fits : h .nvars < positionLimit
       count-fits = let s = says .judged .few in omega arith
 
       -- and is answered, with the list's length, beside the list

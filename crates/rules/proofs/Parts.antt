@@ -7,6 +7,7 @@ use native.Mathlib.Omega.{arith}
 use native.Mathlib.Decide.{decLt}
 use lib.ListN.{length}
 use lib.IntN.{ℤ}
+use Rattle.edges.specs.Width.{edgeLimit}
 use Rattle.store.specs.Store.{store, slots}
 use Rattle.store.specs.Rules.{limits, Sizes, AlikeNodes, Nodes, bucket, Chains, Zero, Zeros}
 use Rattle.store.specs.Keeps.{Decides, says-no, keeps, is-keeps}
@@ -66,7 +67,7 @@ module _ (levels count : ℕ) (L : List ℕ) (T E : List ℤ) (X H : List ℕ) w
 
 -- What the sizes give to each part.
 module _ (levels count : ℕ) (L : List ℕ) (T E : List ℤ) (X H : List ℕ) (z : Sizes limits (store levels count L T E X H)) where
-  pub sizes-count : (1 ≤ count) × (count < 32768)
+  pub sizes-count : (1 ≤ count) × (count < edgeLimit)
   sizes-count = (z .count-some, omega (arith, z .count-limit))
 
   pub sizes-nodes : (count ≤ length L) × ((count ≤ length T) × (count ≤ length E))

@@ -3,6 +3,7 @@ ghost use mathlib.Core.Path.{_≡_};
 ghost use mathlib.Core.List.{[]};
 ghost use Prim.Native.Nat.{ℕ, _≤_, _<_};
 ghost use lib.ListN.{length, getD};
+ghost use Rattle.edges.specs.Width.{edgeLimit};
 ghost use Rattle.store.specs.Lent.{oldStore};
 ghost use Rattle.store.specs.Store.{store, slots};
 ghost use Rattle.store.specs.Rules.{limits, Chains, Zero, Zeros};
@@ -39,7 +40,7 @@ pub fn chains_hold(
     next: &[Index],
     heads: &[Index],
 ) -> bool
-    requires { ⌜ (1 ≤ count) × (count < 32768) ⌝ }
+    requires { ⌜ (1 ≤ count) × (count < edgeLimit) ⌝ }
     requires { ⌜ (count ≤ length (now level)) × ((count ≤ length (now then)) × ((count ≤ length (now els)) × (count ≤ length (now next)))) ⌝ }
     requires { ⌜ length (now heads) ≡ 256 ⌝ }
     ensures { λ r. ⌜ Decides r (Chains (oldStore 0 count level then els next heads)) ⌝ }
@@ -65,7 +66,7 @@ pub fn chains_hold(
 
 // Are no two nodes alike? A small index does where there are few nodes, since it is cleared each time.
 pub fn all_alone(count: Index, level: &[u16], then: &[Edge], els: &[Edge]) -> bool
-    requires { ⌜ (1 ≤ count) × (count < 32768) ⌝ }
+    requires { ⌜ (1 ≤ count) × (count < edgeLimit) ⌝ }
     requires { ⌜ (count ≤ length (now level)) × ((count ≤ length (now then)) × (count ≤ length (now els))) ⌝ }
     ensures { λ r. ⌜ Decides r (AllAlone (slots (now (level .entry)) (now (then .entry)) (now (els .entry))) count) ⌝ }
 {

@@ -7,7 +7,7 @@ use borrow.Author.Tests.{lt-ltb, le-ltb}
 use lib.Dec.{ltb}
 use lib.ListN.{length, set}
 use lib.IntN.{ℤ, pos}
-use mir.Syntax.{w16}
+use Rattle.edges.specs.Width.{edgeWidth}
 use mir.Val.{toZ, ofZ}
 use Rattle.codes.specs.Answer.{Read, value, refused}
 use Rattle.edges.specs.Edge.{IsEdge, bucketOf}
@@ -75,8 +75,8 @@ found-edge σ l t e n z q f = let k : 0 < find σ l t e = omega arith in omega (
 pub new-edge : (σ : Store) (x : Bool) → x ≡ roomFor limits σ → x ≡ true → IsEdge (pos (σ .count + 1))
 new-edge σ x p y = omega (arith, room-true limits σ (sym p ∙ y) .1)
 
-pub node-answer : (a : ℤ) (n : ℕ) → a ≡ pos n → IsEdge (pos n) → value (toZ w16 (ofZ w16 a)) ≡ value (pos n)
-node-answer a n q h = rw q (ap value (edge-back w16 (pos n) h))
+pub node-answer : (a : ℤ) (n : ℕ) → a ≡ pos n → IsEdge (pos n) → value (toZ edgeWidth (ofZ edgeWidth a)) ≡ value (pos n)
+node-answer a n q h = rw q (ap value (edge-back edgeWidth (pos n) h))
 
 -- Taking back, one node after the other: τ has been reached from σ on the way to node `to`.
 pub record Returning (m : Limits) (σ : Store) (to : ℕ) (τ : Store) : Type 0 where

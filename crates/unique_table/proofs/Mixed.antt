@@ -5,14 +5,15 @@ use Prim.Native.Nat.{ℕ, _+_, _*_, _/_, _%_, _^_, _≤_, _<_}
 use native.Mathlib.Omega.{arith}
 use native.Mathlib.Nat.{mod-lt, mul-comm, mul-le-mul, mul-lt-mul-of-pos-right, div-lt-iff-lt-mul}
 use lib.IntN.{ℤ}
+use Rattle.edges.specs.Width.{edgeBits}
 use Rattle.edges.specs.Edge.{bits}
 use Rattle.unique_table.specs.Index.{nodeKey, headEntry}
 
-pub key-is : (l x y : ℕ) (t e : ℤ) → x ≡ bits 16 e → y ≡ bits 16 t → x + 2 ^ 16 * y + 2 ^ 32 * l ≡ nodeKey l t e
+pub key-is : (l x y : ℕ) (t e : ℤ) → x ≡ bits edgeBits e → y ≡ bits edgeBits t → x + 2 ^ 16 * y + 2 ^ 32 * l ≡ nodeKey l t e
 unfolding nodeKey
 key-is l x y t e p q = rw (p, q)
 
-pub head-is : (width l x y : ℕ) (t e : ℤ) → y ≡ bits 16 t → x ≡ bits 16 e
+pub head-is : (width l x y : ℕ) (t e : ℤ) → y ≡ bits edgeBits t → x ≡ bits edgeBits e
     → (l * 2654435769 + y * 3144134277 + x * 2246822519) / 2 ^ 16 % 2 ^ 32 * width / 2 ^ 32 ≡ headEntry width l t e
 unfolding headEntry
 head-is width l x y t e p q = rw (p, q)

@@ -7,6 +7,7 @@ use mathlib.Core.Bool.{true}
 use mathlib.Core.List.{List}
 use lib.ListN.{length, getD}
 use lib.IntN.{ℤ}
+use Rattle.edges.specs.Width.{edgeBits}
 use Rattle.edges.specs.Edge.{bits}
 use Rattle.store.specs.Store.{Store, levelAt, thenAt, elseAt}
 use Rattle.store.specs.Rules.{AlikeNodes}
@@ -14,11 +15,11 @@ use Rattle.store.specs.Make.{holds}
 
 -- the key of a level, a then and an else: all their bits, so that no two have one key
 unfoldable pub nodeKey : ℕ → ℤ → ℤ → ℕ
-nodeKey l t e = bits 16 e + 2 ^ 16 * bits 16 t + 2 ^ 32 * l
+nodeKey l t e = bits edgeBits e + 2 ^ 16 * bits edgeBits t + 2 ^ 32 * l
 
 -- the head where a search for them starts: a mix of the three, cut to 32 bits and scaled to the width
 unfoldable pub headEntry : ℕ → ℕ → ℤ → ℤ → ℕ
-headEntry width l t e = (l * 2654435769 + bits 16 t * 3144134277 + bits 16 e * 2246822519) / 2 ^ 16 % 2 ^ 32 * width / 2 ^ 32
+headEntry width l t e = (l * 2654435769 + bits edgeBits t * 3144134277 + bits edgeBits e * 2246822519) / 2 ^ 16 % 2 ^ 32 * width / 2 ^ 32
 
 -- the entry where a search with key k goes on from node n
 abbrev pub onFrom : ℕ → ℕ → ℕ → ℕ

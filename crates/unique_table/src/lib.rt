@@ -5,6 +5,7 @@ ghost use mathlib.Core.Path.{_≡_};
 ghost use mathlib.Core.Bool.{true};
 ghost use Prim.Native.Nat.{_+_, _*_, _^_, _≤_, _<_};
 ghost use lib.ListN.{length, replicate};
+ghost use Rattle.edges.specs.Width.{edgeLimit};
 ghost use Rattle.store.specs.Store.{slots};
 ghost use Rattle.store.specs.Keeps.{Decides};
 ghost use Rattle.store.specs.Make.{holds};
@@ -105,7 +106,7 @@ pub fn distinct(
 ) -> bool
     requires { ⌜ now index ≡ replicate (length (now index)) 0 ⌝ }
     requires { ⌜ (1 ≤ width) × (width ≤ 2 ^ 16) × (width + 2 * count + 2 ≤ length (now index)) ⌝ }
-    requires { ⌜ (1 ≤ count) × (count < 32768) ⌝ }
+    requires { ⌜ (1 ≤ count) × (count < edgeLimit) ⌝ }
     requires { ⌜ (count ≤ length (now level)) × ((count ≤ length (now then)) × (count ≤ length (now els))) ⌝ }
     ensures { λ r. ⌜ Decides r (AllAlone (slots (now (level .entry)) (now (then .entry)) (now (els .entry))) count) ⌝ }
     ensures { λ r. ⌜ (r ≡ true → Indexed width (slots (now (level .entry)) (now (then .entry)) (now (els .entry))) count (now (index .exit))) ⌝ }

@@ -5,7 +5,7 @@ use mathlib.Core.Path.{_≡_, sym, ap, _∙_}
 use native.Mathlib.Omega.{arith}
 use borrow.Author.Needs.{needs}
 use lib.IntN.{natAbs}
-use mir.Syntax.{w16}
+use Rattle.edges.specs.Width.{edgeWidth}
 use mir.Val.{toZ, ofZ}
 use Rattle.edges.specs.Edge.{minus}
 use Rattle.store.specs.Store.{slots}
@@ -100,7 +100,7 @@ eval-node-descend-requires t c κs = (c .if1 .left, c .before .before .before .p
 -- the edge that the stretch led to, as the call reads it
 leads : (t : ℕ) (c : eval-node-lts.After-descend (node-claims t) (eval-node-at t) eval-node.Post)
     → let s = eval-node-at-start c .args in
-    LeadsDown (slots (s .level .now) (s .then .now) (s .els .now)) (settingOf (s .setting .now)) (s .n) (toZ w16 (ofZ w16 (c .descend .result)))
+    LeadsDown (slots (s .level .now) (s .then .now) (s .els .now)) (settingOf (s .setting .now)) (s .n) (toZ edgeWidth (ofZ edgeWidth (c .descend .result)))
 leads t c = leads-back _ (eval-node-at-start c .pre .1 .small) (c .descend .ensures)
 
 eval-node-eval-edge-requires : (t : ℕ) → eval-node-lts.Need-eval-edge-requires (node-claims t) (eval-node-at t) eval-node.Post

@@ -3,7 +3,7 @@
 use Prim.Native.Nat.{_-_}
 use native.Mathlib.Omega.{arith}
 use borrow.Author.Needs.{needs}
-use mir.Syntax.{w16}
+use Rattle.edges.specs.Width.{edgeWidth}
 use mir.Val.{toZ, ofZ}
 use Rattle.store.specs.Store.{slots}
 use Rattle.store.specs.Meaning.{settingOf}
@@ -47,7 +47,7 @@ child-at-requires c κs =
 leads : (c : tie.After-child-at Inv-loop μ-loop)
     → let s = at-start (at-loop c) .args in
     LeadsDown (slots (s .level .now) (s .then .now) (s .els .now)) (settingOf (s .setting .now)) (at-loop c .loop .at)
-    (toZ w16 (ofZ w16 (c .child-at .result)))
+    (toZ edgeWidth (ofZ edgeWidth (c .child-at .result)))
 leads c =
     let s = at-start (at-loop c) in
     child-leads (walks-lower (s .pre .1) (at-loop c .loop .at) (omega (arith, at-loop c .loop .inv .lower))) (c .before .if1 .left) _ _

@@ -3,7 +3,7 @@ use mathlib.Core.Path.{_≡_, ap, _∙_}
 use Prim.Native.Nat.{_-_}
 use borrow.Author.Needs.{needs}
 use lib.ListN.{getD}
-use mir.Syntax.{w16}
+use Rattle.edges.specs.Width.{edgeWidth}
 use mir.Val.{toZ, ofZ}
 use mir.Facts.{toZ-ofZ}
 use denote.Ref.{now}
@@ -41,27 +41,27 @@ abbrev σ : tie.Start → Store
 σ s = slots (now (s .args .level)) (now (s .args .then)) (now (s .args .els))
 
 -- the node's children, as arguments
-then-edge : (c : tie.After-t) → let s = at-start c in toZ w16 (ofZ w16 (thenAt (σ s) (s .args .node))) ≡ thenAt (σ s) (s .args .node)
+then-edge : (c : tie.After-t) → let s = at-start c in toZ edgeWidth (ofZ edgeWidth (thenAt (σ s) (s .args .node))) ≡ thenAt (σ s) (s .args .node)
 then-edge c = toZ-ofZ (record { sfits = c .t .given })
 
-else-edge : (c : tie.After-e) → let s = at-start (c .before) in toZ w16 (ofZ w16 (elseAt (σ s) (s .args .node))) ≡ elseAt (σ s) (s .args .node)
+else-edge : (c : tie.After-e) → let s = at-start (c .before) in toZ edgeWidth (ofZ edgeWidth (elseAt (σ s) (s .args .node))) ≡ elseAt (σ s) (s .args .node)
 else-edge c = toZ-ofZ (record { sfits = c .e .given })
 
 -- the numbers of their lines, as arguments
 then-line : (c : tie.After-number-of) → let s = at-start (at-t (c .before .before .before)) in
-    toZ w16 (ofZ w16 (c .number-of .result)) ≡ lineNumberOf (now (s .args .numbers)) (thenAt (σ s) (s .args .node))
+    toZ edgeWidth (ofZ edgeWidth (c .number-of .result)) ≡ lineNumberOf (now (s .args .numbers)) (thenAt (σ s) (s .args .node))
 then-line c =
     toZ-ofZ (record { sfits = c .number-of .ok }) ∙ c .number-of .ensures ∙ ap (lineNumberOf _) (then-edge (at-t (c .before .before .before)))
 
 else-line : (c : tie.After-number-of2) → let s = start-before-number-of2 c in
-    toZ w16 (ofZ w16 (c .number-of2 .result)) ≡ lineNumberOf (now (s .args .numbers)) (elseAt (σ s) (s .args .node))
+    toZ edgeWidth (ofZ edgeWidth (c .number-of2 .result)) ≡ lineNumberOf (now (s .args .numbers)) (elseAt (σ s) (s .args .node))
 else-line c = toZ-ofZ (record { sfits = c .number-of2 .ok }) ∙ c .number-of2 .ensures ∙ ap (lineNumberOf _) (else-edge (at-e c))
 
 -- the node's line in either mode
 text-line : (c : tie.Then1) → let s = start-before-number-of2 (c .before) in
     innerBy (s .args .ascii) (σ s) (now (s .args .numbers)) (now (s .args .seats)) (s .args .n) (s .args .node)
     ≡ textBytes (s .args .n) (inner (getD (now (s .args .seats)) (levelAt (σ s) (s .args .node)) 0 - 1)
-    (toZ w16 (ofZ w16 (c .before .before .number-of .result))) (toZ w16 (ofZ w16 (c .before .number-of2 .result))))
+    (toZ edgeWidth (ofZ edgeWidth (c .before .before .number-of .result))) (toZ edgeWidth (ofZ edgeWidth (c .before .number-of2 .result))))
 text-line c =
     let s = start-before-number-of2 (c .before) in
     inner-text (s .args .ascii) (σ s) (now (s .args .numbers)) (now (s .args .seats)) (s .args .n) (s .args .node) (then-line (c .before .before))
@@ -70,7 +70,7 @@ text-line c =
 binary-line : (c : tie.After-smaller) → let s = start-before-number-of2 (at-number-of2 c) in
     innerBy (s .args .ascii) (σ s) (now (s .args .numbers)) (now (s .args .seats)) (s .args .n) (s .args .node)
     ≡ innerBytes (s .args .n) (getD (now (s .args .seats)) (levelAt (σ s) (s .args .node)) 0 - 1)
-    (toZ w16 (ofZ w16 (at-number-of2 c .before .number-of .result))) (toZ w16 (ofZ w16 (at-number-of2 c .number-of2 .result)))
+    (toZ edgeWidth (ofZ edgeWidth (at-number-of2 c .before .number-of .result))) (toZ edgeWidth (ofZ edgeWidth (at-number-of2 c .number-of2 .result)))
     (c .smaller .result)
 binary-line c =
     let s = start-before-number-of2 (at-number-of2 c) in

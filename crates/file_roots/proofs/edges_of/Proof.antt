@@ -4,7 +4,8 @@ use native.Mathlib.Omega.{arith}
 use borrow.Author.Needs.{needs}
 use lib.ListN.{length, getD}
 use mathlib.Core.Logic.{⊎-elim}
-use mir.Syntax.{w16, w64}
+use mir.Syntax.{w64}
+use Rattle.edges.specs.Width.{edgeWidth}
 use lib.IntN.{pos}
 use Rattle.file_roots.proofs.RootEdges.{Edged, edged-start, edged-more, edged-past, edged-length, edged-end, edge-read}
 use Rattle.file_roots.proofs.edges_of.Statement.{statement}
@@ -43,7 +44,7 @@ loop-less c = search needs
 loop-again : tie.Need-loop-again Inv-loop μ-loop
 loop-again c =
     ⊎-elim
-    (λ w. rw (w .3) (edged-more _ _ _ _ (c .before .before .loop .inv) (c .before .loop-test .taken) (edge-read w64 w16 (getD (c .before .before .before .args .roots .now) (c .before .before .loop .i) (pos 0)) (record { sfits = w .1 .given }) (omega arith) (w .2 .ensures))))
+    (λ w. rw (w .3) (edged-more _ _ _ _ (c .before .before .loop .inv) (c .before .loop-test .taken) (edge-read w64 edgeWidth (getD (c .before .before .before .args .roots .now) (c .before .before .loop .i) (pos 0)) (record { sfits = w .1 .given }) (omega arith) (w .2 .ensures))))
     (λ w. rw (w .1) (edged-past _ _ _ _ (c .before .before .loop .inv) (c .before .loop-test .taken) (w .0 .left)))
     (c .if1 .came)
 

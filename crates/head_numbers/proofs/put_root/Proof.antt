@@ -5,7 +5,7 @@ use native.Mathlib.Omega.{arith}
 use borrow.Author.Needs.{needs}
 use denote.Ref.{now}
 use mir.Facts.{toZ-ofZ}
-use mir.Syntax.{w16}
+use Rattle.edges.specs.Width.{edgeWidth}
 use mir.Val.{toZ, ofZ}
 use Rattle.writers.specs.Decimal.{edgeText}
 use Rattle.writers.proofs.Sets.{wrote-then}
@@ -22,7 +22,7 @@ at-start p = p .before .before .before .before
 
 -- the edge that is written is the root's
 edge-is : (c : tie.After-number-of)
-    → toZ w16 (ofZ w16 (c .number-of .result)) ≡ lineNumberOf (now (at-start (at-put-byte c) .args .numbers)) (at-start (at-put-byte c) .args .root)
+    → toZ edgeWidth (ofZ edgeWidth (c .number-of .result)) ≡ lineNumberOf (now (at-start (at-put-byte c) .args .numbers)) (at-start (at-put-byte c) .args .root)
 edge-is c =
     toZ-ofZ (record { sfits = c .number-of .ok }) ∙ c .number-of .ensures ∙ ap (lineNumberOf (now (at-start (at-put-byte c) .args .numbers)))
     (toZ-ofZ (at-start (at-put-byte c) .fits .root))

@@ -8,7 +8,7 @@ use lib.ListN.{length, getD, drop, drop-of-length-le}
 use lib.Seq.{drop-cons}
 use lib.IntN.{pos}
 use mir.Facts.{toZ-ofZ}
-use mir.Syntax.{w16}
+use Rattle.edges.specs.Width.{edgeWidth}
 use mir.Val.{toZ, ofZ}
 use Rattle.writers.specs.Decimal.{edgeText}
 use Rattle.writers.specs.Words.{spaced}
@@ -33,7 +33,7 @@ at-start p = p .before .before .before
 
 -- the root that is written is the list's
 root-is : (c : tie.After-put-root-arg2 Inv-loop μ-loop)
-    → toZ w16 (ofZ w16 (getD (at-start (c .before .before .before) .args .roots .now) (c .before .before .before .loop .i) (pos 0))) ≡ getD
+    → toZ edgeWidth (ofZ edgeWidth (getD (at-start (c .before .before .before) .args .roots .now) (c .before .before .before .loop .i) (pos 0))) ≡ getD
     (at-start (c .before .before .before) .args .roots .now) (c .before .before .before .loop .i) (pos 0)
 root-is c = toZ-ofZ (record { sfits = c .put-root-arg2 .given })
 

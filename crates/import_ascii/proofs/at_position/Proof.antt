@@ -3,7 +3,8 @@ use mathlib.Core.Path.{_≡_, sym, _∙_}
 use native.Mathlib.Omega.{arith}
 use lib.ListN.{getD}
 use borrow.Author.Needs.{needs}
-use mir.Syntax.{w16, w64}
+use mir.Syntax.{w64}
+use Rattle.edges.specs.Width.{edgeWidth}
 use mir.Val.{toZ, ofZ}
 use Rattle.node_lines.specs.Line.{childFault}
 use Rattle.import_ascii.proofs.Faults.{fault-read, child-below, position-out, position-then, position-else, position-inner, edge-kept}
@@ -61,19 +62,19 @@ edge-of-requires-2 c κs = search needs
 
 -- then as an edge
 then-edge : (c : tie.After-edge-of)
-    → toZ w16 (ofZ w16 (c .edge-of .result)) ≡ c .before .before .before .before .before .before .before .before .before .args .t
+    → toZ edgeWidth (ofZ edgeWidth (c .edge-of .result)) ≡ c .before .before .before .before .before .before .before .before .before .args .t
 then-edge c =
     let s = c .before .before .before .before .before .before .before .before .before in
     let k = child-below _ _ _ _ (s .args .t) (sym (then-fault (c .before .before .before .before)) ∙ c .before .before .before .if2 .left) in
-    edge-kept w64 w16 (s .args .t) (s .fits .t) (omega arith) (c .edge-of .ensures) (omega (arith, k, s .pre .2))
+    edge-kept w64 edgeWidth (s .args .t) (s .fits .t) (omega arith) (c .edge-of .ensures) (omega (arith, k, s .pre .2))
 
 -- else as an edge
 else-edge : (c : tie.After-edge-of2)
-    → toZ w16 (ofZ w16 (c .edge-of2 .result)) ≡ c .before .before .before .before .before .before .before .before .before .before .args .e
+    → toZ edgeWidth (ofZ edgeWidth (c .edge-of2 .result)) ≡ c .before .before .before .before .before .before .before .before .before .before .args .e
 else-edge c =
     let s = c .before .before .before .before .before .before .before .before .before .before in
     let k = child-below _ _ _ _ (s .args .e) (sym (else-fault (c .before .before .before)) ∙ c .before .before .if3 .left) in
-    edge-kept w64 w16 (s .args .e) (s .fits .e) (omega arith) (c .edge-of2 .ensures) (omega (arith, k, s .pre .2))
+    edge-kept w64 edgeWidth (s .args .e) (s .fits .e) (omega arith) (c .edge-of2 .ensures) (omega (arith, k, s .pre .2))
 
 returns-4 : tie.Need-returns-4
 returns-4 c =

@@ -1,6 +1,6 @@
 -- `line_at` meets its contract: the line is found, then read.
 use borrow.Author.Needs.{needs}
-use mir.Syntax.{w16}
+use Rattle.edges.specs.Width.{edgeWidth}
 use mir.ValLaws.{toZ-ofZ}
 use Rattle.import_ascii.proofs.TextLines.{no-line, line-got, line-fails}
 use Rattle.import_ascii.proofs.line_at.Statement.{statement}
@@ -42,8 +42,8 @@ returns-2 c =
 returns-3 : tie.Need-returns-3
 returns-3 c =
     let s = c .before .before .before .before .before in
-    rw (toZ-ofZ w16 (c .before .p .given .0 .1 .0) (record { sfits = c .known-told .given .1 .0 .1 }))
-    (rw (toZ-ofZ w16 (c .before .p .given .0 .1 .1 .0) (record { sfits = c .known-told .given .1 .1 .0 .1 }))
+    rw (toZ-ofZ edgeWidth (c .before .p .given .0 .1 .0) (record { sfits = c .known-told .given .1 .0 .1 }))
+    (rw (toZ-ofZ edgeWidth (c .before .p .given .0 .1 .1 .0) (record { sfits = c .known-told .given .1 .1 .0 .1 }))
     (line-got _ _ _ _ _ _ (s .before .if1 .left) (s .line-at .ensures .0)
     (rw (c .before .p .given .1) at (c .before .before .before .text-line .ensures))))
 

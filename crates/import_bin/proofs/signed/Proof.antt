@@ -1,4 +1,4 @@
--- `signed` meets its contract: a number below 2 ^ 15 has both signs.
+-- `signed` meets its contract: a number below the limit of edges has both signs.
 use borrow.Author.Needs.{needs}
 use Rattle.import_bin.proofs.Positions.{minus-fits, minus-is, plain-is}
 use Rattle.import_bin.proofs.signed.Statement.{statement}

@@ -3,7 +3,7 @@ use mathlib.Core.Path.{_≡_, refl, sym, _∙_}
 use Prim.Native.Nat.{_+_, _-_}
 use native.Mathlib.Omega.{arith}
 use borrow.Author.Needs.{needs}
-use mir.Syntax.{w16}
+use Rattle.edges.specs.Width.{edgeWidth}
 use mir.Val.{toZ, ofZ}
 use mir.ValLaws.{toZ-ofZ}
 use lib.ListN.{length, take}
@@ -174,7 +174,7 @@ slice-aggregate-edge-for c = sym (edges-length _ _ _ _ _ _ _ _ _ _ _ (loop-befor
 edge-for-requires : tie.Need-edge-for-requires Inv-loop μ-loop
 edge-for-requires c κs = (
   progress-edges _ _ _ _ _ _ _ _ _ _ _ (loop-before-known-told2 (c .before) .loop .inv .0),
-  rw (toZ-ofZ w16 (c .before .before .p .given .0 .1 .0) (record { sfits = c .before .known-told2 .given .1 .0 .1 }))
+  rw (toZ-ofZ edgeWidth (c .before .before .p .given .0 .1 .0) (record { sfits = c .before .known-told2 .given .1 .0 .1 }))
       (judged (c .before) .then .some),
 )
 
@@ -187,7 +187,7 @@ slice-aggregate-edge-for-2 c = sym (edges-length _ _ _ _ _ _ _ _ _ _ _ (loop-bef
 edge-for-requires-2 : tie.Need-edge-for-requires-2 Inv-loop μ-loop
 edge-for-requires-2 c κs = (
   progress-edges _ _ _ _ _ _ _ _ _ _ _ (loop-before-known-told2 (at-known-told2 (c .before)) .loop .inv .0),
-  rw (toZ-ofZ w16 (at-known-told2 (c .before) .before .p .given .0 .1 .1 .0)
+  rw (toZ-ofZ edgeWidth (at-known-told2 (c .before) .before .p .given .0 .1 .1 .0)
       (record { sfits = at-known-told2 (c .before) .known-told2 .given .1 .1 .0 .1 })) (judged (at-known-told2 (c .before)) .els .some),
 )
 
@@ -202,7 +202,7 @@ shared-slice-read-l c = judged (at-known-told2 (at-edge-for (c .before))) .posit
 
 -- the edges of its two children
 then-read : (c : tie.After-edge-for2 Inv-loop μ-loop)
-    → toZ w16 (ofZ w16 (at-edge-for c .edge-for .result)) ≡ edgeFor
+    → toZ edgeWidth (ofZ edgeWidth (at-edge-for c .edge-for .result)) ≡ edgeFor
     (take (at-loop (line-at-before-edge-for2 c) .loop .n) (at-loop (line-at-before-edge-for2 c) .loop .edges))
     (at-known-told2 (at-edge-for c) .before .p .given .0 .1 .0)
 then-read c =
@@ -211,7 +211,7 @@ then-read c =
     (record { sfits = at-known-told2 (at-edge-for c) .known-told2 .given .1 .0 .1 }) _ (at-edge-for c .edge-for .ensures)
 
 els-read : (c : tie.After-edge-for2 Inv-loop μ-loop)
-    → toZ w16 (ofZ w16 (c .edge-for2 .result)) ≡ edgeFor
+    → toZ edgeWidth (ofZ edgeWidth (c .edge-for2 .result)) ≡ edgeFor
     (take (at-loop (line-at-before-edge-for2 c) .loop .n) (at-loop (line-at-before-edge-for2 c) .loop .edges))
     (at-known-told2 (at-edge-for c) .before .p .given .0 .1 .1 .0)
 els-read c =
@@ -270,7 +270,7 @@ loop-less-2 c = omega (arith, line-at-before-known-told3 c .before .before .if1 
 
 loop-again-2 : tie.Need-loop-again-2 Inv-loop μ-loop
 loop-again-2 c = (
-  rw (toZ-ofZ w16 (c .before .made .given .0 .0) (record { sfits = c .known-told3 .given .0 .1 }))
+  rw (toZ-ofZ edgeWidth (c .before .made .given .0 .0) (record { sfits = c .known-told3 .given .0 .1 }))
       (progress-inner _ _ _ _ _ _ _ _ _ _ _ (loop-before-slice-known9 (slice-known9-before-known-told3 c) .loop .inv .0)
       (omega (arith, line-at-before-known-told3 c .before .before .if1 .taken)) _ _ _
       (judged (known-told2-before-slice-known9 (slice-known9-before-known-told3 c))) _ _

@@ -5,7 +5,7 @@ use native.Mathlib.Omega.{arith}
 use borrow.Author.Needs.{needs}
 use borrow.Author.Tests.{not-true, not-false}
 use lib.ListN.{getD}
-use mir.Syntax.{w16}
+use Rattle.edges.specs.Width.{edgeWidth}
 use mir.ValLaws.{toZ-ofZ}
 use Rattle.store.specs.Store.{Store, store, slots}
 use Rattle.store.specs.Rules.{limits}
@@ -52,7 +52,7 @@ abbrev σ : tie.Start → Store
 sought : (c : tie.After-seek)
     → Sought (start c .args .width) (slots (start c .args .level .now) (start c .args .then .now) (start c .args .els .now))
     (start c .args .count .now) (start c .args .index .now) (start c .args .l) (start c .args .t) (start c .args .e) (c .seek .result)
-sought c = rw (toZ-ofZ w16 (start c .args .t) (start c .fits .t), toZ-ofZ w16 (start c .args .e) (start c .fits .e)) at (c .seek .ensures)
+sought c = rw (toZ-ofZ edgeWidth (start c .args .t) (start c .fits .t), toZ-ofZ edgeWidth (start c .args .e) (start c .fits .e)) at (c .seek .ensures)
 
 saw : (c : tie.After-seek) → getD (start c .args .index .now) (c .seek .result) 0 ≡ find (σ (start c)) (start c .args .l) (start c .args .t) (start c .args .e)
 saw c = known-find _ (σ (start c)) _ (start c .pre .1) (start c .pre .0) _ _ _ _ (sought c)
@@ -163,7 +163,7 @@ returns-3 c =
     let p = has-room-before-slice-known8 c .has-room .ensures in
     let y = not-false _ (at-edge-to2 (at-put-node c .before) .before .if2 .left) in
     let m = room-true limits (σ s) (sym p ∙ y) in
-    let g = rw (toZ-ofZ w16 (s .args .t) (s .fits .t), toZ-ofZ w16 (s .args .e) (s .fits .e)) at
+    let g = rw (toZ-ofZ edgeWidth (s .args .t) (s .fits .t), toZ-ofZ edgeWidth (s .args .e) (s .fits .e)) at
     (c .before .before .before .before .before .before .before .before .put-node .ensures) in
     let r = insert-new limits (σ s) _ _ _ _ (saw (at-seek (has-room-before-slice-known8 c)))
     (has-room-before-slice-known8 c .before .before .if1 .left) _ p y _

@@ -4,7 +4,7 @@ use mathlib.Core.Path.{_≡_, _∙_}
 use mathlib.Core.List.{[]}
 use native.Mathlib.Omega.{arith}
 use lib.IntN.{natAbs}
-use mir.Syntax.{w16}
+use Rattle.edges.specs.Width.{edgeWidth}
 use Rattle.edges.proofs.Signed.{abs-back}
 use Rattle.store.specs.Store.{store}
 use Rattle.store.specs.Keeps.{says-no}
@@ -20,7 +20,7 @@ magnitude-requires : tie.Need-magnitude-requires
 magnitude-requires c κs = search needs
 
 child : (c : tie.After-magnitude) → c .magnitude .result ≡ natAbs (c .before .before .args .e)
-child c = c .magnitude .ensures ∙ abs-back w16 (c .before .before .args .e) (c .before .before .fits .e)
+child c = c .magnitude .ensures ∙ abs-back edgeWidth (c .before .before .args .e) (c .before .before .fits .e)
 
 returns : tie.Need-returns
 returns c = says-no (λ w. omega (arith, w .some, child (c .before)))

@@ -7,7 +7,7 @@ use Prim.Native.Nat.{_+_, _-_}
 use native.Mathlib.Omega.{arith}
 use lib.ListN.{getD}
 use lib.IntN.{pos}
-use mir.Syntax.{w16}
+use Rattle.edges.specs.Width.{edgeWidth}
 use mir.ValLaws.{toZ-ofZ}
 use Rattle.store.specs.Store.{store}
 use Rattle.store.specs.Rules.{Fits}
@@ -70,9 +70,9 @@ said : (c : tie.After-node-fits Inv-loop μ-loop) → Decides (c .node-fits .res
     (getD (start-before-node-fits c .args .els .now) (at-loop c .loop .n - 1) (pos 0)))
 said c = decides-as (fits-same _ _ refl refl _ _ _ _) (fits-same _ _ refl refl _ _ _ _)
     (rw (
-      toZ-ofZ w16 (getD (start-before-node-fits c .args .then .now) (at-loop c .loop .n - 1) (pos 0))
+      toZ-ofZ edgeWidth (getD (start-before-node-fits c .args .then .now) (at-loop c .loop .n - 1) (pos 0))
           (record { sfits = c .before .before .t .given }),
-      toZ-ofZ w16 (getD (start-before-node-fits c .args .els .now) (at-loop c .loop .n - 1) (pos 0)) (record { sfits = c .before .e .given }),
+      toZ-ofZ edgeWidth (getD (start-before-node-fits c .args .els .now) (at-loop c .loop .n - 1) (pos 0)) (record { sfits = c .before .e .given }),
     ) at (c .node-fits .ensures))
 
 returns : tie.Need-returns Inv-loop μ-loop

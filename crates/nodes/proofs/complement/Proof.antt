@@ -1,12 +1,12 @@
 -- `complement` meets its contract: an edge has an opposite, and both are read back as they are.
-use mir.Syntax.{w16}
+use Rattle.edges.specs.Width.{edgeWidth}
 use mir.ValLaws.{toZ-ofZ}
 use Rattle.nodes.proofs.Opposite.{opposite, itself}
 use Rattle.nodes.proofs.complement.Statement.{statement}
 use Rattle.nodes.proofs.complement.Tie as tie
 
 negate-requires : tie.Need-negate-requires
-negate-requires c κs = rw (toZ-ofZ w16 (c .before .args .e) (c .before .fits .e)) (c .before .pre)
+negate-requires c κs = rw (toZ-ofZ edgeWidth (c .before .args .e) (c .before .fits .e)) (c .before .pre)
 
 returns : tie.Need-returns
 returns c = let s = c .before .before in opposite (s .args .minus) (s .args .e) (s .pre) _ (c .before .if1 .taken) (c .negate .ensures)

@@ -3,7 +3,7 @@
 use mathlib.Core.Path.{_≡_, ap}
 use native.Mathlib.Omega.{arith}
 use borrow.Author.Needs.{needs}
-use mir.Syntax.{w16}
+use Rattle.edges.specs.Width.{edgeWidth}
 use mir.ValLaws.{toZ-ofZ}
 use Rattle.codes.specs.Answer.{value}
 use Rattle.edges.specs.Edge.{IsEdge, minus, eqZ}
@@ -50,10 +50,10 @@ else-edge s = omega (arith, s .pre .children .else-there, s .pre .rules .sizes .
 compared : (c : tie.After-same) → let s = at-start c in c .same .result ≡ eqZ (s .args .t) (s .args .e)
 compared c =
     let s = at-start c in
-    rw (toZ-ofZ w16 (s .args .t) (s .fits .t), toZ-ofZ w16 (s .args .e) (s .fits .e)) at (c .same .ensures)
+    rw (toZ-ofZ edgeWidth (s .args .t) (s .fits .t), toZ-ofZ edgeWidth (s .args .e) (s .fits .e)) at (c .same .ensures)
 
 signed : (c : tie.After-is-minus) → let s = at-start (at-same c) in c .is-minus .result ≡ minus (s .args .t)
-signed c = let s = at-start (at-same c) in rw (toZ-ofZ w16 (s .args .t) (s .fits .t)) at (c .is-minus .ensures)
+signed c = let s = at-start (at-same c) in rw (toZ-ofZ edgeWidth (s .args .t) (s .fits .t)) at (c .is-minus .ensures)
 
 same-requires : tie.Need-same-requires
 same-requires c κs = search needs
@@ -62,17 +62,17 @@ returns : tie.Need-returns
 returns c =
     let s = at-start (c .before) in
     let r = make-child limits (σ s) _ (s .args .t) (s .args .e) _ (compared (c .before)) (c .if1 .taken) _
-    (ap value (toZ-ofZ w16 (s .args .t) (s .fits .t))) in
+    (ap value (toZ-ofZ edgeWidth (s .args .t) (s .fits .t))) in
     record { answer = r .0; store = r .1; known = s .pre .known }
 
 is-minus-requires : tie.Need-is-minus-requires
 is-minus-requires c κs = search needs
 
 complement-requires : tie.Need-complement-requires
-complement-requires c κs = let s = at-start (at-same c) in rw (toZ-ofZ w16 (s .args .t) (s .fits .t)) (then-edge s)
+complement-requires c κs = let s = at-start (at-same c) in rw (toZ-ofZ edgeWidth (s .args .t) (s .fits .t)) (then-edge s)
 
 complement-requires-2 : tie.Need-complement-requires-2
-complement-requires-2 c κs = let s = at-start (at-same (c .before)) in rw (toZ-ofZ w16 (s .args .e) (s .fits .e)) (else-edge s)
+complement-requires-2 c κs = let s = at-start (at-same (c .before)) in rw (toZ-ofZ edgeWidth (s .args .e) (s .fits .e)) (else-edge s)
 
 insert-requires : tie.Need-insert-requires
 insert-requires c κs = let s = at-start (same-before-insert-call c) in (s .pre .rules, s .pre .known)

@@ -7,7 +7,7 @@ use native.Mathlib.Omega.{arith}
 use borrow.Author.Needs.{needs}
 use lib.ListN.{length, getD}
 use lib.IntN.{natAbs, pos}
-use mir.Syntax.{w16}
+use Rattle.edges.specs.Width.{edgeWidth}
 use Rattle.edges.proofs.Signed.{abs-back}
 use Rattle.codes.specs.Lent.{laid}
 use Rattle.store.specs.Store.{store}
@@ -54,7 +54,7 @@ magnitude-requires c κs = search needs
 node : (c : tie.After-magnitude Inv-loop μ-loop)
     → c .magnitude .result ≡ natAbs (getD (at-start (in-loop c .before) .args .roots .now) (in-loop c .before .loop .i) (pos 0))
 node c =
-    c .magnitude .ensures ∙ abs-back w16 (getD (at-start (in-loop c .before) .args .roots .now) (in-loop c .before .loop .i) (pos 0))
+    c .magnitude .ensures ∙ abs-back edgeWidth (getD (at-start (in-loop c .before) .args .roots .now) (in-loop c .before .loop .i) (pos 0))
     (record { sfits = c .before .magnitude-arg .given })
 
 meet-requires : tie.Need-meet-requires Inv-loop μ-loop

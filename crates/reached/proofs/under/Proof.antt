@@ -4,7 +4,7 @@ use Prim.Native.Nat.{_-_}
 use borrow.Author.Needs.{needs}
 use lib.ListN.{getD}
 use lib.IntN.{pos}
-use mir.Syntax.{w16}
+use Rattle.edges.specs.Width.{edgeWidth}
 use Rattle.edges.proofs.Signed.{abs-back}
 use Rattle.reached.proofs.under.Statement.{statement}
 use Rattle.reached.proofs.under.Tie as tie
@@ -24,7 +24,7 @@ magnitude-requires c κs = search needs
 returns : tie.Need-returns
 returns c =
     let a = c .before .before .args in
-    c .magnitude .ensures ∙ abs-back w16 (getD (a .links .now) (a .n - 1) (pos 0)) (record { sfits = c .before .magnitude-arg .given })
+    c .magnitude .ensures ∙ abs-back edgeWidth (getD (a .links .now) (a .n - 1) (pos 0)) (record { sfits = c .before .magnitude-arg .given })
 
 pub under-spec : {M : Type 1} → statement M
 under-spec =

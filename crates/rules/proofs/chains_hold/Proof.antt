@@ -6,7 +6,7 @@ use Prim.Native.Nat.{_+_, _-_, _<_}
 use native.Mathlib.Omega.{arith}
 use lib.ListN.{getD, getD-replicate}
 use lib.IntN.{pos}
-use mir.Syntax.{w16}
+use Rattle.edges.specs.Width.{edgeWidth}
 use mir.ValLaws.{toZ-ofZ}
 use Rattle.store.specs.Store.{store}
 use Rattle.store.specs.Rules.{bucket}
@@ -75,9 +75,9 @@ own : (c : tie.After-bucket Inv-loop μ-loop) → c .bucket .result
 unfolding bucket
 own c =
     rw (
-      toZ-ofZ w16 (getD (start-before-bucket c .args .then .now) (in-loop c .before .loop .n - 1) (pos 0))
+      toZ-ofZ edgeWidth (getD (start-before-bucket c .args .then .now) (in-loop c .before .loop .n - 1) (pos 0))
           (record { sfits = c .before .before .t .given }),
-      toZ-ofZ w16 (getD (start-before-bucket c .args .els .now) (in-loop c .before .loop .n - 1) (pos 0)) (record { sfits = c .before .e .given }),
+      toZ-ofZ edgeWidth (getD (start-before-bucket c .args .els .now) (in-loop c .before .loop .n - 1) (pos 0)) (record { sfits = c .before .e .given }),
     ) at (c .bucket .ensures)
 
 low : (c : tie.After-bucket Inv-loop μ-loop) → c .bucket .result < 256

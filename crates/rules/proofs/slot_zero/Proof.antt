@@ -4,7 +4,7 @@ use mathlib.Core.Path.{_≡_, sym, ap, _∙_}
 use Prim.Native.Nat.{_-_}
 use lib.ListN.{getD}
 use lib.IntN.{pos, natAbs}
-use mir.Syntax.{w16}
+use Rattle.edges.specs.Width.{edgeWidth}
 use Rattle.edges.proofs.Signed.{abs-back}
 use Rattle.store.specs.Keeps.{says-yes, says-no}
 use Rattle.rules.proofs.Zeros.{abs-zero}
@@ -54,7 +54,7 @@ magnitude-requires c κs = search needs
 then-abs : (c : tie.After-magnitude)
     → c .magnitude .result ≡ natAbs (getD (at-start (at-else1 c) .args .then .now) (at-start (at-else1 c) .args .n - 1) (pos 0))
 then-abs c =
-    c .magnitude .ensures ∙ abs-back w16 (getD (at-start (at-else1 c) .args .then .now) (at-start (at-else1 c) .args .n - 1) (pos 0))
+    c .magnitude .ensures ∙ abs-back edgeWidth (getD (at-start (at-else1 c) .args .then .now) (at-start (at-else1 c) .args .n - 1) (pos 0))
     (record { sfits = c .before .t .given })
 
 returns-3 : tie.Need-returns-3
@@ -73,7 +73,7 @@ else-abs : (c : tie.After-magnitude2)
     → c .magnitude2 .result ≡ natAbs
     (getD (at-start (at-else1 (at-magnitude c)) .args .els .now) (at-start (at-else1 (at-magnitude c)) .args .n - 1) (pos 0))
 else-abs c =
-    c .magnitude2 .ensures ∙ abs-back w16
+    c .magnitude2 .ensures ∙ abs-back edgeWidth
     (getD (at-start (at-else1 (at-magnitude c)) .args .els .now) (at-start (at-else1 (at-magnitude c)) .args .n - 1) (pos 0))
     (record { sfits = c .before .e .given })
 

@@ -1,7 +1,7 @@
 -- `drop_node` meets its contract: its stores are those of `dropped`.
 use borrow.Author.Needs.{needs}
 use native.Mathlib.Omega.{arith}
-use mir.Syntax.{w16}
+use Rattle.edges.specs.Width.{edgeWidth}
 use mir.ValLaws.{toZ-ofZ}
 use Rattle.store.specs.Store.{Store, store, thenAt, elseAt}
 use Rattle.store.proofs.Chain.{bucket-under}
@@ -101,8 +101,8 @@ returns c =
     let s = at-start c in
     let n = s .args .count .now in
     slot-cleared (σ s) _ _ _
-    (toZ-ofZ w16 (thenAt (σ s) n) (record { sfits = c .before .before .before .t .given }))
-    (toZ-ofZ w16 (elseAt (σ s) n) (record { sfits = c .before .before .e .given })) (c .before .bucket .ensures)
+    (toZ-ofZ edgeWidth (thenAt (σ s) n) (record { sfits = c .before .before .before .t .given }))
+    (toZ-ofZ edgeWidth (elseAt (σ s) n) (record { sfits = c .before .before .e .given })) (c .before .bucket .ensures)
 
 pub drop-node-spec : {M : Type 1} → statement M
 drop-node-spec =

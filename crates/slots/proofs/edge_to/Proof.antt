@@ -1,7 +1,7 @@
 -- `edge_to` meets its contract: the number of a node fits an edge.
 use borrow.Author.Needs.{needs}
 use lib.IntN.{pos}
-use mir.Syntax.{w16}
+use Rattle.edges.specs.Width.{edgeWidth}
 use Rattle.edges.proofs.Signed.{edge-back}
 use Rattle.slots.proofs.edge_to.Statement.{statement}
 use Rattle.slots.proofs.edge_to.Tie as tie
@@ -10,7 +10,7 @@ cast-result : tie.Need-cast-result
 cast-result c = search needs
 
 returns : tie.Need-returns
-returns c = edge-back w16 (pos (c .args .n)) (c .pre)
+returns c = edge-back edgeWidth (pos (c .args .n)) (c .pre)
 
 pub edge-to-spec : {M : Type 1} → statement M
 edge-to-spec = tie.close (tie.spec cast-result returns)

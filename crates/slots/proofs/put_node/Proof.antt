@@ -1,7 +1,7 @@
 -- `put_node` meets its contract: its stores are those of `added`.
 use borrow.Author.Needs.{needs}
 use native.Mathlib.Omega.{arith}
-use mir.Syntax.{w16}
+use Rattle.edges.specs.Width.{edgeWidth}
 use mir.ValLaws.{toZ-ofZ}
 use Rattle.store.specs.Store.{Store, store}
 use Rattle.store.proofs.Chain.{bucket-under}
@@ -81,7 +81,7 @@ same-length-5 c = search needs
 returns : tie.Need-returns
 returns c =
     let s = at-start c in
-    slot-filled (σ s) _ _ (s .args .t) _ (s .args .e) _ (toZ-ofZ w16 (s .args .t) (s .fits .t)) (toZ-ofZ w16 (s .args .e) (s .fits .e))
+    slot-filled (σ s) _ _ (s .args .t) _ (s .args .e) _ (toZ-ofZ edgeWidth (s .args .t) (s .fits .t)) (toZ-ofZ edgeWidth (s .args .e) (s .fits .e))
     (c .before .before .bucket .ensures)
 
 pub put-node-spec : {M : Type 1} → statement M

@@ -5,7 +5,7 @@ use Prim.Native.Nat.{_+_, _-_}
 use native.Mathlib.Omega.{arith}
 use borrow.Author.Needs.{needs}
 use lib.ListN.{length}
-use mir.Syntax.{w16}
+use Rattle.edges.specs.Width.{edgeWidth}
 use mir.ValLaws.{toZ-ofZ}
 use Rattle.store.specs.Store.{Store, slots, levelAt, thenAt, elseAt}
 use Rattle.store.specs.Keeps.{says-yes, says-no}
@@ -32,8 +32,8 @@ sought c =
     let s = c .before .before .before .before .before .before .before .before .before in
     let n = c .before .before .before .before .before .before .loop .n in
     rw (
-      toZ-ofZ w16 (thenAt (σ s) n) (record { sfits = c .before .before .before .t .given }),
-      toZ-ofZ w16 (elseAt (σ s) n) (record { sfits = c .before .before .e .given }),
+      toZ-ofZ edgeWidth (thenAt (σ s) n) (record { sfits = c .before .before .before .t .given }),
+      toZ-ofZ edgeWidth (elseAt (σ s) n) (record { sfits = c .before .before .e .given }),
     ) at (c .seek .ensures)
 
 loop-holds : tie.Need-loop-holds Inv-loop μ-loop

@@ -3,7 +3,7 @@ use mathlib.Core.Path.{ap, _∙_}
 use native.Mathlib.Nat.{mod-lt}
 use borrow.Author.Needs.{needs}
 use lib.Dec.{lit<}
-use mir.Syntax.{w16}
+use Rattle.edges.specs.Width.{edgeWidth, edgeBits}
 use mir.ValLaws.{toZ-ofZ}
 use Rattle.edges.specs.Edge.{bits}
 use Rattle.unique_table.proofs.Mixed.{head-is, part-fits}
@@ -43,7 +43,7 @@ mul-result c = record { fits = part-fits _ _ (mod-lt _ (lit< tt)) (c .before .be
 returns : tie.Need-returns
 returns c =
     let s = c .before .before in
-    head-is _ _ _ _ _ _ (c .before .pattern .ensures ∙ ap (bits 16) (toZ-ofZ w16 (s .args .t) (s .fits .t))) (c .pattern2 .ensures ∙ ap (bits 16) (toZ-ofZ w16 (s .args .e) (s .fits .e)))
+    head-is _ _ _ _ _ _ (c .before .pattern .ensures ∙ ap (bits edgeBits) (toZ-ofZ edgeWidth (s .args .t) (s .fits .t))) (c .pattern2 .ensures ∙ ap (bits edgeBits) (toZ-ofZ edgeWidth (s .args .e) (s .fits .e)))
 
 pub head-spec : {M : Type 1} → statement M
 head-spec =

@@ -1,7 +1,7 @@
 -- `holds_at` meets its contract: the three tests in turn are the three of `holds`.
 use mathlib.Core.Path.{_≡_}
 use borrow.Author.Needs.{needs}
-use mir.Syntax.{w16}
+use Rattle.edges.specs.Width.{edgeWidth}
 use mir.ValLaws.{toZ-ofZ}
 use Rattle.edges.specs.Edge.{eqZ}
 use Rattle.store.specs.Store.{Store, slots, thenAt, elseAt}
@@ -48,13 +48,13 @@ then-same : (c : tie.After-same)
     → let s = c .before .before .before .before .before in c .same .result ≡ eqZ (thenAt (σ s) (s .args .n)) (s .args .t)
 then-same c =
     let s = c .before .before .before .before .before in
-    rw (toZ-ofZ w16 (thenAt (σ s) (s .args .n)) (record { sfits = c .before .x .given }), toZ-ofZ w16 (s .args .t) (s .fits .t)) at (c .same .ensures)
+    rw (toZ-ofZ edgeWidth (thenAt (σ s) (s .args .n)) (record { sfits = c .before .x .given }), toZ-ofZ edgeWidth (s .args .t) (s .fits .t)) at (c .same .ensures)
 
 else-same : (c : tie.After-same2)
     → let s = c .before .before .before .before .before .before .before .before in c .same2 .result ≡ eqZ (elseAt (σ s) (s .args .n)) (s .args .e)
 else-same c =
     let s = c .before .before .before .before .before .before .before .before in
-    rw (toZ-ofZ w16 (elseAt (σ s) (s .args .n)) (record { sfits = c .before .y .given }), toZ-ofZ w16 (s .args .e) (s .fits .e)) at (c .same2 .ensures)
+    rw (toZ-ofZ edgeWidth (elseAt (σ s) (s .args .n)) (record { sfits = c .before .y .given }), toZ-ofZ edgeWidth (s .args .e) (s .fits .e)) at (c .same2 .ensures)
 
 returns : tie.Need-returns
 returns c =

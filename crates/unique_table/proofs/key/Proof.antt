@@ -1,7 +1,7 @@
 -- `key` meets its contract: its sum is the key's.
 use mathlib.Core.Path.{ap, _∙_}
 use borrow.Author.Needs.{needs}
-use mir.Syntax.{w16}
+use Rattle.edges.specs.Width.{edgeWidth, edgeBits}
 use mir.ValLaws.{toZ-ofZ}
 use Rattle.edges.specs.Edge.{bits}
 use Rattle.unique_table.proofs.Mixed.{key-is}
@@ -35,7 +35,7 @@ add-result-2 c = search needs
 returns : tie.Need-returns
 returns c =
     let s = c .before .before in
-    key-is _ _ _ _ _ (c .before .pattern .ensures ∙ ap (bits 16) (toZ-ofZ w16 (s .args .e) (s .fits .e))) (c .pattern2 .ensures ∙ ap (bits 16) (toZ-ofZ w16 (s .args .t) (s .fits .t)))
+    key-is _ _ _ _ _ (c .before .pattern .ensures ∙ ap (bits edgeBits) (toZ-ofZ edgeWidth (s .args .e) (s .fits .e))) (c .pattern2 .ensures ∙ ap (bits edgeBits) (toZ-ofZ edgeWidth (s .args .t) (s .fits .t)))
 
 pub key-spec : {M : Type 1} → statement M
 key-spec =

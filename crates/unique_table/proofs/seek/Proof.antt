@@ -4,7 +4,7 @@ use Prim.Native.Nat.{ℕ, _≤_, _<_}
 use native.Mathlib.Omega.{arith}
 use borrow.Author.Needs.{needs}
 use lib.ListN.{length}
-use mir.Syntax.{w16}
+use Rattle.edges.specs.Width.{edgeWidth}
 use mir.Val.{toZ, ofZ}
 use mir.ValLaws.{toZ-ofZ}
 use Rattle.store.specs.Store.{Store, slots}
@@ -16,7 +16,7 @@ use Rattle.unique_table.proofs.seek.Tie as tie
 
 abbrev Inv-loop : tie.InvT-loop
 Inv-loop index width count level then els l t e k₀ at₀ n₀ k at n =
-    Seeking width (slots level then els) count index l (toZ w16 t) (toZ w16 e) k at n
+    Seeking width (slots level then els) count index l (toZ edgeWidth t) (toZ edgeWidth e) k at n
 
 abbrev μ-loop : tie.MeasureT-loop
 μ-loop index width count level then els l t e k₀ at₀ n₀ k at n = rest count n
@@ -27,15 +27,15 @@ abbrev σ : tie.Start Inv-loop μ-loop → Store
 
 -- the answer, said of the edges themselves
 of-edges : (s : tie.Start Inv-loop μ-loop) (r : ℕ)
-    → Sought (s .args .width) (σ s) (s .args .count) (s .args .index .now) (s .args .l) (toZ w16 (ofZ w16 (s .args .t))) (toZ w16 (ofZ w16 (s .args .e))) r
+    → Sought (s .args .width) (σ s) (s .args .count) (s .args .index .now) (s .args .l) (toZ edgeWidth (ofZ edgeWidth (s .args .t))) (toZ edgeWidth (ofZ edgeWidth (s .args .e))) r
     → Sought (s .args .width) (σ s) (s .args .count) (s .args .index .now) (s .args .l) (s .args .t) (s .args .e) r
-of-edges s r h = rw (toZ-ofZ w16 (s .args .t) (s .fits .t), toZ-ofZ w16 (s .args .e) (s .fits .e)) at h
+of-edges s r h = rw (toZ-ofZ edgeWidth (s .args .t) (s .fits .t), toZ-ofZ edgeWidth (s .args .e) (s .fits .e)) at h
 
 -- the head can be read
 head-within : (c : tie.After-head Inv-loop μ-loop) → c .head .result < length (c .before .before .before .before .args .index .now)
 head-within c =
     let s = c .before .before .before .before in
-    omega (arith, c .head .ensures, head-below (s .args .width) (s .args .l) (toZ w16 (ofZ w16 (s .args .t))) (toZ w16 (ofZ w16 (s .args .e))) (s .pre .0 .some), s .pre .0 .room)
+    omega (arith, c .head .ensures, head-below (s .args .width) (s .args .l) (toZ edgeWidth (ofZ edgeWidth (s .args .t))) (toZ edgeWidth (ofZ edgeWidth (s .args .e))) (s .pre .0 .some), s .pre .0 .room)
 
 -- in a turn a node is met: one of the index
 met-low : (c : tie.In-loop Inv-loop μ-loop) → 2 ≤ c .before .loop .n

@@ -25,9 +25,6 @@ module _ (P : ℕ → Type 0) {A : Type 0} where
   step-refuses (fails n) h = h n refl
 
   -- and the other way
-  pub refuses-read : {r : Read A} {n : ℕ} → ReadRefuses r → r ≡ refused n → P n
-  refuses-read h e = subst ReadRefuses e h
-
   pub refuses-step : {s : Step A} {n : ℕ} → StepRefuses s → s ≡ fails n → P n
   refuses-step h e = subst StepRefuses e h
 

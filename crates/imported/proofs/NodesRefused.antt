@@ -1,4 +1,4 @@
--- The nodes of a file are refused with a number and a line exactly where they are refused so. Document 01, 'Answers, by who can cause them'.
+-- The nodes of a file are refused with a number and a line exactly where `NodesRefused` has a case for it. Document 01, 'Answers, by who can cause them'.
 use mathlib.Core.Path.{_≡_, refl, sym, ap, _∙_}
 use mathlib.Core.Logic.{_⊎_, inl, inr, ⊎-elim, _↔_}
 use mathlib.Core.Bool.{Bool, true, false, cond, not, _&&_}
@@ -83,7 +83,7 @@ module _ (u : Setup) (σ : Store) (f : List ℕ) (at : ℕ) (ids : List ℤ) (R 
   as-refused (binary {k = k} {n = n} r a p m) = room-answer (stopped k n) r p ∙ rw a
   as-refused (unended {next = next} r p e) = room-answer (allRead next) r p ∙ rw e
 
-  -- The nodes of a file are refused with a number and a line exactly where they are refused so.
+  -- The nodes of a file are refused with a number and a line exactly where `NodesRefused` has a case for it.
   pub refused-nodes : (k line : ℕ) → (importOf u σ f at ids .answer ≡ refusal k line) ↔ NodesRefused u σ f at k line
   refused-nodes k line = (λ q. refused-as q, λ n. as-refused n)
 

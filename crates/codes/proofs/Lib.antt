@@ -4,3 +4,4 @@ pub mod Bytes
 pub mod Faults
 pub mod Refusals
 pub mod Numbers
+pub mod LimitsNow

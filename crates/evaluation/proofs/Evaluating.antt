@@ -15,7 +15,8 @@ use mir.Val.{SFits, toZ, ofZ}
 use mir.ValLaws.{toZ-ofZ}
 use Rattle.codes.specs.Answer.{value, refused}
 use Rattle.store.specs.Store.{Store, slots}
-use Rattle.store.specs.Rules.{limits, Rules}
+use Rattle.codes.specs.Limits.{limits}
+use Rattle.store.specs.Rules.{Rules}
 use Rattle.store.specs.Meaning.{settingOf, answer}
 use Rattle.store.specs.Keeps.{keeps, keeps-true}
 use Rattle.evaluation.specs.Evaluation.{onlyBits, isRoot, isSetting, evaluation}

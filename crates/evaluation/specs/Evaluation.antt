@@ -7,7 +7,7 @@ use lib.ListN.{length}
 use lib.IntN.{ℤ, natAbs}
 use Rattle.codes.specs.Answer.{Read, value, refused}
 use Rattle.store.specs.Store.{Store}
-use Rattle.store.specs.Rules.{Limits}
+use Rattle.codes.specs.Limits.{Limits}
 use Rattle.store.specs.Keeps.{keeps}
 use Rattle.store.specs.Meaning.{settingOf, answer}
 

@@ -3,7 +3,7 @@ use Prim.Native.Nat.{ℕ}
 use mathlib.Core.Path.{_≡_}
 use mathlib.Core.List.{List}
 use lib.IntN.{ℤ}
-use Rattle.store.specs.Rules.{limits}
+use Rattle.codes.specs.Limits.{limits}
 use Rattle.codes.specs.Lent.{Part, old}
 use Rattle.store.specs.Lent.{oldStore}
 use Rattle.evaluation.specs.declared.Evaluation.{Evaluation}

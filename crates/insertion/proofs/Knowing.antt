@@ -6,9 +6,9 @@ use native.Mathlib.Omega.{arith}
 use mathlib.Core.List.{List}
 use lib.ListN.{length, getD, set, length-set}
 use lib.IntN.{ℤ}
-use Rattle.codes.specs.Limits.{nodeLimit}
+use Rattle.codes.specs.Limits.{limits, nodeLimit}
 use Rattle.store.specs.Store.{Store, slots}
-use Rattle.store.specs.Rules.{Rules, limits}
+use Rattle.store.specs.Rules.{Rules}
 use Rattle.store.specs.Make.{find, added}
 use Rattle.store.proofs.Chain.{added-agree}
 use Rattle.store.proofs.Added.{added-holds, added-length}

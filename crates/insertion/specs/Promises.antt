@@ -5,7 +5,7 @@ use mathlib.Core.List.{List}
 use lib.IntN.{ℤ}
 use Rattle.codes.specs.Lent.{Part, old, new}
 use Rattle.store.specs.Store.{Store}
-use Rattle.store.specs.Rules.{limits}
+use Rattle.codes.specs.Limits.{limits}
 use Rattle.store.specs.Lent.{oldStore, newStore}
 use Rattle.store.specs.Make as nodes
 use Rattle.insertion.specs.declared.Making.{Making}

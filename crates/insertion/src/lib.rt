@@ -1,6 +1,7 @@
 // A node with a positive then, found by the unique table or put into the next slot.
 ghost use Rattle.store.specs.Lent.{storeNow};
-ghost use Rattle.store.specs.Rules.{Rules, limits};
+ghost use Rattle.codes.specs.Limits.{limits};
+ghost use Rattle.store.specs.Rules.{Rules};
 ghost use Rattle.insertion.specs.Known.{KnownNodes};
 ghost use Rattle.insertion.specs.Promises.{InsertPromise};
 use edges::Edge;

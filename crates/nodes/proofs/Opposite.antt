@@ -15,7 +15,8 @@ use Rattle.insertion.specs.declared.Making.{Making}
 use Rattle.insertion.specs.declared.Making.the-variants as making
 use Rattle.insertion.specs.Kinds.{ofMaking, Turns}
 use Rattle.store.specs.Store.{Store}
-use Rattle.store.specs.Rules.{Limits, Sizes, limits}
+use Rattle.codes.specs.Limits.{Limits, limits}
+use Rattle.store.specs.Rules.{Sizes}
 use Rattle.store.specs.Make.{roomFor, find, added, placedNode, insert, negated, turned, make, made, full}
 use Rattle.slots.proofs.Placed.{found-edge, new-edge}
 

@@ -5,7 +5,8 @@ use mathlib.Core.List.{List}
 use lib.IntN.{ℤ}
 use denote.Ref.{RefT, now}
 use Rattle.store.specs.Store.{Store}
-use Rattle.store.specs.Rules.{Rules, limits}
+use Rattle.codes.specs.Limits.{limits}
+use Rattle.store.specs.Rules.{Rules}
 use Rattle.codes.specs.Lent.{Part, old, new}
 use Rattle.store.specs.Lent.{storeNow, oldStore, newStore}
 use Rattle.store.specs.Make as nodes

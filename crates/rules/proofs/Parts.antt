@@ -9,7 +9,8 @@ use lib.ListN.{length}
 use lib.IntN.{ℤ}
 use Rattle.edges.specs.Width.{edgeLimit}
 use Rattle.store.specs.Store.{store, slots}
-use Rattle.store.specs.Rules.{limits, Sizes, AlikeNodes, Nodes, bucket, Chains, Zero, Zeros}
+use Rattle.codes.specs.Limits.{limits}
+use Rattle.store.specs.Rules.{Sizes, AlikeNodes, Nodes, bucket, Chains, Zero, Zeros}
 use Rattle.store.specs.Keeps.{Decides, says-no, keeps, is-keeps}
 use Rattle.unique_table.specs.Index.{AllAlone}
 use Rattle.node_rules.specs.Check.{AllFit}

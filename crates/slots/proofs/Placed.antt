@@ -13,7 +13,8 @@ use Rattle.codes.specs.Answer.{Read, value, refused}
 use Rattle.edges.specs.Edge.{IsEdge, bucketOf}
 use Rattle.edges.proofs.Signed.{edge-back}
 use Rattle.store.specs.Store.{Store, store, levelAt, thenAt, elseAt, nextAt, headAt}
-use Rattle.store.specs.Rules.{Limits, Sizes, Rules, limits, bucket}
+use Rattle.codes.specs.Limits.{Limits, limits}
+use Rattle.store.specs.Rules.{Sizes, Rules, bucket}
 use Rattle.store.specs.Make.{added, dropped, back, roomFor, find, insert}
 use Rattle.store.proofs.Find.{find-some}
 use Rattle.store.proofs.Makes.{room-true}

@@ -10,7 +10,8 @@ use lib.Seq.{getD-set-other}
 use lib.IntN.{ℤ, pos}
 use Rattle.edges.specs.Edge.{bucketOf}
 use Rattle.store.specs.Store.{Store, levelAt, thenAt, elseAt, headAt}
-use Rattle.store.specs.Rules.{Limits, Sizes, Fits, AlikeNodes, Nodes, Zero, Zeros, Rules}
+use Rattle.codes.specs.Limits.{Limits}
+use Rattle.store.specs.Rules.{Sizes, Fits, AlikeNodes, Nodes, Zero, Zeros, Rules}
 use Rattle.store.specs.Make.{added}
 use Rattle.store.specs.Growth.{Grows}
 use Rattle.store.proofs.Growth.{grow-fits}

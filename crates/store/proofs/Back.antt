@@ -9,7 +9,8 @@ use lib.ListN.{length, length-set}
 use lib.Seq.{getD-set-same, getD-set-other}
 use lib.IntN.{pos}
 use Rattle.store.specs.Store.{Store}
-use Rattle.store.specs.Rules.{Limits, Sizes, Zero, Zeros, Rules}
+use Rattle.codes.specs.Limits.{Limits}
+use Rattle.store.specs.Rules.{Sizes, Zero, Zeros, Rules}
 use Rattle.store.specs.Make.{dropped, back}
 use Rattle.store.specs.Growth.{Grows}
 use Rattle.store.proofs.Growth.{grows-refl, grows-trans, fewer-nodes}

@@ -16,7 +16,8 @@ use lib.Seq.{getD-set-same, getD-set-other, ext-getD}
 use lib.IntN.{ℤ, pos}
 use Rattle.edges.specs.Edge.{bucketAt, bucketOf}
 use Rattle.store.specs.Store.{Store, store, levelAt, thenAt, elseAt, nextAt, headAt}
-use Rattle.store.specs.Rules.{Limits, Sizes, bucket, members, chain, Chains, Rules}
+use Rattle.codes.specs.Limits.{Limits}
+use Rattle.store.specs.Rules.{Sizes, bucket, members, chain, Chains, Rules}
 use Rattle.store.specs.Make.{added, dropped}
 
 -- the newest of the nodes 2 to k of bucket b, or 0

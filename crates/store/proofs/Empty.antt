@@ -7,9 +7,9 @@ use native.Mathlib.Omega.{arith}
 use native.Mathlib.Decide.{decLt}
 use lib.ListN.{getD, replicate, length-replicate, getD-replicate, List·getD-eq-default}
 use lib.IntN.{pos}
-use Rattle.codes.specs.Limits.{varLimit}
+use Rattle.codes.specs.Limits.{Limits, limits, varLimit}
 use Rattle.store.specs.Store.{headAt}
-use Rattle.store.specs.Rules.{Limits, limits, chain, members, Zero, Rules}
+use Rattle.store.specs.Rules.{chain, members, Zero, Rules}
 use Rattle.store.specs.Empty.{empty}
 
 zeros-at : {A : Type 0} (n i : ℕ) (a : A) → getD (replicate n a) i a ≡ a

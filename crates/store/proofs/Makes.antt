@@ -15,7 +15,8 @@ use Rattle.edges.specs.Edge.{minus, turn, eqZ}
 use Rattle.edges.proofs.Edge.{abs-neg, minus-neg, plain-is, eqZ-true, eqZ-false}
 use Rattle.store.specs.Store.{Store}
 use Rattle.store.specs.Meaning.{Setting, answer}
-use Rattle.store.specs.Rules.{Limits, Sizes, depth, Fits, Nodes, Rules}
+use Rattle.codes.specs.Limits.{Limits}
+use Rattle.store.specs.Rules.{Sizes, depth, Fits, Nodes, Rules}
 use Rattle.store.specs.Make.{find, added, Made, made, full, roomFor, placedNode, insert, negated, turned, make, Makes}
 use Rattle.store.specs.Growth.{EdgeOf, Grows}
 use Rattle.store.proofs.Meaning.{depth-node, node-step, opposite-edge, answer-opposite}

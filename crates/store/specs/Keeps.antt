@@ -10,7 +10,8 @@ use native.Mathlib.Decide.{map-dec, decLt, decLe, ℕ-discrete}
 use lib.IntN.{ℤ, pos, natAbs, ℤ-discrete}
 use lib.ListN.{length}
 use Rattle.store.specs.Store.{Store, levelAt, thenAt, elseAt}
-use Rattle.store.specs.Rules.{Limits, Sizes, depth, Fits, AlikeNodes, Nodes, Chains, Zero, Zeros, Rules}
+use Rattle.codes.specs.Limits.{Limits}
+use Rattle.store.specs.Rules.{Sizes, depth, Fits, AlikeNodes, Nodes, Chains, Zero, Zeros, Rules}
 
 -- an answer that is true exactly where P holds
 pub record Decides (r : Bool) (P : Type 0) : Type 0 where

@@ -8,7 +8,8 @@ use lib.IntN.{ℤ, pos, negℤ, natAbs}
 use Rattle.codes.specs.Answer.{Read, value, refused}
 use Rattle.edges.specs.Edge.{minus, eqZ, bucketOf}
 use Rattle.store.specs.Store.{Store, levelAt, thenAt, elseAt, nextAt, headAt}
-use Rattle.store.specs.Rules.{Limits, depth, bucket}
+use Rattle.codes.specs.Limits.{Limits}
+use Rattle.store.specs.Rules.{depth, bucket}
 
 -- does node n have this level, then and else?
 abbrev pub holds : Store → ℕ → ℤ → ℤ → ℕ → Bool

@@ -7,18 +7,9 @@ use mathlib.Core.List.{List, [], _∷_}
 use lib.Dec.{eqb}
 use lib.ListN.{length}
 use lib.IntN.{ℤ, pos, natAbs}
-use Rattle.codes.specs.Limits.{varLimit, nodeLimit}
+use Rattle.codes.specs.Limits.{Limits}
 use Rattle.edges.specs.Edge.{bucketOf}
 use Rattle.store.specs.Store.{Store, levelAt, thenAt, elseAt, nextAt, headAt}
-
--- The limits are parameters of the rules: an old store is judged by the limits of its time.
-pub record Limits : Type 0 where
-  pub nodes : ℕ
-  pub levels : ℕ
-
--- '32,767', and 'A store has at most 4,096 levels'
-abbrev pub limits : Limits
-limits = record { nodes = nodeLimit; levels = varLimit }
 
 pub record Sizes (m : Limits) (σ : Store) : Type 0 where
   -- 'the four slot lists are equally long'

@@ -8,7 +8,7 @@ use lib.ListN.{getD}
 use Rattle.edges.specs.Width.{edgeWidth}
 use mir.ValLaws.{toZ-ofZ}
 use Rattle.store.specs.Store.{Store, store, slots}
-use Rattle.store.specs.Rules.{limits}
+use Rattle.codes.specs.Limits.{limits}
 use Rattle.store.specs.Make.{find}
 use Rattle.store.proofs.Makes.{room-true}
 use Rattle.unique_table.specs.Index.{Sought}

@@ -8,7 +8,7 @@ use mir.ValLaws.{toZ-ofZ}
 use Rattle.codes.specs.Answer.{value}
 use Rattle.edges.specs.Edge.{IsEdge, minus, eqZ}
 use Rattle.store.specs.Store.{Store, store}
-use Rattle.store.specs.Rules.{limits}
+use Rattle.codes.specs.Limits.{limits}
 use Rattle.nodes.proofs.Opposite.{turned-back, insert-turns, make-child, make-answer, make-after}
 use Rattle.nodes.proofs.make.Statement.{statement}
 use Rattle.nodes.proofs.make.Tie as tie

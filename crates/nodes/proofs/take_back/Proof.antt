@@ -2,7 +2,7 @@
 -- it ends.
 use borrow.Author.Needs.{needs}
 use Rattle.store.specs.Store.{store}
-use Rattle.store.specs.Rules.{limits}
+use Rattle.codes.specs.Limits.{limits}
 use Rattle.slots.proofs.Placed.{Returning, return-start, return-more, return-less, return-end}
 use Rattle.nodes.proofs.take_back.Statement.{statement}
 use Rattle.nodes.proofs.take_back.Tie as tie

@@ -3,7 +3,8 @@ use borrow.Author.Needs.{needs}
 use borrow.Author.Tests.{not-true, not-false}
 use mathlib.Core.List.{[]}
 use Rattle.store.specs.Store.{store, slots}
-use Rattle.store.specs.Rules.{limits, Sizes, Chains}
+use Rattle.codes.specs.Limits.{limits}
+use Rattle.store.specs.Rules.{Sizes, Chains}
 use Rattle.unique_table.specs.Index.{AllAlone}
 use Rattle.node_rules.specs.Check.{AllFit}
 use Rattle.rules.proofs.Parts.{sizes-count, sizes-nodes, sizes-slots, sizes-lists, no-sizes, no-fit, no-chains, no-alone, by-zeros}

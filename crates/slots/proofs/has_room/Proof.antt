@@ -3,7 +3,7 @@ use mathlib.Core.List.{[]}
 use native.Mathlib.Omega.{arith}
 use borrow.Author.Needs.{needs}
 use Rattle.store.specs.Store.{Store, store}
-use Rattle.store.specs.Rules.{limits}
+use Rattle.codes.specs.Limits.{limits}
 use Rattle.slots.proofs.Placed.{no-slot, no-number, a-slot}
 use Rattle.slots.proofs.has_room.Statement.{statement}
 use Rattle.slots.proofs.has_room.Tie as tie

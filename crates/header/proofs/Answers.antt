@@ -4,6 +4,7 @@ use mathlib.Core.Bool.{Bool}
 use mathlib.Core.List.{List, map}
 use Prim.Native.Nat.{ℕ, zero, suc, _≤_}
 use lib.ListN.{length, replicate}
+use Rattle.codes.specs.Limits.{limits}
 use Rattle.codes.specs.declared.VarInfo.{VarInfo}
 use Rattle.codes.specs.Lent.{Part, old, new}
 use Rattle.header_lines.specs.Sweep.{Span, keys, spanStart, spanEnd, Table, EndWithin, atNodes, refusedAt, linesOf, endOf, sound, lasts}
@@ -45,7 +46,7 @@ header-read f t next lines ea v ev d ed en em es er = rw (ea, ev, ed, en, em, es
 -- What `judge` promises, as facts of its answer and the two lists that it leaves.
 abbrev pub Promised : ℕ → List ℕ → HeaderAnswer → List ℕ → List ℕ → Type 0
 Promised n f a starts ends =
-    (a ≡ after n f)
+    (a ≡ after limits n f)
     × ((starts ≡ map spanStart (tableBy f a))
     × ((ends ≡ map spanEnd (tableBy f a))
     × (Table f starts ends × (Settled f (tableBy f a) × NextWithin f a))))
@@ -68,7 +69,7 @@ module _ {n : ℕ} {f starts ends : Part (List ℕ)} {r : Loaded} where
   promised p = (p .answer, (p .starts-left, (p .ends-left, (p .table, (p .settled, p .within)))))
 
 -- a refusal leaves two lists of zeros
-refused : (n : ℕ) (f : List ℕ) (k line : ℕ) {starts ends : List ℕ} → refusal k line ≡ after n f
+refused : (n : ℕ) (f : List ℕ) (k line : ℕ) {starts ends : List ℕ} → refusal k line ≡ after limits n f
     → starts ≡ replicate keys 0 → ends ≡ replicate keys 0 → Promised n f (refusal k line) starts ends
 refused n f k line e p q = (e, (p, (q, (rw (p, q) (table-none f), (none-settled f, tt)))))
 
@@ -77,7 +78,7 @@ module _ (n : ℕ) (f : List ℕ) {starts ends : List ℕ} (p : starts ≡ repli
   pub refused-before : (n ≡ 0 → ⊥) → Promised n f (refusal n 0) starts ends
   refused-before h = refused n f n 0 (go n h) p q
     where
-      go : (m : ℕ) → (m ≡ 0 → ⊥) → refusal m 0 ≡ after m f
+      go : (m : ℕ) → (m ≡ 0 → ⊥) → refusal m 0 ≡ after limits m f
       go zero k = absurd (k refl)
       go (suc m) k = refl
 
@@ -98,7 +99,7 @@ SweptBy f s starts ends =
     × (EndWithin f (ofSwept s) × Table f starts ends)))
 
 -- nothing was found before: the lines decide
-judged-first : (n : ℕ) (f : List ℕ) → n ≡ 0 → after n f ≡ judgedHeader f (endOf f (linesOf f))
+judged-first : (n : ℕ) (f : List ℕ) → n ≡ 0 → after limits n f ≡ judgedHeader limits f (endOf f (linesOf f))
 unfolding readOf
 judged-first n f z = rw z
 
@@ -108,7 +109,7 @@ module _ (n : ℕ) (f : List ℕ) (z : n ≡ 0) {s : Swept} {ss es : List ℕ} (
       → starts ≡ replicate (length ss) 0 → ends ≡ replicate (length es) 0 → Promised n f (refusal k line) starts ends
   refused-line {k} {line} q a b =
       let e : endOf f (linesOf f) ≡ refusedAt k line = sym (w .0) ∙ ap ofSwept q in
-      refused n f k line (sym (judged-first n f z ∙ ap (judgedHeader f) e))
+      refused n f k line (sym (judged-first n f z ∙ ap (judgedHeader limits f) e))
       (cleared a (w .1 .1 .1 .1 .starts-long))
       (cleared b (w .1 .1 .1 .1 .ends-long))
 
@@ -118,8 +119,8 @@ module _ (n : ℕ) (f : List ℕ) (z : n ≡ 0) {s : Swept} {ss es : List ℕ} (
     ended = sym (w .0) ∙ ap ofSwept q
 
     -- the header as a whole decides
-    decided : after n f ≡ settled f (tableOf f) next lines (wholeFault f (tableOf f))
-    decided = judged-first n f z ∙ ap (judgedHeader f) ended
+    decided : after limits n f ≡ settled f (tableOf f) next lines (wholeFault limits f (tableOf f))
+    decided = judged-first n f z ∙ ap (judgedHeader limits f) ended
 
     -- the lines before `.nodes` are all sound, so that the table is that of the file
     table-all : lasts (sound f (linesOf f)) ≡ tableOf f
@@ -130,10 +131,10 @@ module _ (n : ℕ) (f : List ℕ) (z : n ≡ 0) {s : Swept} {ss es : List ℕ} (
     swept-spans : spans ss es ≡ tableOf f
     swept-spans = spans-of (w .1 .0) (w .1 .1 .0) ∙ table-all
 
-    module _ {m : ℕ} (g : m ≡ wholeFault f (spans ss es)) where
+    module _ {m : ℕ} (g : m ≡ wholeFault limits f (spans ss es)) where
       -- the fault is that of the file's table
-      fault-is : wholeFault f (tableOf f) ≡ m
-      fault-is = sym (g ∙ ap (wholeFault f) swept-spans)
+      fault-is : wholeFault limits f (tableOf f) ≡ m
+      fault-is = sym (g ∙ ap (wholeFault limits f) swept-spans)
 
       -- the header as a whole is refused
       pub refused-whole : (m ≡ 0 → ⊥) → {starts ends : List ℕ}
@@ -150,9 +151,9 @@ module _ (n : ℕ) (f : List ℕ) (z : n ≡ 0) {s : Swept} {ss es : List ℕ} (
       -- the header stands
       pub stands : m ≡ 0 → {x : Header} → x ≡ headerIn f (spans ss es) next lines → Promised n f (header x) ss es
       stands k {x} e =
-          let u : wholeFault f (tableOf f) ≡ 0 = fault-is ∙ k in
+          let u : wholeFault limits f (tableOf f) ≡ 0 = fault-is ∙ k in
           let y : x ≡ headerIn f (tableOf f) next lines = e ∙ ap (λ t. headerIn f t next lines) swept-spans in
-          let v : header x ≡ after n f = ap header y ∙ sym (decided ∙ ap (settled f (tableOf f) next lines) u) in
+          let v : header x ≡ after limits n f = ap header y ∙ sym (decided ∙ ap (settled f (tableOf f) next lines) u) in
           let a : ss ≡ map spanStart (tableOf f) = w .1 .0 ∙ ap (map spanStart) table-all in
           let b : es ≡ map spanEnd (tableOf f) = w .1 .1 .0 ∙ ap (map spanEnd) table-all in
           let i : x .next ≤ length f = rw (ap (λ d. d .next) y) within in

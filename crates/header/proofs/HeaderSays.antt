@@ -4,7 +4,7 @@ use mathlib.Core.List.{List}
 use mathlib.Core.Option.{Option·some-injective}
 use Prim.Native.Nat.{ℕ, _^_}
 use native.Mathlib.Omega.{arith}
-use Rattle.codes.specs.Limits.{varLimit, rootLimit}
+use Rattle.codes.specs.Limits.{Limits, varLimit, rootLimit}
 use Rattle.read_lines.specs.Each.{Each}
 use Rattle.header_keys.specs.declared.Key.the-variants.{Nnodes, Nvars, Nsuppvars, Nroots, Varnames, Suppvarnames, Orderedvarnames, Ids, Permids, Auxids, Rootnames}
 use Rattle.header_lines.specs.Sweep.{linesOf}
@@ -38,7 +38,7 @@ module _ (f : List ℕ) (next lines : ℕ) (sound : SoundLines f (linesOf f) nex
   }
 
   -- so are its lists, by the rules of the header as a whole
-  pub lists-said : WholeRules f (tableOf f) → (a : HeaderAnswer)
+  pub lists-said : {m : Limits} → WholeRules m f (tableOf f) → (a : HeaderAnswer)
       → let r = listsIn f (tableOf f) a in
       ListsSaid f (headerIn f (tableOf f) next lines) (r .ids) (r .order) (r .permids) (r .auxids) (r .names) (r .rootnames) (r .roots)
   unfolding tableOf variableNamesIn

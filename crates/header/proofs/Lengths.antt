@@ -11,7 +11,7 @@ use lib.Dec.{leb}
 use borrow.Author.Tests.{leb-true, le-leb, lt-leb, not-true, not-false}
 use Rattle.codes.proofs.Bytes.{both}
 use Rattle.read_lines.specs.Each.{Each, none, each}
-use Rattle.codes.specs.Limits.{varLimit, rootLimit, inputLimit}
+use Rattle.codes.specs.Limits.{Limits, limits, inputLimit, varLimit, rootLimit}
 use Rattle.codes.specs.Faults.{firstFault}
 use Rattle.codes.proofs.Faults.{refuses, first-none, rest-none}
 use Rattle.codes.proofs.Refusals.{over-refuses, within-passes, within-none}
@@ -66,32 +66,32 @@ module _ (vars roots : List ℕ) {a : Bool} (p : a ≡ atLeast varLimit vars) wh
 
 module _ (found n : ℕ) where
   -- what was found before stays
-  pub length-found : (found ≡ 0 → ⊥) → found ≡ lengthAfter found n
+  pub length-found : (found ≡ 0 → ⊥) → found ≡ lengthAfter limits found n
   unfolding lengthAfter
   length-found h = refuses _ refl h
 
   module _ (z : found ≡ 0) where
     -- an input that is too long
-    pub length-over : inputLimit < n → 19 ≡ lengthAfter found n
+    pub length-over : inputLimit < n → 19 ≡ lengthAfter limits found n
     unfolding lengthAfter lengthFault firstFault
     length-over h = rw (z, over-refuses inputLimit n 19 h)
 
     -- one that isn't
-    pub length-within : n ≤ inputLimit → 0 ≡ lengthAfter found n
+    pub length-within : n ≤ inputLimit → 0 ≡ lengthAfter limits found n
     unfolding lengthAfter lengthFault firstFault
     length-within h = rw (z, within-passes inputLimit n 19 h)
 
 -- where nothing is found the input isn't too long
-pub length-none : (n : ℕ) → lengthFault n ≡ 0 → n ≤ inputLimit
+pub length-none : (m : Limits) (n : ℕ) → lengthFault m n ≡ 0 → n ≤ m .input
 unfolding lengthFault
-length-none n h = within-none inputLimit n 18 h
+length-none m n h = within-none (m .input) n 18 h
 
 -- an input that isn't too long has no fault
-pub none-length : (n : ℕ) → n ≤ inputLimit → lengthFault n ≡ 0
+pub none-length : (m : Limits) (n : ℕ) → n ≤ m .input → lengthFault m n ≡ 0
 unfolding lengthFault
-none-length n h = within-passes inputLimit n 19 h
+none-length m n h = within-passes (m .input) n 19 h
 
 -- so that what is found before the header lets it be read
-pub length-may : (found : ℕ) (f : List ℕ) {n : ℕ} → n ≡ lengthAfter found (length f) → MayRead n f
+pub length-may : (found : ℕ) (f : List ℕ) {n : ℕ} → n ≡ lengthAfter limits found (length f) → MayRead limits n f
 unfolding lengthAfter
-length-may found f e = λ z. length-none (length f) (first-none _ [] (rest-none found _ (sym e ∙ z)))
+length-may found f e = λ z. length-none limits (length f) (first-none _ [] (rest-none found _ (sym e ∙ z)))

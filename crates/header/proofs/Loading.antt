@@ -6,7 +6,7 @@ use native.Mathlib.Omega.{arith}
 use lib.IntN.{ℤ, pos}
 use lib.ListN.{length, replicate}
 use Rattle.codes.specs.Lent.{Part, old, new, laid}
-use Rattle.codes.specs.Limits.{rootLimit}
+use Rattle.codes.specs.Limits.{limits, rootLimit}
 use Rattle.read_text.specs.Text.{startOf, lenOf}
 use Rattle.header_lines.specs.Sweep.{Span, SweepEnd, atNodes, refusedAt, endOf, linesOf}
 use Rattle.header_keys.specs.declared.Key.the-variants.{Ids, Permids, Auxids, Rootnames}
@@ -30,18 +30,18 @@ stands-clean f h t next lines zero e = refl
 stands-clean f h t next lines (suc m) e = let z : _≡_ {A = ℕ} 0 1 = cc in absurd (omega arith)
 
 -- so has one that stands after the lines
-judged-clean : (f : List ℕ) (h : Header) (e : SweepEnd) → header h ≡ judgedHeader f e → wholeFault f (tableOf f) ≡ 0
+judged-clean : (f : List ℕ) (h : Header) (e : SweepEnd) → header h ≡ judgedHeader limits f e → wholeFault limits f (tableOf f) ≡ 0
 judged-clean f h (refusedAt n line) e = let z : _≡_ {A = ℕ} 0 1 = cc in absurd (omega arith)
-judged-clean f h (atNodes next lines) e = stands-clean f h (tableOf f) next lines (wholeFault f (tableOf f)) e
+judged-clean f h (atNodes next lines) e = stands-clean f h (tableOf f) next lines (wholeFault limits f (tableOf f)) e
 
 -- so has one that is the answer
-after-clean : (n : ℕ) (f : List ℕ) (h : Header) → header h ≡ after n f → wholeFault f (tableOf f) ≡ 0
+after-clean : (n : ℕ) (f : List ℕ) (h : Header) → header h ≡ after limits n f → wholeFault limits f (tableOf f) ≡ 0
 unfolding readOf
 after-clean zero f h e = judged-clean f h (endOf f (linesOf f)) e
 after-clean (suc n) f h e = let z : _≡_ {A = ℕ} 0 1 = cc in absurd (omega arith)
 
 -- the roots of the table that the last phase reads are themselves as edges
-edges-by : (n : ℕ) (f : List ℕ) (a : HeaderAnswer) → a ≡ after n f → map edgeOf (rootsIn f (tableBy f a)) ≡ rootsIn f (tableBy f a)
+edges-by : (n : ℕ) (f : List ℕ) (a : HeaderAnswer) → a ≡ after limits n f → map edgeOf (rootsIn f (tableBy f a)) ≡ rootsIn f (tableBy f a)
 edges-by n f (header h) e = faultless-roots f (tableOf f) (after-clean n f h e)
 edges-by n f (refusal k line) e = rw (ap (λ l. l .roots) (no-lists f (refusal k line)))
 
@@ -64,7 +64,7 @@ module _ (n : ℕ) (f : List ℕ) (a : HeaderAnswer) {starts ends : List ℕ} (w
   held-edges = rw held-spans (edges-by n f a (w .0))
 
   -- the lists that are read are those of the load
-  all-loaded : listsIn f (spans starts ends) a ≡ loadHeader n f
+  all-loaded : listsIn f (spans starts ends) a ≡ loadHeader limits n f
   unfolding loadHeader
   all-loaded = ap (λ t. listsIn f t a) held-spans ∙ lists-by f a ∙ ap (listsBy f) (w .0)
 

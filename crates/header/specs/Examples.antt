@@ -5,13 +5,14 @@ use mathlib.Core.List.{List, [], _∷_, _++_}
 use mathlib.Core.Bool.{true}
 use lib.ListN.{length}
 use lib.IntN.{pos, negsuc}
+use Rattle.codes.specs.Limits.{limits}
 use Rattle.codes.specs.Texts.{bytes}
 use Rattle.read_text.specs.Text.{place}
 use Rattle.header.specs.Header.{HeaderLoaded, header, refusal, nothing, lengthFault, loadHeader}
 
 -- a load of a file's header, where nothing is found before the input's length
 abbrev pub loadedHead : List ℕ → HeaderLoaded
-loadedHead f = loadHeader (lengthFault (length f)) f
+loadedHead f = loadHeader limits (lengthFault limits (length f)) f
 
 -- the header of document 01's example file
 abbrev pub exampleHead : List ℕ

@@ -6,7 +6,7 @@ use mathlib.Core.Bool.{Bool, true, _&&_}
 use lib.ListN.{length, replicate}
 use lib.IntN.{ℤ}
 use lib.Dec.{leb, ltb}
-use Rattle.codes.specs.Limits.{varLimit, rootLimit, inputLimit}
+use Rattle.codes.specs.Limits.{Limits, varLimit, rootLimit}
 use Rattle.read_text.specs.Text.{Place}
 use Rattle.header_lines.specs.Sweep.{Span, noSpan, keys, SweepEnd, atNodes, refusedAt, linesOf, allOf, endOf, lasts}
 use Rattle.header_keys.specs.declared.Key.the-variants.{Ids, Permids, Auxids, Rootnames}
@@ -57,18 +57,18 @@ abbrev pub settled : List ℕ → List Span → ℕ → ℕ → ℕ → HeaderAn
 settled f t next lines zero = header (headerIn f t next lines)
 settled f t next lines (suc n) = refusal (suc n) 0
 
-abbrev pub judgedHeader : List ℕ → SweepEnd → HeaderAnswer
-judgedHeader f (refusedAt n line) = refusal n line
-judgedHeader f (atNodes next lines) = settled f (tableOf f) next lines (wholeFault f (tableOf f))
+abbrev pub judgedHeader : Limits → List ℕ → SweepEnd → HeaderAnswer
+judgedHeader m f (refusedAt n line) = refusal n line
+judgedHeader m f (atNodes next lines) = settled f (tableOf f) next lines (wholeFault m f (tableOf f))
 
 -- 'header': its lines, then the header as a whole
-unfoldable pub readOf : List ℕ → HeaderAnswer
-readOf f = judgedHeader f (endOf f (linesOf f))
+unfoldable pub readOf : Limits → List ℕ → HeaderAnswer
+readOf m f = judgedHeader m f (endOf f (linesOf f))
 
 -- The header is read where nothing was found before, which is 0; what was found is a refusal with line 0.
-abbrev pub after : ℕ → List ℕ → HeaderAnswer
-after zero f = readOf f
-after (suc n) f = refusal (suc n) 0
+abbrev pub after : Limits → ℕ → List ℕ → HeaderAnswer
+after m zero f = readOf m f
+after m (suc n) f = refusal (suc n) 0
 
 -- each of the lengths is enough
 unfoldable pub atLeast : ℕ → List ℕ → Bool
@@ -81,20 +81,20 @@ unfoldable pub listsFault : List ℕ → List ℕ → ℕ
 listsFault vars roots = unless (atLeast varLimit vars && atLeast rootLimit roots) 1
 
 -- 'input 16,777,216 bytes (19, line 0, before all reading)', by the input's length; 0 where it isn't too long
-unfoldable pub lengthFault : ℕ → ℕ
-lengthFault n = when (ltb inputLimit n) 19
+unfoldable pub lengthFault : Limits → ℕ → ℕ
+lengthFault m n = when (ltb (m .input) n) 19
 
 -- the same after what was found before, 0 of nothing
-unfoldable pub lengthAfter : ℕ → ℕ → ℕ
-lengthAfter found n = firstFault (found ∷ lengthFault n ∷ [])
+unfoldable pub lengthAfter : Limits → ℕ → ℕ → ℕ
+lengthAfter m found n = firstFault (found ∷ lengthFault m n ∷ [])
 
 -- what reading leans on: where nothing was found before, the input isn't too long
-abbrev pub MayRead : ℕ → List ℕ → Type 0
-MayRead found f = found ≡ 0 → length f ≤ inputLimit
+abbrev pub MayRead : Limits → ℕ → List ℕ → Type 0
+MayRead m found f = found ≡ 0 → length f ≤ m .input
 
 -- a file's header by itself: '19 for the input's length, header'
-unfoldable pub answerOf : List ℕ → HeaderAnswer
-answerOf f = after (lengthFault (length f)) f
+unfoldable pub answerOf : Limits → List ℕ → HeaderAnswer
+answerOf m f = after m (lengthFault m (length f)) f
 
 -- What a load of the header leaves: its answer, and the entries of each lent list, which are followed by zeros.
 pub record HeaderLoaded : Type 0 where
@@ -129,8 +129,8 @@ listsBy f (header h) = listsIn f (tableOf f) (header h)
 listsBy f (refusal n line) = nothing (refusal n line)
 
 -- A load of a file's header, after what was found before.
-unfoldable pub loadHeader : ℕ → List ℕ → HeaderLoaded
-loadHeader found f = listsBy f (after found f)
+unfoldable pub loadHeader : Limits → ℕ → List ℕ → HeaderLoaded
+loadHeader m found f = listsBy f (after m found f)
 
 -- the table that the last phase reads: none on a refusal
 abbrev pub tableBy : List ℕ → HeaderAnswer → List Span

@@ -4,6 +4,7 @@ use mathlib.Core.Path.{_≡_}
 use mathlib.Core.List.{List, map}
 use lib.IntN.{ℤ, pos}
 use lib.ListN.{length, replicate}
+use Rattle.codes.specs.Limits.{limits}
 use Rattle.codes.specs.Lent.{Part, old, new, laid}
 use Rattle.read_text.specs.Text.{startOf, lenOf}
 use Rattle.header_lines.specs.Sweep.{Table, spanStart, spanEnd}
@@ -16,7 +17,7 @@ use Rattle.header.specs.Kinds.{ofLoaded}
 
 -- The header's answer, and the table of the last values; none on a refusal.
 pub record JudgePromise (f : Part (List ℕ)) (found : ℕ) (starts ends : Part (List ℕ)) (r : Loaded) : Type 0 where
-  pub answer : ofLoaded r ≡ after found (old f)
+  pub answer : ofLoaded r ≡ after limits found (old f)
   -- each span lies inside the file,
   pub table : Table (old f) (new starts) (new ends)
   -- the last phase can lean on the table,
@@ -30,7 +31,7 @@ module _ (f : Part (List ℕ)) (found : ℕ) (ids order permids auxids names len
     (rootnames rootlens : Part (List ℕ)) where
   -- a load of the header, after what was found before
   abbrev load : meant.HeaderLoaded
-  load = loadHeader found (old f)
+  load = loadHeader limits found (old f)
 
   -- 'On any refusal outputs are all zeros ..; on success unused output is zero.'
   pub record LoadHeaderPromise (r : Loaded) : Type 0 where

@@ -2,6 +2,7 @@
 // `header_checks` checks the header as a whole; `header_lists` reads each list from its place into the lent one.
 ghost use mathlib.Core.Path.{_≡_};
 ghost use lib.ListN.{replicate};
+ghost use Rattle.codes.specs.Limits.{limits};
 ghost use Rattle.header_lines.specs.Sweep.{Table, keys};
 ghost use Rattle.header_values.specs.Values.{spans};
 ghost use Rattle.header.specs.Kinds.{ofHeader};
@@ -55,7 +56,7 @@ fn header_in(f: &[u8], starts: &[u32], ends: &[u32], next: usize, lines: usize) 
 // Judges a file's header, where nothing was found before. The two lists, zeros at first, hold the span of each key's last value, and zeros
 // on a refusal.
 fn judge(f: &[u8], found: u8, starts: &mut [u32], ends: &mut [u32]) -> Loaded
-    requires { ⌜ MayRead found (now f) ⌝ }
+    requires { ⌜ MayRead limits found (now f) ⌝ }
     requires { ⌜ now starts ≡ replicate keys 0 ⌝ }
     requires { ⌜ now ends ≡ replicate keys 0 ⌝ }
     ensures { λ r. ⌜ JudgePromise f found starts ends r ⌝ }
@@ -98,7 +99,7 @@ impl DumpHeader {
         rootnames: &mut [u32],
         rootlens: &mut [u32],
     ) -> Loaded
-        requires { ⌜ MayRead found (now f) ⌝ }
+        requires { ⌜ MayRead limits found (now f) ⌝ }
         ensures { λ r. ⌜ LoadHeaderPromise f found ids order permids auxids names lens roots rootnames rootlens r ⌝ }
     {
         let mut starts = [0u32; header_keys::KEYS];

@@ -7,7 +7,7 @@ use Prim.Native.Nat.{ℕ, _≤_}
 use native.Mathlib.Omega.{arith}
 use lib.ListN.{length}
 use lib.Dec.{ltb, eqb}
-use Rattle.codes.specs.Limits.{varLimit, nodeLimit, rootLimit}
+use Rattle.codes.specs.Limits.{Limits, varLimit, rootLimit}
 use Rattle.codes.specs.Faults.{firstFault, when}
 use Rattle.codes.proofs.Faults.{none-in, first-in, front-in}
 use Rattle.codes.proofs.Refusals.{when-in, unless-in}
@@ -33,15 +33,15 @@ given-in want n = unless-in Whole (inl refl) {n = 21} (inr (omega arith)) (eqb n
 roots-in : (nnodes : ℕ) (f : List ℕ) (t : List Span) → Whole (rootsFault nnodes (rootsIn f t))
 roots-in nnodes f t = ⊎-elim inl (⊎-elim (λ z. inr (omega arith)) (λ z. inr (omega arith))) (roots-numbers nnodes (rootsIn f t) _ refl)
 
-numbers-in : (nvars nnodes nsuppvars : ℕ) → Whole (firstFault (numberFaults nvars nnodes nsuppvars))
+numbers-in : (m : Limits) (nvars nnodes nsuppvars : ℕ) → Whole (firstFault (numberFaults m nvars nnodes nsuppvars))
 unfolding numberFaults
-numbers-in nvars nnodes nsuppvars =
+numbers-in m nvars nnodes nsuppvars =
     first-in Whole (when (ltb varLimit nvars) 19) _ (when-in Whole (inl refl) {n = 19} (inr (omega arith)) (ltb varLimit nvars))
-    (first-in Whole (when (ltb nodeLimit nnodes) 19) _ (when-in Whole (inl refl) {n = 19} (inr (omega arith)) (ltb nodeLimit nnodes))
+    (first-in Whole (when (ltb (m .nodes) nnodes) 19) _ (when-in Whole (inl refl) {n = 19} (inr (omega arith)) (ltb (m .nodes) nnodes))
     (first-in Whole (when (ltb nvars nsuppvars) 20) _ (when-in Whole (inl refl) {n = 20} (inr (omega arith)) (ltb nvars nsuppvars))
     (none-in Whole (inl refl))))
 
-module _ (f : List ℕ) (t : List Span) where
+module _ (m : Limits) (f : List ℕ) (t : List Span) where
   support-in : Whole (firstFault (supportFaults f t))
   unfolding supportFaults
   support-in =
@@ -77,10 +77,10 @@ module _ (f : List ℕ) (t : List Span) where
       (none-in Whole (inl refl))))
 
   -- A header as a whole has no refusal, or a number from 19 to 26.
-  pub whole-numbers : (n : ℕ) → wholeFault f t ≡ n → (n ≡ 0) ⊎ ((19 ≤ n) × (n ≤ 26))
+  pub whole-numbers : (n : ℕ) → wholeFault m f t ≡ n → (n ≡ 0) ⊎ ((19 ≤ n) × (n ≤ 26))
   unfolding wholeFault
   whole-numbers n e =
       subst Whole e
-      (front-in Whole (numberFaults (nvarsIn f t) (nnodesIn f t) (nsuppvarsIn f t)) _ (numbers-in (nvarsIn f t) (nnodesIn f t) (nsuppvarsIn f t))
+      (front-in Whole (numberFaults m (nvarsIn f t) (nnodesIn f t) (nsuppvarsIn f t)) _ (numbers-in m (nvarsIn f t) (nnodesIn f t) (nsuppvarsIn f t))
       (front-in Whole (supportFaults f t) _ support-in
       (front-in Whole (nameCountFaults f t) _ name-counts-in (front-in Whole (nameFaults f t) _ names-in root-lists-in))))

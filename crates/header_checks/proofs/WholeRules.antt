@@ -7,6 +7,7 @@ use Prim.Native.Nat.{ℕ, zero, suc, _+_, _≤_, _<_}
 use native.Mathlib.Omega.{arith}
 use native.Mathlib.Decide.{ℕ-discrete}
 use lib.ListN.{length, getD}
+use Rattle.codes.specs.Limits.{Limits}
 use Rattle.codes.specs.Faults.{firstFault}
 use Rattle.codes.proofs.Faults.{first-none, rest-none, passes, last-check}
 use Rattle.codes.proofs.Refusals.{unless-holds, unless-none, within-passes, within-none}
@@ -107,9 +108,9 @@ module _ (f : List ℕ) (ps : List Place) (is : List ℕ) (qs : List Place) (n :
       → agree f ps is qs (upFrom n 0) ≡ true
   supp-agree A = like-agree f ps is qs (upFrom n 0) n a (length-up n 0) (λ p q i k. rw (up-at n i k) (A p q i k))
 
-module _ (f : List ℕ) (t : List Span) where
+module _ (m : Limits) (f : List ℕ) (t : List Span) where
   -- where there is no refusal each rule holds
-  no-fault-rules : wholeFault f t ≡ 0 → WholeRules f t
+  no-fault-rules : wholeFault m f t ≡ 0 → WholeRules m f t
   unfolding wholeFault numberFaults supportFaults nameCountFaults nameFaults rootFaults
   no-fault-rules h =
       let check = each-none _ h in
@@ -136,7 +137,7 @@ module _ (f : List ℕ) (t : List Span) where
       }
 
   -- where each rule holds there is no refusal
-  rules-no-fault : WholeRules f t → wholeFault f t ≡ 0
+  rules-no-fault : WholeRules m f t → wholeFault m f t ≡ 0
   unfolding wholeFault numberFaults supportFaults nameCountFaults nameFaults rootFaults
   rules-no-fault R =
       none-more _ (within-passes _ _ 19 (R .few-vars))
@@ -158,5 +159,5 @@ module _ (f : List ℕ) (t : List Span) where
       (sym (last-check _) ∙ given-rule _ _ .1 (R .rootnames-counted)))))))))))))))))
 
   -- a header as a whole has no refusal exactly where the rules hold
-  pub whole-rules : (wholeFault f t ≡ 0) ↔ WholeRules f t
+  pub whole-rules : (wholeFault m f t ≡ 0) ↔ WholeRules m f t
   whole-rules = (no-fault-rules, rules-no-fault)

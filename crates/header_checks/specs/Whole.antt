@@ -5,7 +5,7 @@ use mathlib.Core.List.{List, [], _∷_, _++_}
 use mathlib.Core.Bool.{_||_}
 use lib.ListN.{length, replicate}
 use lib.Dec.{ltb, eqb}
-use Rattle.codes.specs.Limits.{varLimit, nodeLimit, rootLimit}
+use Rattle.codes.specs.Limits.{Limits, varLimit, rootLimit}
 use Rattle.header_lines.specs.Sweep.{Span}
 use Rattle.header_keys.specs.declared.Key.{Key}
 use Rattle.header_keys.specs.declared.Key.the-variants.{Ids, Permids, Auxids, Rootnames}
@@ -24,8 +24,8 @@ abbrev pub givenFault : ℕ → ℕ → ℕ
 givenFault want n = unless (eqb n 0 || eqb n want) 21
 
 -- '19 for `.nvars`, then `.nnodes`; 20 `.nsuppvars` above `.nvars`'
-unfoldable pub numberFaults : ℕ → ℕ → ℕ → List ℕ
-numberFaults nvars nnodes nsuppvars = when (ltb varLimit nvars) 19 ∷ when (ltb nodeLimit nnodes) 19 ∷ when (ltb nvars nsuppvars) 20 ∷ []
+unfoldable pub numberFaults : Limits → ℕ → ℕ → ℕ → List ℕ
+numberFaults m nvars nnodes nsuppvars = when (ltb varLimit nvars) 19 ∷ when (ltb (m .nodes) nnodes) 19 ∷ when (ltb nvars nsuppvars) 20 ∷ []
 
 -- '21 wrong entry count in `.ids`, `.permids`, nonempty `.auxids`; 22 `.ids` not strictly ascending, or last not below `.nvars`; 23 a
 -- permid not below `.nvars`, or twice'
@@ -63,15 +63,15 @@ rootFaults f t =
     ∷ []
 
 -- 'The file's writer, header as a whole, in this order'
-unfoldable pub wholeFault : List ℕ → List Span → ℕ
-wholeFault f t =
+unfoldable pub wholeFault : Limits → List ℕ → List Span → ℕ
+wholeFault m f t =
     firstFault
-    (numberFaults (nvarsIn f t) (nnodesIn f t) (nsuppvarsIn f t)
+    (numberFaults m (nvarsIn f t) (nnodesIn f t) (nsuppvarsIn f t)
     ++ (supportFaults f t ++ (nameCountFaults f t ++ (nameFaults f t ++ rootFaults f t))))
 
 -- What checks lean on: the numbers pass,
-abbrev pub NumbersPass : List ℕ → List Span → Type 0
-NumbersPass f t = firstFault (numberFaults (nvarsIn f t) (nnodesIn f t) (nsuppvarsIn f t)) ≡ 0
+abbrev pub NumbersPass : Limits → List ℕ → List Span → Type 0
+NumbersPass m f t = firstFault (numberFaults m (nvarsIn f t) (nnodesIn f t) (nsuppvarsIn f t)) ≡ 0
 
 -- a list of zeros has room for a number of entries,
 pub record ListRoom (n : ℕ) (l : List ℕ) : Type 0 where

@@ -4,7 +4,7 @@ use mathlib.Core.Logic.{_⊎_}
 use Prim.Native.Nat.{ℕ, _≤_, _<_}
 use mathlib.Core.List.{List}
 use lib.ListN.{length, getD}
-use Rattle.codes.specs.Limits.{varLimit, nodeLimit, rootLimit}
+use Rattle.codes.specs.Limits.{Limits, varLimit, rootLimit}
 use Rattle.read_text.specs.Text.{Place}
 use Rattle.header_lines.specs.Sweep.{Span}
 use Rattle.header_keys.specs.declared.Key.the-variants.{Ids, Permids, Auxids, Rootnames}
@@ -26,11 +26,11 @@ nameByOrdered f t i = getD (orderedvarnamesIn f t) (getD (u32sIn f t Permids) i 
 abbrev pub nameBySupp : List ℕ → List Span → ℕ → Place
 nameBySupp f t i = getD (suppvarnamesIn f t) i emptyName
 
-pub record WholeRules (f : List ℕ) (t : List Span) : Type 0 where
+pub record WholeRules (m : Limits) (f : List ℕ) (t : List Span) : Type 0 where
   -- '19 for `.nvars`': over its limit, '`.nvars` 4,096'
   pub few-vars : nvarsIn f t ≤ varLimit
   -- 'then `.nnodes`': over its limit, '`.nnodes` 32,767'
-  pub few-nodes : nnodesIn f t ≤ nodeLimit
+  pub few-nodes : nnodesIn f t ≤ m .nodes
   -- '20 `.nsuppvars` above `.nvars`'
   pub few-support : nsuppvarsIn f t ≤ nvarsIn f t
   -- '21 wrong entry count in `.ids`'

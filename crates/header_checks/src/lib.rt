@@ -1,7 +1,7 @@
 // The header as a whole: its checks in the order of document 01. Each answers the number of its refusal, 0 where there is none.
 ghost use mathlib.Core.Path.{_≡_};
 ghost use Prim.Native.Nat.{_≤_};
-ghost use Rattle.codes.specs.Limits.{varLimit};
+ghost use Rattle.codes.specs.Limits.{limits, varLimit};
 ghost use Rattle.header_lines.specs.Sweep.{Table};
 ghost use Rattle.header_values.specs.Values.{spans, nvarsIn, nsuppvarsIn};
 ghost use Rattle.codes.specs.Faults.{firstFault};
@@ -37,7 +37,7 @@ fn given_fault(want: u64, n: usize) -> u8
 }
 
 fn number_fault(nvars: u32, nnodes: u64, nsuppvars: u32) -> u8
-    ensures { λ r. ⌜ r ≡ firstFault (numberFaults nvars nnodes nsuppvars) ⌝ }
+    ensures { λ r. ⌜ r ≡ firstFault (numberFaults limits nvars nnodes nsuppvars) ⌝ }
 {
     if limits::VAR_LIMIT < nvars as usize {
         return refusal::OVER_LIMIT;
@@ -173,9 +173,9 @@ fn root_fault(f: &[u8], starts: &[u32], ends: &[u32]) -> u8
 // What comes after the numbers, once the ids and the permids were read and counted. How many names a list has is counted here, once.
 fn listed_fault(f: &[u8], starts: &[u32], ends: &[u32], ids: &[u32], permids: &[u32]) -> u8
     requires { ⌜ Table (now f) (now starts) (now ends) ⌝ }
-    requires { ⌜ NumbersPass (now f) (spans (now starts) (now ends)) ⌝ }
+    requires { ⌜ NumbersPass limits (now f) (spans (now starts) (now ends)) ⌝ }
     requires { ⌜ IdsRead (now f) (spans (now starts) (now ends)) (now ids) (now permids) ⌝ }
-    ensures { λ r. ⌜ r ≡ wholeFault (now (f .entry)) (spans (now (starts .entry)) (now (ends .entry))) ⌝ }
+    ensures { λ r. ⌜ r ≡ wholeFault limits (now (f .entry)) (spans (now (starts .entry)) (now (ends .entry))) ⌝ }
 {
     let support = support_fault(f, starts, ends, ids, permids);
     if support != 0 {
@@ -200,10 +200,10 @@ fn listed_fault(f: &[u8], starts: &[u32], ends: &[u32], ids: &[u32], permids: &[
 // with room for as many as there must be.
 fn lists_fault(f: &[u8], starts: &[u32], ends: &[u32], ids: &mut [u32], permids: &mut [u32]) -> u8
     requires { ⌜ Table (now f) (now starts) (now ends) ⌝ }
-    requires { ⌜ NumbersPass (now f) (spans (now starts) (now ends)) ⌝ }
+    requires { ⌜ NumbersPass limits (now f) (spans (now starts) (now ends)) ⌝ }
     requires { ⌜ ListRoom (nsuppvarsIn (now f) (spans (now starts) (now ends))) (now ids) ⌝ }
     requires { ⌜ ListRoom (nsuppvarsIn (now f) (spans (now starts) (now ends))) (now permids) ⌝ }
-    ensures { λ r. ⌜ r ≡ wholeFault (now (f .entry)) (spans (now (starts .entry)) (now (ends .entry))) ⌝ }
+    ensures { λ r. ⌜ r ≡ wholeFault limits (now (f .entry)) (spans (now (starts .entry)) (now (ends .entry))) ⌝ }
 {
     let want = header_values::u32_in(f, starts, ends, Key::Nsuppvars) as u64;
     let n = header_values::read_u32s(f, starts, ends, Key::Ids, ids);
@@ -220,7 +220,7 @@ fn lists_fault(f: &[u8], starts: &[u32], ends: &[u32], ids: &mut [u32], permids:
 // The first refusal of the header as a whole, in the order of document 01.
 pub fn whole_fault(f: &[u8], starts: &[u32], ends: &[u32]) -> u8
     requires { ⌜ Table (now f) (now starts) (now ends) ⌝ }
-    ensures { λ r. ⌜ r ≡ wholeFault (now (f .entry)) (spans (now (starts .entry)) (now (ends .entry))) ⌝ }
+    ensures { λ r. ⌜ r ≡ wholeFault limits (now (f .entry)) (spans (now (starts .entry)) (now (ends .entry))) ⌝ }
 {
     let nvars = header_values::u32_in(f, starts, ends, Key::Nvars);
     let nnodes = header_values::u64_in(f, starts, ends, Key::Nnodes);

@@ -5,6 +5,7 @@ use Prim.Native.Nat.{ℕ, zero, suc, _+_, _≤_, _<_}
 use native.Mathlib.Omega.{arith}
 use lib.ListN.{length, length-append}
 use borrow.Author.Tests.{lt-ltb}
+use Rattle.codes.specs.Limits.{Limits}
 use Rattle.read_lines.specs.Each.{Each, none, each}
 use Rattle.header_faults.specs.Judge.{faultOf}
 use Rattle.header_lines.specs.Sweep.{refusedAt, linesFrom, linesOf, endFrom, endOf}
@@ -41,10 +42,10 @@ module _ (f : List ℕ) (l : HeaderLine) (n : ℕ) (early : Early l) (fault : (a
       (refused-from ls (at + length (lineText x)) fuel (k + 1) rest hs zs (omega (arith, some-bytes x)) ∙ rw e)
 
 -- 'The line counts from 1 at the top of the file': after lines without faults a line with one refuses the header, with its own line.
-pub line-decides : (ls : List HeaderLine) (l : HeaderLine) (rest : List ℕ) (n : ℕ) → Each Written (ls ++ (l ∷ [])) → Each Early ls
+pub line-decides : (m : Limits) (ls : List HeaderLine) (l : HeaderLine) (rest : List ℕ) (n : ℕ) → Each Written (ls ++ (l ∷ [])) → Each Early ls
     → Early l → Each Faultless ls → ((at : ℕ) → faultOf (l .key) at (lineValue l) ≡ suc n)
-    → readOf (startingWith ls l rest) ≡ refusal (suc n) (1 + length ls)
+    → readOf m (startingWith ls l rest) ≡ refusal (suc n) (1 + length ls)
 unfolding readOf endOf linesOf
-line-decides ls l rest n w hs h zs fault =
+line-decides m ls l rest n w hs h zs fault =
     let f = startingWith ls l rest in
     rw (refused-from f l n h fault ls 0 (length f) 1 (lines-back f 0 (ls ++ (l ∷ [])) rest refl w) hs zs (omega arith))

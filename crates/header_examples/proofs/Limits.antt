@@ -6,7 +6,7 @@ use native.Mathlib.Omega.{arith}
 use lib.ListN.{replicate}
 use Rattle.codes.specs.Texts.{bytes}
 use Rattle.codes.specs.Bytes.{isBlank, isDigit, isLineEnd}
-use Rattle.codes.specs.Limits.{varLimit}
+use Rattle.codes.specs.Limits.{limits, varLimit}
 use Rattle.codes.specs.Machine.{run}
 use Rattle.read_lines.specs.Each.{Each, none, each}
 use Rattle.read_lines.specs.Words.{wordsFrom, words}
@@ -62,9 +62,9 @@ unfolding run isBlank isDigit isLineEnd wordsFrom words digit number single judg
 vars-faultless at = refl
 
 -- '19 (added) over a limit', with its line: 1,025 roots on line 2 get it, whatever follows. So 'replaced lists' are 'counted too'.
-pub many-roots : (rest : List ℕ) → readOf (startingWith (varsLine ∷ []) (onesLine Rootids 1025 []) rest) ≡ refusal 19 2
+pub many-roots : (rest : List ℕ) → readOf limits (startingWith (varsLine ∷ []) (onesLine Rootids 1025 []) rest) ≡ refusal 19 2
 many-roots rest =
-    line-decides (varsLine ∷ []) (onesLine Rootids 1025 []) rest 18
+    line-decides limits (varsLine ∷ []) (onesLine Rootids 1025 []) rest 18
     (each (ones-written Nvars 1 [] (omega arith) none) (each (ones-written Rootids 1025 [] (omega arith) none) none))
     (each refl none) refl (each vars-faultless none) many-ones
 
@@ -73,9 +73,9 @@ own-fault : (at : ℕ) → faultOf Rootids at (lineValue (onesLine Rootids 1024 
 unfolding run isBlank isDigit isLineEnd wordsFrom words digit number single judge u32List entryStep edgeAt edgeEnd edgeList utf8Next isUtf8 nameList singleFault u32ListFault rootListFault nameListFault faultOf spaced withoutFront withoutBack trimmed lineValue
 own-fault at = refl
 
-pub own-fault-first : (rest : List ℕ) → readOf (startingWith [] (onesLine Rootids 1024 (bytes "x" ∷ [])) rest) ≡ refusal 16 1
+pub own-fault-first : (rest : List ℕ) → readOf limits (startingWith [] (onesLine Rootids 1024 (bytes "x" ∷ [])) rest) ≡ refusal 16 1
 own-fault-first rest =
-    line-decides [] (onesLine Rootids 1024 (bytes "x" ∷ [])) rest 15
+    line-decides limits [] (onesLine Rootids 1024 (bytes "x" ∷ [])) rest 15
     (each (ones-written Rootids 1024 (bytes "x" ∷ []) (omega arith) x-on-line) none) none refl none own-fault
 
 -- and behind 1,025 it isn't met: 'Entries of a line are judged left to right'.
@@ -83,9 +83,9 @@ left-fault : (at : ℕ) → faultOf Rootids at (lineValue (onesLine Rootids 1025
 unfolding run isBlank isDigit isLineEnd wordsFrom words digit number single judge u32List entryStep edgeAt edgeEnd edgeList utf8Next isUtf8 nameList singleFault u32ListFault rootListFault nameListFault faultOf spaced withoutFront withoutBack trimmed lineValue
 left-fault at = refl
 
-pub left-first : (rest : List ℕ) → readOf (startingWith [] (onesLine Rootids 1025 (bytes "x" ∷ [])) rest) ≡ refusal 19 1
+pub left-first : (rest : List ℕ) → readOf limits (startingWith [] (onesLine Rootids 1025 (bytes "x" ∷ [])) rest) ≡ refusal 19 1
 left-first rest =
-    line-decides [] (onesLine Rootids 1025 (bytes "x" ∷ [])) rest 18
+    line-decides limits [] (onesLine Rootids 1025 (bytes "x" ∷ [])) rest 18
     (each (ones-written Rootids 1025 (bytes "x" ∷ []) (omega arith) x-on-line) none) none refl none left-fault
 
 -- 1,025 names of roots get 19 too.
@@ -93,9 +93,10 @@ many-names : (at : ℕ) → faultOf Rootnames at (lineValue (onesLine Rootnames 
 unfolding run isBlank isDigit isLineEnd wordsFrom words digit number single judge u32List entryStep edgeAt edgeEnd edgeList utf8Next isUtf8 nameList singleFault u32ListFault rootListFault nameListFault faultOf spaced withoutFront withoutBack trimmed lineValue
 many-names at = refl
 
-pub many-names-refused : (rest : List ℕ) → readOf (startingWith [] (onesLine Rootnames 1025 []) rest) ≡ refusal 19 1
+pub many-names-refused : (rest : List ℕ) → readOf limits (startingWith [] (onesLine Rootnames 1025 []) rest) ≡ refusal 19 1
 many-names-refused rest =
-    line-decides [] (onesLine Rootnames 1025 []) rest 18 (each (ones-written Rootnames 1025 [] (omega arith) none) none) none refl none many-names
+    line-decides limits [] (onesLine Rootnames 1025 []) rest 18
+    (each (ones-written Rootnames 1025 [] (omega arith) none) none) none refl none many-names
 
 -- 4,097 entries of a variable list are too many for the checker to compute with. The readers have their limit as a parameter: here it is 2,
 pub ids-over-two : (why (u32List 2 (bytes "7 8") .answer) ≡ 0) × (why (u32List 2 (bytes "7 8 9") .answer) ≡ 19)

@@ -1,5 +1,6 @@
 // The call on lent lists. They are filled beforehand, so that what the call left as it was is seen.
 ghost use Prim.Native.Nat.{_+_, _≤_};
+ghost use Rattle.codes.specs.Limits.{limits};
 ghost use Rattle.header.specs.Header.{MayRead};
 use crate::answer;
 use edges::Edge;
@@ -50,7 +51,7 @@ fn after_edges(stored: &[u8], from: usize, list: &[Edge]) -> usize {
 
 // What is found before the header is read: lists that are too short, then what the case says, then the length of the input.
 fn found_before(vars: &[usize], roots: &[usize], found: u8, f: &[u8]) -> u8
-    ensures { λ r. ⌜ MayRead r (now (f .entry)) ⌝ }
+    ensures { λ r. ⌜ MayRead limits r (now (f .entry)) ⌝ }
 {
     let lists = stages::lengths_fault(vars, roots);
     if lists != 0 {

@@ -27,10 +27,10 @@ start-before-root-fault p = start-before-name-count-fault (at-name-count-fault p
 support-fault-requires : tie.Need-support-fault-requires
 support-fault-requires c κs =
     let p = at-start c .pre in
-    (p .0, (few-vars _ _ _ (p .1 .0), p .1 .1))
+    (p .0, (few-vars _ _ _ _ (p .1 .0), p .1 .1))
 
 returns : tie.Need-returns
-returns c = support-refused _ _ (at-start (c .before .before) .pre .1 .0) (c .before .support-fault .ensures) (c .if1 .taken)
+returns c = support-refused _ _ _ (at-start (c .before .before) .pre .1 .0) (c .before .support-fault .ensures) (c .if1 .taken)
 
 count-names-requires : tie.Need-count-names-requires
 count-names-requires c κs = (at-start (c .before .before) .pre .0, omega arith)
@@ -53,7 +53,7 @@ name-count-fault-requires c κs = (
 
 returns-2 : tie.Need-returns-2
 returns-2 c =
-    count-refused _ _ (start-before-name-count-fault (c .before) .pre .1 .0) (at-count-names (c .before) .before .before .support-fault .ensures)
+    count-refused _ _ _ (start-before-name-count-fault (c .before) .pre .1 .0) (at-count-names (c .before) .before .before .support-fault .ensures)
     (at-count-names (c .before) .before .if1 .left) (c .before .name-count-fault .ensures) (c .if2 .taken)
 
 name-fault-requires : tie.Need-name-fault-requires
@@ -71,7 +71,7 @@ name-fault-requires c κs = (
 
 returns-3 : tie.Need-returns-3
 returns-3 c =
-    name-refused _ _ (start-before-name-count-fault (c .before .before .before) .pre .1 .0)
+    name-refused _ _ _ (start-before-name-count-fault (c .before .before .before) .pre .1 .0)
     (at-count-names (c .before .before .before) .before .before .support-fault .ensures)
     (at-count-names (c .before .before .before) .before .if1 .left) (c .before .before .before .name-count-fault .ensures)
     (c .before .before .if2 .left)
@@ -83,7 +83,7 @@ root-fault-requires c κs = start-before-name-count-fault (c .before .before .be
 
 returns-4 : tie.Need-returns-4
 returns-4 c =
-    names-passed _ _ (start-before-root-fault c .pre .1 .0) (at-count-names (at-name-count-fault c) .before .before .support-fault .ensures)
+    names-passed _ _ _ (start-before-root-fault c .pre .1 .0) (at-count-names (at-name-count-fault c) .before .before .support-fault .ensures)
     (at-count-names (at-name-count-fault c) .before .if1 .left) (at-name-count-fault c .name-count-fault .ensures)
     (c .before .before .before .if2 .left)
     (c .before .before .name-fault .ensures)

@@ -47,7 +47,7 @@ same-length c = c .before .before .before .read-u32s .kept .1 .1 .1 .1 .0
 
 returns : tie.Need-returns
 returns c =
-    support-refused _ _ (at-start (at-u32-in (c .before .before .before)) .pre .1 .0)
+    support-refused _ _ _ (at-start (at-u32-in (c .before .before .before)) .pre .1 .0)
     (ids-wrong _ _ (at-u32-in (c .before .before .before) .u32-in .ensures) (c .before .before .before .read-u32s .ensures .answer) (c .if1 .taken))
     (λ z. omega arith)
 
@@ -66,7 +66,7 @@ returns-2 c =
     let wrong = permids-wrong _ _ (at-u32-in (at-read-u32s (at-else1 (c .before .before))) .u32-in .ensures)
     (at-read-u32s (at-else1 (c .before .before)) .read-u32s .ensures .answer) (at-else1 (c .before .before) .if1 .left)
     (c .before .before .before .read-u32s2 .ensures .answer) (c .if2 .taken) in
-    support-refused _ _ (start-before-permids (c .before .before) .pre .1 .0) wrong (λ z. omega arith)
+    support-refused _ _ _ (start-before-permids (c .before .before) .pre .1 .0) wrong (λ z. omega arith)
 
 slice-reshare-prefix-listed-fault : tie.Need-slice-reshare-prefix-listed-fault
 slice-reshare-prefix-listed-fault c =

@@ -1,6 +1,7 @@
 -- `whole_fault` meets its contract: the local lists have room for as many entries as there are support variables.
 use mathlib.Core.Path.{refl}
 use borrow.Author.Needs.{needs}
+use Rattle.codes.specs.Limits.{limits}
 use Rattle.header_values.specs.Values.{spans}
 use Rattle.header_checks.specs.Whole.{NumbersPass}
 use Rattle.header_checks.proofs.Numbered.{few-supp}
@@ -24,16 +25,16 @@ number-fault-requires c κs = search needs
 returns : tie.Need-returns
 returns c =
     let n = c .before .before in
-    number-refused _ _ (n .before .before .u32-in .ensures) (n .before .u64-in .ensures) (n .u32-in2 .ensures) (c .before .number-fault .ensures) (c .if1 .taken)
+    number-refused _ _ _ (n .before .before .u32-in .ensures) (n .before .u64-in .ensures) (n .u32-in2 .ensures) (c .before .number-fault .ensures) (c .if1 .taken)
 
 -- Where the numbers pass: the function's entry, and that they do.
 abbrev start : tie.Else1 → tie.Start
 start c = c .before .before .before .before .before .before .before .before
 
-numbers : (c : tie.Else1) → NumbersPass (start c .args .f .now) (spans (start c .args .starts .now) (start c .args .ends .now))
+numbers : (c : tie.Else1) → NumbersPass limits (start c .args .f .now) (spans (start c .args .starts .now) (start c .args .ends .now))
 numbers c =
     let n = c .before .before in
-    numbers-pass _ _ (n .before .before .u32-in .ensures) (n .before .u64-in .ensures) (n .u32-in2 .ensures) (c .before .number-fault .ensures) (c .if1 .left)
+    numbers-pass _ _ _ (n .before .before .u32-in .ensures) (n .before .u64-in .ensures) (n .u32-in2 .ensures) (c .before .number-fault .ensures) (c .if1 .left)
 
 cast-if2 : tie.Need-cast-if2
 cast-if2 c = search needs
@@ -62,7 +63,7 @@ slice-aggregate-lists-fault-4 c = refl
 lists-fault-requires-2 : tie.Need-lists-fault-requires-2
 lists-fault-requires-2 c κs =
     let e = c .before .before .before in
-    let room = room-in 4096 refl (few-supp _ _ _ (numbers e)) in
+    let room = room-in 4096 refl (few-supp _ _ _ _ (numbers e)) in
     (start e .pre, (numbers e, (room, room)))
 
 returns-3 : tie.Need-returns-3

@@ -16,7 +16,8 @@ use mir.ValLaws.{toZ-ofZ}
 use Rattle.codes.specs.Answer.{value, refused, Step, got, fails}
 use Rattle.edges.proofs.Signed.{edge-back}
 use Rattle.store.specs.Store.{Store}
-use Rattle.store.specs.Rules.{Rules, depth, limits}
+use Rattle.codes.specs.Limits.{limits}
+use Rattle.store.specs.Rules.{Rules, depth}
 use Rattle.store.specs.Make.{Made, make, Makes}
 use Rattle.store.specs.Growth.{EdgeOf, Grows}
 use Rattle.store.proofs.Growth.{grows-refl, grow-edge, grow-depth}
@@ -48,7 +49,7 @@ pub record Progress (u : Setup) (σ : Store) (f : List ℕ) (from e s : ℕ) (τ
   pub seats-long : u .nnodes ≤ s
   pub within : n ≤ u .nnodes
   pub each : (i : ℕ) → i < n → Lies (u .list) τ (getD (take n seats) i 0) (getD (take n edges) i (pos 1))
-  pub builds : builtFrom u σ f from ≡ buildOn limits (u .list) τ (take n edges) (rest u f (take n seats) n at .lines)
+  pub builds : builtFrom limits u σ f from ≡ buildOn limits (u .list) τ (take n edges) (rest u f (take n seats) n at .lines)
   pub ends : linesIn u f from .end ≡ rest u f (take n seats) n at .end
 
 -- a line that is read, and one that is refused
@@ -109,10 +110,10 @@ module _ (u : Setup) (σ : Store) (f : List ℕ) (from : ℕ) where
 
   -- what the code leaves
   abbrev pub Ends : NodesAnswer → Store → List ℤ → Type 0
-  Ends a τ edges = (a ≡ linesAnswer u σ f from) × ((τ ≡ builtFrom u σ f from .after) × Laid (builtFrom u σ f from .answer) edges)
+  Ends a τ edges = (a ≡ linesAnswer limits u σ f from) × ((τ ≡ builtFrom limits u σ f from .after) × Laid (builtFrom limits u σ f from .answer) edges)
 
   -- by what was made and how reading ended
-  ends-by : (b : Built) (e : DecodeEnd) (edges : List ℤ) → builtFrom u σ f from ≡ b → linesIn u f from .end ≡ e → Laid (b .answer) edges
+  ends-by : (b : Built) (e : DecodeEnd) (edges : List ℤ) → builtFrom limits u σ f from ≡ b → linesIn u f from .end ≡ e → Laid (b .answer) edges
       → Ends (answerBy u e (b .answer)) (b .after) edges
   unfolding linesAnswer
   ends-by b e edges p q d = rw (p, q) (refl, (refl, d))
@@ -164,7 +165,7 @@ module _ (u : Setup) (σ : Store) (f : List ℕ) (from : ℕ) where
     progress-all h =
         let q : u .nnodes - n ≡ 0 = omega arith in
         let d : rest u f (take n seats) n at ≡ nodeLines [] (allRead at) = rw q (decode-none (lineAt u f) (take n seats) (n + 1) at) in
-        let b : builtFrom u σ f from ≡ built (value (take n edges)) τ =
+        let b : builtFrom limits u σ f from ≡ built (value (take n edges)) τ =
         P .builds ∙ ap (λ (r : NodeLines). buildOn limits (u .list) τ (take n edges) (r .lines)) d ∙ build-none (u .list) τ (take n edges) in
         ends-by (built (value (take n edges)) τ) (allRead at) edges b (P .ends ∙ ap (λ (r : NodeLines). r .end) d) (rw edges-length refl)
 
@@ -179,7 +180,7 @@ module _ (u : Setup) (σ : Store) (f : List ℕ) (from : ℕ) where
       progress-refused k q line o =
           let d : rest u f (take n seats) n at ≡ nodeLines [] (stopped k (n + 1)) =
           rw left (decode-fails (lineAt u f) (u .nnodes - (n + 1)) (take n seats) (n + 1) at k (sym q)) in
-          let b : builtFrom u σ f from ≡ built (value (take n edges)) τ =
+          let b : builtFrom limits u σ f from ≡ built (value (take n edges)) τ =
           P .builds ∙ ap (λ (r : NodeLines). buildOn limits (u .list) τ (take n edges) (r .lines)) d ∙ build-none (u .list) τ (take n edges) in
           rw o
           (ends-by (built (value (take n edges)) τ) (stopped k (n + 1)) edges b (P .ends ∙ ap (λ (r : NodeLines). r .end) d) (rw edges-length refl))
@@ -303,7 +304,7 @@ module _ (u : Setup) (σ : Store) (f : List ℕ) (from : ℕ) where
           pub progress-full : refused 40 ≡ make limits τ (getD (u .list) p 0) a b .answer → Ends (refusal 40 0) υ edges
           progress-full z =
               let l : Line = inner p t x in
-              let d : builtFrom u σ f from ≡ built (refused 40) υ =
+              let d : builtFrom limits u σ f from ≡ built (refused 40) υ =
               P .builds ∙ ap (λ (r : NodeLines). buildOn limits (u .list) τ (take n edges) (r .lines)) (line-left l next q)
               ∙ build-full (u .list) τ (take n edges) l (after l next q .lines) 40 (sym (z ∙ ap (λ (m : Made). m .answer) line-made))
               ∙ ap (built (refused 40)) (sym (y ∙ ap (λ (m : Made). m .after) line-made)) in

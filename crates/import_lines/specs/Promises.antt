@@ -6,7 +6,8 @@ use lib.ListN.{length, replicate}
 use lib.IntN.{ℤ, pos}
 use denote.Ref.{RefT, now}
 use Rattle.store.specs.Store.{Store}
-use Rattle.store.specs.Rules.{Rules, limits}
+use Rattle.codes.specs.Limits.{limits}
+use Rattle.store.specs.Rules.{Rules}
 use Rattle.codes.specs.Lent.{Part, old, new}
 use Rattle.store.specs.Lent.{storeNow, oldStore, newStore}
 use Rattle.insertion.specs.Known.{KnownNodes}
@@ -49,14 +50,14 @@ module _ (f : Part (List ℕ)) (from : ℕ) (setup : Setup) (list : Part (List �
 
   -- The lines up to the first that is refused are made into the store, and their edges lie over the front of the scratch.
   pub record LinesPromise (r : Imported) : Type 0 where
-    pub answer : ofImported r ≡ linesAnswer by before (old f) from
-    pub store : after ≡ builtFrom by before (old f) from .after
-    pub laid : Laid (builtFrom by before (old f) from .answer) (new edges)
+    pub answer : ofImported r ≡ linesAnswer limits by before (old f) from
+    pub store : after ≡ builtFrom limits by before (old f) from .after
+    pub laid : Laid (builtFrom limits by before (old f) from .answer) (new edges)
 
   -- 'On any refusal outputs are all zeros and the store is unchanged; .. Scratch ends as zeros.'
   pub record ImportPromise (seats : Part (List ℕ)) (roots : Part (List ℤ)) (r : Imported) : Type 0 where
-    pub answer : ofImported r ≡ importOf by before (old f) from (old roots) .answer
-    pub store : after ≡ importOf by before (old f) from (old roots) .after
-    pub roots-left : new roots ≡ importOf by before (old f) from (old roots) .roots
+    pub answer : ofImported r ≡ importOf limits by before (old f) from (old roots) .answer
+    pub store : after ≡ importOf limits by before (old f) from (old roots) .after
+    pub roots-left : new roots ≡ importOf limits by before (old f) from (old roots) .roots
     pub edges-left : new edges ≡ replicate (length (old edges)) (pos 0)
     pub seats-left : new seats ≡ replicate (length (old seats)) 0

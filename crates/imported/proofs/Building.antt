@@ -16,7 +16,8 @@ use Rattle.edges.specs.Edge.{turn}
 use Rattle.edges.proofs.Edge.{abs-neg}
 use Rattle.store.specs.Store.{Store}
 use Rattle.store.specs.Meaning.{Setting, answer}
-use Rattle.store.specs.Rules.{Limits, depth, Nodes, Rules}
+use Rattle.codes.specs.Limits.{Limits}
+use Rattle.store.specs.Rules.{depth, Nodes, Rules}
 use Rattle.store.specs.Make.{Made, Makes}
 use Rattle.store.specs.Growth.{EdgeOf, Grows}
 use Rattle.store.proofs.Meaning.{node-one, opposite-edge, answer-opposite}

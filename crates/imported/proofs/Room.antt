@@ -15,7 +15,8 @@ use lib.IntN.{ℤ, pos, negℤ}
 use Rattle.codes.specs.Answer.{Read, value, refused}
 use Rattle.edges.specs.Edge.{minus, eqZ}
 use Rattle.store.specs.Store.{Store, levelAt, thenAt, elseAt}
-use Rattle.store.specs.Rules.{Limits, Sizes}
+use Rattle.codes.specs.Limits.{Limits}
+use Rattle.store.specs.Rules.{Sizes}
 use Rattle.store.specs.Make.{findUpTo, find, added, Made, made, full, roomFor, placedNode, insert, negated, turned, make}
 use Rattle.store.specs.Growth.{Grows}
 use Rattle.store.proofs.Added.{added-grows, added-holds, added-count, added-length, added-sizes}
@@ -277,7 +278,7 @@ longer xs k d = length-append xs (replicate k d) ∙ ap (length xs +_) (length-r
 
 -- A store beside itself with k slots more, where the limit is its count and k.
 roomier-beside : (m : Limits) (k : ℕ) (σ : Store) → Sizes m σ
-    → Beside m (record { nodes = σ .count + k; levels = σ .levels }) k σ (roomier k σ)
+    → Beside m (record { nodes = σ .count + k; levels = σ .levels; input = 0 }) k σ (roomier k σ)
 unfolding roomier
 roomier-beside m k σ z =
     let c = z .count-slots in
@@ -309,7 +310,7 @@ roomier-beside m k σ z =
 module _ (m : Limits) (levels : List ℕ) (σ : Store) (ls : List Line) (z : Sizes m σ) where
   -- the lines made in both
   build-tells : Tells m σ (build m levels σ ls)
-      (build (record { nodes = σ .count + length ls; levels = σ .levels }) levels (roomier (length ls) σ) ls)
+      (build (record { nodes = σ .count + length ls; levels = σ .levels; input = 0 }) levels (roomier (length ls) σ) ls)
   unfolding build
   build-tells = on-tells m _ levels σ (roomier (length ls) σ) [] ls (roomier-beside m (length ls) σ z)
 

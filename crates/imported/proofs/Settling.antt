@@ -11,7 +11,8 @@ use lib.IntN.{ℤ, pos, natAbs}
 use Rattle.edges.specs.Width.{edgeLimit}
 use Rattle.codes.specs.Answer.{Read, value, refused, Step, got, fails}
 use Rattle.store.specs.Store.{Store}
-use Rattle.store.specs.Rules.{limits, Rules}
+use Rattle.codes.specs.Limits.{Limits, limits}
+use Rattle.store.specs.Rules.{Rules}
 use Rattle.store.specs.Make.{back}
 use Rattle.store.proofs.Back.{back-exact}
 use Rattle.node_lines.specs.Line.{Line, seatOfLine}
@@ -106,91 +107,95 @@ lines-judged u f at =
     (λ seats n from l next q e. line-judged (u .ascii) (u .extra) (u .list) (u .levels) f seats n from e)
     (u .nnodes) at
 
-module _ (u : Setup) (σ : Store) (f : List ℕ) (at : ℕ) (R : Rules limits σ) (W : LevelsOf σ (u .list)) where
+module _ {m : Limits} (u : Setup) (σ : Store) (f : List ℕ) (at : ℕ) (R : Rules m σ) (W : LevelsOf σ (u .list)) where
   -- the lines made into the store
-  pub lines-built : Builds limits (u .list) σ (linesIn u f at .lines) (builtFrom u σ f at)
-  lines-built = build-gives limits (u .list) σ (linesIn u f at .lines) R W (lines-judged u f at)
+  pub lines-built : Builds m (u .list) σ (linesIn u f at .lines) (builtFrom m u σ f at)
+  lines-built = build-gives m (u .list) σ (linesIn u f at .lines) R W (lines-judged u f at)
 
+module _ (u : Setup) (σ : Store) (f : List ℕ) (at : ℕ) (R : Rules limits σ) (W : LevelsOf σ (u .list)) where
   -- each entry of the edges of all lines is an edge
-  built-edges : (edges : List ℤ) → builtFrom u σ f at .answer ≡ value edges → AllEdges edges
+  built-edges : (edges : List ℤ) → builtFrom limits u σ f at .answer ≡ value edges → AllEdges edges
   unfolding edgeFor
   built-edges edges q i = go (decLt i (length edges))
     where
-      B : Roots (u .list) (linesIn u f at .lines) (builtFrom u σ f at .after) edges
-      B = lines-built .roots edges q
+      B : Roots (u .list) (linesIn u f at .lines) (builtFrom limits u σ f at .after) edges
+      B = lines-built u σ f at R W .roots edges q
 
       go : Dec (i < length edges) → natAbs (getD edges i (pos 1)) < edgeLimit
       go (yes h) =
           let k : i + 1 - 1 ≡ i = omega arith in
           let E = B .edge (pos (i + 1)) (omega arith) (omega (arith, B .lines)) .there in
           let E' = rw k at E in
-          omega (arith, E', lines-built .rules .sizes .count-limit)
+          omega (arith, E', lines-built u σ f at R W .rules .sizes .count-limit)
       go (no h) = rw (List·getD-eq-default edges (pos 1) {n = i} (omega arith)) (omega arith)
 
   -- where the nodes are read, the front of the scratch is the edges of all lines
-  read-front : (l : List ℤ) → Laid (builtFrom u σ f at .answer) l → isRead (withEnd f (linesAnswer u σ f at)) ≡ true
-      → (take (u .nnodes) l ≡ edgesOf (builtFrom u σ f at .answer)) × AllEdges (take (u .nnodes) l)
+  read-front : (l : List ℤ) → Laid (builtFrom limits u σ f at .answer) l → isRead (withEnd f (linesAnswer limits u σ f at)) ≡ true
+      → (take (u .nnodes) l ≡ edgesOf (builtFrom limits u σ f at .answer)) × AllEdges (take (u .nnodes) l)
   unfolding linesAnswer
   read-front l h q =
-      let p = read-position (withEnd f (linesAnswer u σ f at)) q in
-      let A = answer-all u f (linesIn u f at .end) (builtFrom u σ f at .answer) (p .0) (p .1) in
-      let k = lines-built .roots (A .edges) (A .made) .lines ∙ lines-count u f at (p .0) (A .lines) in
-      let t = laid-front (builtFrom u σ f at .answer) (A .edges) l (u .nnodes) (A .made) k h in
+      let p = read-position (withEnd f (linesAnswer limits u σ f at)) q in
+      let A = answer-all u f (linesIn u f at .end) (builtFrom limits u σ f at .answer) (p .0) (p .1) in
+      let k = lines-built u σ f at R W .roots (A .edges) (A .made) .lines ∙ lines-count u f at (p .0) (A .lines) in
+      let t = laid-front (builtFrom limits u σ f at .answer) (A .edges) l (u .nnodes) (A .made) k h in
       (t, subst AllEdges (sym (t ∙ ap edgesOf (A .made))) (built-edges (A .edges) (A .made)))
 
   -- what the roots lean on
   pub front-edges : (l : List ℤ) (ok : Bool) {read answer : NodesAnswer}
-      → read ≡ linesAnswer u σ f at → answer ≡ withEnd f read → ok ≡ isRead answer
-      → Laid (builtFrom u σ f at .answer) l → EdgesIf ok (take (u .nnodes) l)
+      → read ≡ linesAnswer limits u σ f at → answer ≡ withEnd f read → ok ≡ isRead answer
+      → Laid (builtFrom limits u σ f at .answer) l → EdgesIf ok (take (u .nnodes) l)
   front-edges l true e1 e2 e3 h = read-front l h (sym (e3 ∙ ap isRead (e2 ∙ ap (withEnd f) e1))) .1
   front-edges l false e1 e2 e3 h = tt
 
   -- the roots
-  front-roots : (l ids : List ℤ) (ok : Bool) → ok ≡ isRead (withEnd f (linesAnswer u σ f at)) → Laid (builtFrom u σ f at .answer) l
-      → rootsBy ok (take (u .nnodes) l) ids ≡ rootsBy ok (edgesOf (builtFrom u σ f at .answer)) ids
+  front-roots : (l ids : List ℤ) (ok : Bool) → ok ≡ isRead (withEnd f (linesAnswer limits u σ f at)) → Laid (builtFrom limits u σ f at .answer) l
+      → rootsBy ok (take (u .nnodes) l) ids ≡ rootsBy ok (edgesOf (builtFrom limits u σ f at .answer)) ids
   front-roots l ids true q h = ap (λ es. rootsBy true es ids) (read-front l h (sym q) .0)
   front-roots l ids false q h = refl
 
   -- the store, by how many nodes stay
   settled-store : (ok : Bool)
-      → back (builtFrom u σ f at .after .count - cond ok (builtFrom u σ f at .after .count) (σ .count)) (builtFrom u σ f at .after)
-      ≡ cond ok (builtFrom u σ f at .after) σ
-  settled-store true = back-none (builtFrom u σ f at .after .count) (builtFrom u σ f at .after)
-  settled-store false = back-exact limits σ (builtFrom u σ f at .after) R (lines-built .rules) (lines-built .grows) (lines-built .long)
+      → back (builtFrom limits u σ f at .after .count - cond ok (builtFrom limits u σ f at .after .count) (σ .count))
+      (builtFrom limits u σ f at .after)
+      ≡ cond ok (builtFrom limits u σ f at .after) σ
+  settled-store true = back-none (builtFrom limits u σ f at .after .count) (builtFrom limits u σ f at .after)
+  settled-store false =
+      let B = lines-built u σ f at R W in
+      back-exact limits σ (builtFrom limits u σ f at .after) R (B .rules) (B .grows) (B .long)
 
   -- what taking back leans on: the rules, and how many nodes may stay
-  pub stay-settled : (ok : Bool) {τ : Store} {to : ℕ} → τ ≡ builtFrom u σ f at .after → to ≡ cond ok (τ .count) (σ .count)
+  pub stay-settled : (ok : Bool) {τ : Store} {to : ℕ} → τ ≡ builtFrom limits u σ f at .after → to ≡ cond ok (τ .count) (σ .count)
       → Rules limits τ × ((1 ≤ to) × (to ≤ τ .count))
   stay-settled true {τ} e q =
-      let S : Rules limits τ = subst (Rules limits) (sym e) (lines-built .rules) in
+      let S : Rules limits τ = subst (Rules limits) (sym e) (lines-built u σ f at R W .rules) in
       (S, (omega (arith, S .sizes .count-some, q), omega (arith, q)))
   stay-settled false {τ} e q =
-      let S : Rules limits τ = subst (Rules limits) (sym e) (lines-built .rules) in
-      (S, (omega (arith, R .sizes .count-some, q), omega (arith, q, lines-built .grows .count, ap (λ (s : Store). s .count) e)))
+      let S : Rules limits τ = subst (Rules limits) (sym e) (lines-built u σ f at R W .rules) in
+      (S, (omega (arith, R .sizes .count-some, q), omega (arith, q, lines-built u σ f at R W .grows .count, ap (λ (s : Store). s .count) e)))
 
   -- All that is left: the answer, the store, the roots, and the scratch, which ends as zeros.
   pub import-leaves : (ids l : List ℤ) {read answer : NodesAnswer} {ok : Bool} {to : ℕ} {τ υ : Store} {roots cleared : List ℤ}
       {seats : List ℕ} {n m k : ℕ}
-      → read ≡ linesAnswer u σ f at → τ ≡ builtFrom u σ f at .after → Laid (builtFrom u σ f at .answer) l
+      → read ≡ linesAnswer limits u σ f at → τ ≡ builtFrom limits u σ f at .after → Laid (builtFrom limits u σ f at .answer) l
       → answer ≡ withEnd f read → ok ≡ isRead answer → roots ≡ rootsBy ok (take (u .nnodes) l) ids
       → to ≡ cond ok (τ .count) (σ .count) → υ ≡ back (τ .count - to) τ
       → cleared ≡ replicate (length l) (pos 0) → length l ≡ n → seats ≡ replicate m 0 → m ≡ k
-      → (answer ≡ importOf u σ f at ids .answer)
-      × ((υ ≡ importOf u σ f at ids .after)
-      × ((roots ≡ importOf u σ f at ids .roots)
+      → (answer ≡ importOf limits u σ f at ids .answer)
+      × ((υ ≡ importOf limits u σ f at ids .after)
+      × ((roots ≡ importOf limits u σ f at ids .roots)
       × ((cleared ≡ replicate n (pos 0))
       × (seats ≡ replicate k 0))))
   unfolding importOf
   import-leaves ids l {read} {answer} {ok} {to} {τ} {υ} {roots} e1 e2 h e3 e4 e5 e6 e7 e8 k8 e9 k9 =
-      let a : answer ≡ withEnd f (linesAnswer u σ f at) = e3 ∙ ap (withEnd f) e1 in
-      let b : ok ≡ isRead (withEnd f (linesAnswer u σ f at)) = e4 ∙ ap isRead a in (
+      let a : answer ≡ withEnd f (linesAnswer limits u σ f at) = e3 ∙ ap (withEnd f) e1 in
+      let b : ok ≡ isRead (withEnd f (linesAnswer limits u σ f at)) = e4 ∙ ap isRead a in (
         a,
         (
           e7 ∙ ap (λ (n : ℕ). back (τ .count - n) τ) e6
               ∙ ap (λ (s : Store). back (s .count - cond ok (s .count) (σ .count)) s) e2 ∙ settled-store ok
-              ∙ ap (λ (x : Bool). cond x (builtFrom u σ f at .after) σ) b,
+              ∙ ap (λ (x : Bool). cond x (builtFrom limits u σ f at .after) σ) b,
           (
-            e5 ∙ front-roots l ids ok b h ∙ ap (λ (x : Bool). rootsBy x (edgesOf (builtFrom u σ f at .answer)) ids) b,
+            e5 ∙ front-roots l ids ok b h ∙ ap (λ (x : Bool). rootsBy x (edgesOf (builtFrom limits u σ f at .answer)) ids) b,
             (e8 ∙ ap (λ (n : ℕ). replicate n (pos 0)) k8, e9 ∙ ap (λ (n : ℕ). replicate n 0) k9),
           ),
         ),

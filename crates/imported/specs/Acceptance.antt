@@ -7,10 +7,10 @@ use mathlib.Core.List.{List}
 use mathlib.Core.Option.{some}
 use lib.ListN.{length, getD}
 use lib.IntN.{ℤ, pos, natAbs}
-use Rattle.codes.specs.Limits.{nodeLimit}
+use Rattle.codes.specs.Limits.{Limits}
 use Rattle.store.specs.Store.{Store}
 use Rattle.store.specs.Meaning.{Setting, answer}
-use Rattle.store.specs.Rules.{limits, Rules}
+use Rattle.store.specs.Rules.{Rules}
 use Rattle.store.specs.Growth.{EdgeOf, Grows}
 use Rattle.node_lines.specs.Line.{Line}
 use Rattle.node_lines.specs.Decode.{allRead}
@@ -18,21 +18,21 @@ use Rattle.node_lines.specs.Says.{says}
 use Rattle.imported.specs.Build.{countNeeded}
 use Rattle.imported.specs.Import.{Setup, linesIn, endsWell, Imported}
 
--- the nodes that the lines need have a slot each, and are no more than 32,767
-pub record StoreRoom (levels : List ℕ) (σ : Store) (ls : List Line) : Type 0 where
+-- the nodes that the lines need have a slot each, and are no more than the limit
+pub record StoreRoom (m : Limits) (levels : List ℕ) (σ : Store) (ls : List Line) : Type 0 where
   pub slots : countNeeded levels σ ls ≤ length (σ .level)
-  pub limit : countNeeded levels σ ls ≤ nodeLimit
+  pub limit : countNeeded levels σ ls ≤ m .nodes
 
 -- '40° a line needs a new node and every slot lent, or 32,767, is used'
-abbrev pub Crowded : List ℕ → Store → List Line → Type 0
-Crowded levels σ ls = (length (σ .level) < countNeeded levels σ ls) ⊎ (nodeLimit < countNeeded levels σ ls)
+abbrev pub Crowded : Limits → List ℕ → Store → List Line → Type 0
+Crowded m levels σ ls = (length (σ .level) < countNeeded levels σ ls) ⊎ (m .nodes < countNeeded levels σ ls)
 
 -- All lines can be read, up to a position, the file ends well there, and the store has room.
-pub record NodesAccepted (u : Setup) (σ : Store) (f : List ℕ) (at : ℕ) : Type 0 where
+pub record NodesAccepted (m : Limits) (u : Setup) (σ : Store) (f : List ℕ) (at : ℕ) : Type 0 where
   pub next : ℕ
   pub lines : linesIn u f at .end ≡ allRead next
   pub end : endsWell f next ≡ true
-  pub room : StoreRoom (u .list) σ (linesIn u f at .lines)
+  pub room : StoreRoom m (u .list) σ (linesIn u f at .lines)
 
 -- A root of the file by its edge a: it is an edge of the store, and answers what the file's own lines say.
 pub record RootSays (levels : List ℕ) (ls : List Line) (τ : Store) (c a : ℤ) : Type 0 where
@@ -40,8 +40,8 @@ pub record RootSays (levels : List ℕ) (ls : List Line) (τ : Store) (c a : ℤ
   pub agrees : (s : Setting) → says levels ls s c ≡ some (answer τ s a)
 
 -- What accepted nodes leave: a store that keeps the rules and has only grown, by the nodes that the lines need; and each root.
-pub record NodesLeft (u : Setup) (σ : Store) (f : List ℕ) (at : ℕ) (ids : List ℤ) (r : Imported) : Type 0 where
-  pub rules : Rules limits (r .after)
+pub record NodesLeft (m : Limits) (u : Setup) (σ : Store) (f : List ℕ) (at : ℕ) (ids : List ℤ) (r : Imported) : Type 0 where
+  pub rules : Rules m (r .after)
   pub grows : Grows σ (r .after)
   pub slots : length (r .after .level) ≡ length (σ .level)
   pub count : r .after .count ≡ countNeeded (u .list) σ (linesIn u f at .lines)

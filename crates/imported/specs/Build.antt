@@ -9,7 +9,7 @@ use lib.IntN.{ℤ, pos, negsuc, negℤ, natAbs}
 use Rattle.edges.specs.Width.{edgeLimit}
 use Rattle.codes.specs.Answer.{Read, value, refused}
 use Rattle.store.specs.Store.{Store}
-use Rattle.store.specs.Rules.{Limits}
+use Rattle.codes.specs.Limits.{Limits}
 use Rattle.store.specs.Make.{Made, made, make}
 use Rattle.node_lines.specs.Line.{Line, terminal, inner, seatOfLine, deeper}
 
@@ -87,7 +87,7 @@ roomier k σ = record {
   heads = σ .heads;
 }
 
--- the count that making all lines with no limit would reach
+-- the count that making all lines with no limit would reach; no input is read on the way
 unfoldable pub countNeeded : List ℕ → Store → List Line → ℕ
 countNeeded levels σ ls =
-    build (record { nodes = σ .count + length ls; levels = σ .levels }) levels (roomier (length ls) σ) ls .after .count
+    build (record { nodes = σ .count + length ls; levels = σ .levels; input = 0 }) levels (roomier (length ls) σ) ls .after .count

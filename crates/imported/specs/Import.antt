@@ -12,7 +12,7 @@ use Rattle.codes.specs.Answer.{Read, value, refused, Step}
 use Rattle.codes.specs.Bytes.{isWhitespace}
 use Rattle.read_text.specs.Alike.{alike}
 use Rattle.store.specs.Store.{Store}
-use Rattle.store.specs.Rules.{limits}
+use Rattle.codes.specs.Limits.{Limits}
 use Rattle.node_lines.specs.Line.{Line}
 use Rattle.node_lines.specs.Decode.{NodeLines, DecodeEnd, allRead, stopped, decodeFrom}
 use Rattle.import_ascii.specs.Text.{textLineAt}
@@ -69,11 +69,11 @@ answerBy u e (value edges) = endedLines u e
 answerBy u e (refused k) = refusal k 0
 
 -- the lines made into the store
-abbrev pub builtFrom : Setup → Store → List ℕ → ℕ → Built
-builtFrom u σ f at = build limits (u .list) σ (linesIn u f at .lines)
+abbrev pub builtFrom : Limits → Setup → Store → List ℕ → ℕ → Built
+builtFrom m u σ f at = build m (u .list) σ (linesIn u f at .lines)
 
-unfoldable pub linesAnswer : Setup → Store → List ℕ → ℕ → NodesAnswer
-linesAnswer u σ f at = answerBy u (linesIn u f at .end) (builtFrom u σ f at .answer)
+unfoldable pub linesAnswer : Limits → Setup → Store → List ℕ → ℕ → NodesAnswer
+linesAnswer m u σ f at = answerBy u (linesIn u f at .end) (builtFrom m u σ f at .answer)
 
 -- 'After `.end` only space, tab, LF, FF, CR, else 39'
 unfoldable pub blankAll : List ℕ → Bool
@@ -120,8 +120,8 @@ pub record Imported : Type 0 where
 abbrev pub importedBy : List ℤ → Store → Built → NodesAnswer → Imported
 importedBy ids σ b a = record { answer = a; after = cond (isRead a) (b .after) σ; roots = rootsBy (isRead a) (edgesOf (b .answer)) ids }
 
-unfoldable pub importOf : Setup → Store → List ℕ → ℕ → List ℤ → Imported
-importOf u σ f at ids = importedBy ids σ (builtFrom u σ f at) (withEnd f (linesAnswer u σ f at))
+unfoldable pub importOf : Limits → Setup → Store → List ℕ → ℕ → List ℤ → Imported
+importOf m u σ f at ids = importedBy ids σ (builtFrom m u σ f at) (withEnd f (linesAnswer m u σ f at))
 
 -- the edges of the lines lie over the front of a list, where all were made
 abbrev pub Laid : Read (List ℤ) → List ℤ → Type 0

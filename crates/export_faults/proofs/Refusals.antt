@@ -6,10 +6,9 @@ use Prim.Native.Nat.{ℕ, _≤_}
 use native.Mathlib.Omega.{arith}
 use lib.ListN.{length, replicate, length-replicate}
 use lib.IntN.{ℤ}
-use Rattle.codes.specs.Limits.{varLimit}
+use Rattle.codes.specs.Limits.{limits, varLimit}
 use Rattle.codes.specs.Faults.{firstFault}
 use Rattle.store.specs.Store.{Store}
-use Rattle.store.specs.Rules.{limits}
 use Rattle.store.specs.Keeps.{keeps, keeps-true}
 use Rattle.seats.specs.Seats.{Seats}
 use Rattle.variable_order.specs.Order.{isOrder, SeatsIf}
@@ -17,31 +16,31 @@ use Rattle.heading.specs.Tables.{Lent}
 use Rattle.exported.specs.Export.{rootsFit, longEnough, namesFit, exportFault}
 
 module _ (σ : Store) (roots : List ℤ) (order : List ℕ) (p : Lent) (slots numbers out : ℕ) where
-  pub refused-short : longEnough σ roots p slots numbers out ≡ false → 1 ≡ exportFault σ roots order p slots numbers out
+  pub refused-short : longEnough σ roots p slots numbers out ≡ false → 1 ≡ exportFault limits σ roots order p slots numbers out
   unfolding exportFault firstFault
   refused-short a = rw a
 
   module _ (a : longEnough σ roots p slots numbers out ≡ true) where
-    pub refused-store : keeps limits σ ≡ false → 3 ≡ exportFault σ roots order p slots numbers out
+    pub refused-store : keeps limits σ ≡ false → 3 ≡ exportFault limits σ roots order p slots numbers out
     unfolding exportFault firstFault
     refused-store b = rw (a, b)
 
     module _ (b : keeps limits σ ≡ true) where
-      pub refused-root : rootsFit (σ .count) roots ≡ false → 4 ≡ exportFault σ roots order p slots numbers out
+      pub refused-root : rootsFit (σ .count) roots ≡ false → 4 ≡ exportFault limits σ roots order p slots numbers out
       unfolding exportFault firstFault
       refused-root c = rw (a, b, c)
 
       module _ (c : rootsFit (σ .count) roots ≡ true) where
-        pub refused-order : isOrder (σ .levels) order ≡ false → 6 ≡ exportFault σ roots order p slots numbers out
+        pub refused-order : isOrder (σ .levels) order ≡ false → 6 ≡ exportFault limits σ roots order p slots numbers out
         unfolding exportFault firstFault
         refused-order d = rw (a, b, c, d)
 
         module _ (d : isOrder (σ .levels) order ≡ true) where
-          pub refused-name : namesFit σ roots p ≡ false → 5 ≡ exportFault σ roots order p slots numbers out
+          pub refused-name : namesFit σ roots p ≡ false → 5 ≡ exportFault limits σ roots order p slots numbers out
           unfolding exportFault firstFault
           refused-name e = rw (a, b, c, d, e)
 
-          pub refused-none : namesFit σ roots p ≡ true → 0 ≡ exportFault σ roots order p slots numbers out
+          pub refused-none : namesFit σ roots p ≡ true → 0 ≡ exportFault limits σ roots order p slots numbers out
           unfolding exportFault firstFault
           refused-none e = rw (a, b, c, d, e)
 

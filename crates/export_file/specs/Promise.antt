@@ -6,6 +6,7 @@ use mathlib.Core.List.{List}
 use lib.ListN.{length, replicate}
 use lib.IntN.{ℤ}
 use denote.Ref.{RefT, now}
+use Rattle.codes.specs.Limits.{limits}
 use Rattle.codes.specs.Lent.{laid, Part, old, new}
 use Rattle.codes.specs.declared.DDDMPVersion.{DDDMPVersion}
 use Rattle.read_text.specs.declared.Place.{Place}
@@ -22,7 +23,7 @@ use Rattle.exported.specs.Export.{exportFault, fileOf}
 -- `file::write_file`: nothing is refused of the call, each level's variable is known, and the lists that it fills are zeros
 pub record FileAsks (dd : Place) (levels count : ℕ) (level : RefT (List ℕ)) (then els : RefT (List ℤ)) (next heads : RefT (List ℕ))
     (roots : RefT (List ℤ)) (order vars bytes starts lens rootstarts rootlens slots numbers out : RefT (List ℕ)) : Type 0 where
-  pub taken : exportFault (storeNow levels count level then els next heads) (now roots) (now order)
+  pub taken : exportFault limits (storeNow levels count level then els next heads) (now roots) (now order)
       (lent (now bytes) (now starts) (now lens) (now rootstarts) (now rootlens) (ofPlace dd)) (length (now slots)) (length (now numbers)) (length (now out))
       ≡ 0
   pub seats : Seats (now order) (now vars)

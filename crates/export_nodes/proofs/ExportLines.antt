@@ -2,12 +2,12 @@
 use mathlib.Core.Path.{_≡_, refl}
 use mathlib.Core.Bool.{Bool}
 use mathlib.Core.List.{List}
-use Prim.Native.Nat.{ℕ, _+_, _-_, _*_, _≤_, _<_}
+use Prim.Native.Nat.{ℕ, _+_, _-_, _*_, _^_, _≤_, _<_}
 use native.Mathlib.Omega.{arith}
 use lib.ListN.{length, getD, length-map}
 use lib.IntN.{ℤ, natAbs}
 use borrow.Author.Tests.{ne-eqb}
-use Rattle.codes.specs.Limits.{varLimit, nodeLimit}
+use Rattle.codes.specs.Limits.{Limits, limits, RoomForExports, varLimit}
 use Rattle.store.specs.Store.{Store, levelAt, thenAt, elseAt, slots}
 use Rattle.seats.specs.Seats.{Seats}
 use Rattle.seats.proofs.Seating.{seat-most}
@@ -31,7 +31,7 @@ pub record Filled (σ : Store) (ns numbers seats : List ℕ) : Type 0 where
   pub numbers-long : σ .count ≤ length numbers
   pub seats-long : varLimit ≤ length seats
 
-module _ {σ : Store} {roots : List ℤ} {ns numbers seats : List ℕ} (E : Exported σ roots ns) (F : Filled σ ns numbers seats) where
+module _ {σ : Store} {roots : List ℤ} {ns numbers seats : List ℕ} (E : Exported limits σ roots ns) (F : Filled σ ns numbers seats) where
   -- the level of a node has an entry in the table of seats
   level-held : (n : ℕ) → 2 ≤ n → n ≤ σ .count → levelAt σ n < length seats
   level-held n h k = omega (arith, E .rules .nodes .fits n h k .level-low, E .rules .sizes .levels-limit, F .seats-long)
@@ -89,17 +89,20 @@ module _ {σ : Store} {roots : List ℤ} {ns numbers seats : List ℕ} (E : Expo
         else-there = I .els .there;
       })
 
-module _ {σ : Store} {roots : List ℤ} {ns : List ℕ} (E : Exported σ roots ns) where
-  -- the number of a line is one that an edge can have
-  edge-small : (c : ℤ) → natAbs (renumbered ns c) ≤ nodeLimit
-  edge-small c = omega (arith, renumbered-abs ns c, seat-most (natAbs c) ns, lines-few E, E .rules .sizes .count-limit)
+module _ {m : Limits} (W : RoomForExports m) {σ : Store} {roots : List ℤ} {ns : List ℕ} (E : Exported m σ roots ns) where
+  -- the number of a line has seven digits at most
+  edge-small : (c : ℤ) → natAbs (renumbered ns c) < 10 ^ 7
+  edge-small c = omega (arith, renumbered-abs ns c, seat-most (natAbs c) ns, lines-few E, E .rules .sizes .count-limit, W .few-digits)
 
   line-small : {i n : ℕ} → NodeAt σ ns i n → Small (lineOfNode σ (supportOf σ ns) ns n)
   unfolding lineOfNode
   line-small terminalAt = tt
   line-small {i} {n} (innerAt I) =
-      rw (ne-eqb n 1 (λ z. omega (arith, I .node)))
-      (omega (arith, position-low I, support-few σ ns, E .rules .sizes .levels-limit), edge-small (thenAt σ n), edge-small (elseAt σ n))
+      rw (ne-eqb n 1 (λ z. omega (arith, I .node))) (
+        omega (arith, position-low I, support-few σ ns, E .rules .sizes .levels-limit, W .few-levels),
+        edge-small (thenAt σ n),
+        edge-small (elseAt σ n),
+      )
 
   -- The lines of an export are within the limits ..
   pub lines-small : (i : ℕ) → i < length (linesFor σ ns) → Small (getD (linesFor σ ns) i terminal)
@@ -113,4 +116,4 @@ module _ {σ : Store} {roots : List ℤ} {ns : List ℕ} (E : Exported σ roots 
   unfolding linesFor
   lines-short ascii =
       let long = length-map ns (lineOfNode σ (supportOf σ ns) ns) in
-      omega (arith, nodes-short ascii (linesFor σ ns) (omega (arith, lines-few E, E .rules .sizes .count-limit)) lines-small)
+      omega (arith, nodes-short ascii (linesFor σ ns) (omega (arith, lines-few E, E .rules .sizes .count-limit, W .few-digits)) lines-small)

@@ -5,6 +5,7 @@ use Prim.Native.Nat.{ℕ, zero, suc, _≤_, _<_}
 use native.Mathlib.Omega.{arith}
 use lib.ListN.{length, getD}
 use lib.IntN.{ℤ}
+use Rattle.codes.specs.Limits.{Limits}
 use Rattle.store.specs.Store.{Store}
 use Rattle.store.specs.Growth.{Grows}
 use Rattle.node_lines.specs.Line.{Line}
@@ -29,7 +30,7 @@ module _ {σ τ : Store} (G : Grows σ τ) where
       let two : 2 ≤ suc (suc k) = omega arith in
       rw (G .level (suc (suc k)) two there, G .then (suc (suc k)) two there, G .els (suc (suc k)) two there)
 
-  module _ {roots : List ℤ} {ns : List ℕ} (E : Exported σ roots ns) where
+  module _ {m : Limits} {roots : List ℤ} {ns : List ℕ} (E : Exported m σ roots ns) where
     -- the levels of the support are the same ..
     pub levels-grown : supportOf τ ns ≡ supportOf σ ns
     levels-grown = support-grown G ns (λ i h. entry-node E i h .there)

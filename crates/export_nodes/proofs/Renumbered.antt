@@ -7,6 +7,7 @@ use native.Mathlib.Omega.{arith}
 use native.Mathlib.Decide.{decLe}
 use lib.ListN.{length, getD}
 use lib.IntN.{ℤ, pos, natAbs}
+use Rattle.codes.specs.Limits.{Limits}
 use Rattle.edges.specs.Edge.{minus}
 use Rattle.store.specs.Store.{Store, levelAt, thenAt, elseAt}
 use Rattle.store.specs.Rules.{depth, Fits}
@@ -57,7 +58,7 @@ pub data NodeAt (σ : Store) (ns : List ℕ) (i : ℕ) : ℕ → Type 0 where
   terminalAt : NodeAt σ ns i 1
   innerAt : {n : ℕ} → InnerAt σ ns i n → NodeAt σ ns i n
 
-module _ {σ : Store} {roots : List ℤ} {ns : List ℕ} (E : Exported σ roots ns) where
+module _ {m : Limits} {σ : Store} {roots : List ℤ} {ns : List ℕ} (E : Exported m σ roots ns) where
   -- the roots lead to nodes of the store
   met-node : {n : ℕ} → Reached σ roots n → EdgeOf σ (pos n)
   met-node = reached-node (E .rules .nodes) (E .roots-there)

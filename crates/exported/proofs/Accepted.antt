@@ -8,12 +8,12 @@ use lib.Dec.{leb, eqb}
 use lib.ListN.{length, getD}
 use lib.IntN.{ℤ, pos, natAbs}
 use borrow.Author.Tests.{leb-true, eqb-true}
-use Rattle.codes.specs.Limits.{rootLimit}
+use Rattle.codes.specs.Limits.{Limits, rootLimit}
 use Rattle.codes.proofs.Bytes.{both}
 use Rattle.codes.proofs.Faults.{first-none, rest-none}
 use Rattle.codes.proofs.Refusals.{unless-none}
 use Rattle.store.specs.Store.{Store}
-use Rattle.store.specs.Rules.{limits, Rules}
+use Rattle.store.specs.Rules.{Rules}
 use Rattle.store.specs.Keeps.{keeps, keeps-true}
 use Rattle.store.specs.Growth.{EdgeOf}
 use Rattle.support.specs.Support.{permidsFit}
@@ -23,11 +23,11 @@ use Rattle.export_size.specs.Size.{exportSize}
 use Rattle.heading.specs.Tables.{Lent, NamesFit}
 use Rattle.exported.specs.Export.{allRoots, rootsFit, longEnough, namesFit, exportFault}
 
-pub record Accepted (σ : Store) (roots : List ℤ) (order : List ℕ) (p : Lent) (slots numbers out : ℕ) : Type 0 where
+pub record Accepted (m : Limits) (σ : Store) (roots : List ℤ) (order : List ℕ) (p : Lent) (slots numbers out : ℕ) : Type 0 where
   pub slots-long : σ .count ≤ slots
   pub numbers-long : σ .count ≤ numbers
   pub out-long : exportSize (σ .count) (σ .levels) (length roots) (p .lens) (p .rootlens) (p .dd .len) ≤ out
-  pub rules : Rules limits σ
+  pub rules : Rules m σ
   pub roots-few : length roots ≤ rootLimit
   pub roots-there : (i : ℕ) → i < length roots → EdgeOf σ (getD roots i (pos 0))
   pub order-long : length order ≡ σ .levels
@@ -53,9 +53,9 @@ order-length : (levels : ℕ) (order : List ℕ) → isOrder levels order ≡ tr
 unfolding isOrder
 order-length levels order h = eqb-true (length order) levels (both (eqb (length order) levels) (permidsFit levels order) h .0)
 
-module _ (σ : Store) (roots : List ℤ) (order : List ℕ) (p : Lent) (slots numbers out : ℕ) where
-  passed : longEnough σ roots p slots numbers out ≡ true → keeps limits σ ≡ true → rootsFit (σ .count) roots ≡ true → isOrder (σ .levels) order ≡ true
-      → namesFit σ roots p ≡ true → Accepted σ roots order p slots numbers out
+module _ {m : Limits} (σ : Store) (roots : List ℤ) (order : List ℕ) (p : Lent) (slots numbers out : ℕ) where
+  passed : longEnough σ roots p slots numbers out ≡ true → keeps m σ ≡ true → rootsFit (σ .count) roots ≡ true → isOrder (σ .levels) order ≡ true
+      → namesFit σ roots p ≡ true → Accepted m σ roots order p slots numbers out
   unfolding longEnough rootsFit namesFit
   passed a b c d e =
       let size = exportSize (σ .count) (σ .levels) (length roots) (p .lens) (p .rootlens) (p .dd .len) in
@@ -70,7 +70,7 @@ module _ (σ : Store) (roots : List ℤ) (order : List ℕ) (p : Lent) (slots nu
         slots-long = leb-true (σ .count) slots (x .0);
         numbers-long = leb-true (σ .count) numbers (x .1);
         out-long = leb-true size out (x .2);
-        rules = keeps-true limits σ b;
+        rules = keeps-true m σ b;
         roots-few = leb-true (length roots) rootLimit (y .0);
         roots-there = roots-edges σ roots (y .1);
         order-long = z;
@@ -78,7 +78,7 @@ module _ (σ : Store) (roots : List ℤ) (order : List ℕ) (p : Lent) (slots nu
         names = record { names = rw z (n .0); rootnames = n .1; diagram = n .2 };
       }
 
-  pub accepted : exportFault σ roots order p slots numbers out ≡ 0 → Accepted σ roots order p slots numbers out
+  pub accepted : exportFault m σ roots order p slots numbers out ≡ 0 → Accepted m σ roots order p slots numbers out
   unfolding exportFault
   accepted h =
       let h₂ = rest-none _ _ h in

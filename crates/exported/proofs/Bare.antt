@@ -5,6 +5,7 @@ use Prim.Native.Nat.{ℕ, zero, suc}
 use native.Mathlib.Omega.{arith}
 use native.Mathlib.Nat.{le-refl}
 use lib.IntN.{ℤ}
+use Rattle.codes.specs.Limits.{limits}
 use Rattle.store.specs.Store.{Store}
 use Rattle.store.specs.Rules.{depth}
 use Rattle.store.proofs.Lower.{nodes-lower}
@@ -15,7 +16,8 @@ use Rattle.heading.specs.Tables.{Lent}
 use Rattle.exported.proofs.Accepted.{Accepted}
 
 -- an accepted export can be numbered
-pub bare-walkable : {σ : Store} {roots : List ℤ} {order : List ℕ} {p : Lent} {slots numbers out : ℕ} → Accepted σ roots order p slots numbers out
+pub bare-walkable : {σ : Store} {roots : List ℤ} {order : List ℕ} {p : Lent} {slots numbers out : ℕ}
+    → Accepted limits σ roots order p slots numbers out
     → Walkable (bare σ) roots slots numbers
 bare-walkable {σ} A =
     let sizes = A .rules .sizes in

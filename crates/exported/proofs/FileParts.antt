@@ -7,6 +7,7 @@ use Prim.Native.Nat.{ℕ, _+_, _≤_}
 use native.Mathlib.Omega.{arith}
 use lib.ListN.{length, getD, replicate, length-append, length-map}
 use lib.IntN.{ℤ, pos, natAbs}
+use Rattle.codes.specs.Limits.{Limits, RoomForExports}
 use Rattle.codes.specs.Lent.{laid}
 use Rattle.store.specs.Store.{Store}
 use Rattle.seats.proofs.Seating.{seat-most}
@@ -29,8 +30,8 @@ use Rattle.exported.specs.Settings.{Settings}
 use Rattle.exported.specs.Export.{headingOf, fileOf}
 use Rattle.exported.proofs.Accepted.{Accepted}
 
-module _ (s : Settings) {σ : Store} {roots : List ℤ} {order : List ℕ} {p : Lent} {slots numbers out : ℕ}
-    (A : Accepted σ roots order p slots numbers out) {ns : List ℕ} (E : Exported σ roots ns) where
+module _ (s : Settings) {m : Limits} (W : RoomForExports m) {σ : Store} {roots : List ℤ} {order : List ℕ} {p : Lent} {slots numbers out : ℕ}
+    (A : Accepted m σ roots order p slots numbers out) {ns : List ℕ} (E : Exported m σ roots ns) where
   -- the lengths of the parts
   file-length : length (fileOf s σ roots order p ns)
       ≡ length (headText (headingOf s σ roots order p ns)) + (length (nodeBytes (s .ascii) (linesFor σ ns)) + 5)
@@ -49,13 +50,14 @@ module _ (s : Settings) {σ : Store} {roots : List ℤ} {order : List ℕ} {p : 
       let many = length-map roots (renumbered ns) in
       record {
         order = A .is-order;
-        few-variables = omega (arith, A .order-long, A .rules .sizes .levels-limit);
+        few-variables = omega (arith, A .order-long, A .rules .sizes .levels-limit, W .few-levels);
         few-support = omega (arith, A .order-long, support-few σ ns);
-        few-nodes = omega arith;
+        few-nodes = omega (arith, W .few-digits);
         few-roots = omega (arith, A .roots-few);
         root-low = λ i h.
             let r = getD roots i (pos 0) in
-            rw (mapped-at (renumbered ns) roots i (pos 0) (pos 0) (rw many at h)) (omega (arith, renumbered-abs ns r, seat-most (natAbs r) ns));
+            rw (mapped-at (renumbered ns) roots i (pos 0) (pos 0) (rw many at h))
+            (omega (arith, renumbered-abs ns r, seat-most (natAbs r) ns, W .few-digits));
         few-rootnames =
             ⊎-elim (λ e. omega arith) (λ e. omega arith) (list-count (length roots) (p .bytes) (p .rootstarts) (p .rootlens) (A .names .rootnames));
       }
@@ -68,7 +70,7 @@ module _ (s : Settings) {σ : Store} {roots : List ℤ} {order : List ℕ} {p : 
         arith,
         file-length,
         head-short (headingOf s σ roots order p ns) heading-small,
-        lines-short E (s .ascii),
+        lines-short W E (s .ascii),
         lines-few E,
         A .order-long,
         length-map roots (renumbered ns),
@@ -95,7 +97,7 @@ module _ (s : Settings) {σ : Store} {roots : List ℤ} {order : List ℕ} {p : 
       end-room e f k = omega (arith, all-fit)
 
       -- written one after another they are the file
-      pub file-written : {l m n o : List ℕ} {at next end : ℕ} → Wrote l 0 h at m → Wrote m at b next n → Wrote n next endText end o
+      pub file-written : {l k n o : List ℕ} {at next end : ℕ} → Wrote l 0 h at k → Wrote k at b next n → Wrote n next endText end o
           → l ≡ replicate out 0
           → (end ≡ length (fileOf s σ roots order p ns)) × (o ≡ laid (fileOf s σ roots order p ns) (replicate out 0))
       unfolding fileOf

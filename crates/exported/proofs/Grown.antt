@@ -6,7 +6,8 @@ use native.Mathlib.Nat.{le-refl}
 use lib.ListN.{length}
 use lib.IntN.{ℤ}
 use Rattle.store.specs.Store.{Store}
-use Rattle.store.specs.Rules.{limits, Rules}
+use Rattle.codes.specs.Limits.{Limits}
+use Rattle.store.specs.Rules.{Rules}
 use Rattle.store.specs.Growth.{Grows}
 use Rattle.store.proofs.Growth.{grow-edge}
 use Rattle.export_size.specs.Size.{exportSize}
@@ -18,7 +19,7 @@ use Rattle.exported.specs.Export.{headingOf, fileOf}
 use Rattle.exported.proofs.Accepted.{Accepted}
 
 module _ {σ τ : Store} (G : Grows σ τ) {roots : List ℤ} where
-  module _ (s : Settings) (order : List ℕ) (p : Lent) {ns : List ℕ} (E : Exported σ roots ns) where
+  module _ {m : Limits} (s : Settings) (order : List ℕ) (p : Lent) {ns : List ℕ} (E : Exported m σ roots ns) where
     -- the header says the same
     pub heading-grown : headingOf s τ roots order p ns ≡ headingOf s σ roots order p ns
     unfolding headingOf
@@ -30,8 +31,8 @@ module _ {σ τ : Store} (G : Grows σ τ) {roots : List ℤ} where
     file-grown = rw (heading-grown, lines-grown G E)
 
   -- roots, order and names that were accepted would be so later, with marks and output of the lengths that are wanted then
-  pub accepted-grown : {order : List ℕ} {p : Lent} {slots numbers out : ℕ} → Rules limits τ → Accepted σ roots order p slots numbers out
-      → Accepted τ roots order p (τ .count) (τ .count) (exportSize (τ .count) (τ .levels) (length roots) (p .lens) (p .rootlens) (p .dd .len))
+  pub accepted-grown : {m : Limits} {order : List ℕ} {p : Lent} {slots numbers out : ℕ} → Rules m τ → Accepted m σ roots order p slots numbers out
+      → Accepted m τ roots order p (τ .count) (τ .count) (exportSize (τ .count) (τ .levels) (length roots) (p .lens) (p .rootlens) (p .dd .len))
   accepted-grown R A = record {
     slots-long = le-refl _;
     numbers-long = le-refl _;

@@ -6,7 +6,7 @@ use Prim.Native.Nat.{ℕ, suc, _≤_, _<_}
 use native.Mathlib.Omega.{arith}
 use lib.ListN.{length, getD, take, replicate, length-replicate}
 use lib.IntN.{ℤ, pos, natAbs}
-use Rattle.codes.specs.Limits.{varLimit}
+use Rattle.codes.specs.Limits.{limits, varLimit}
 use Rattle.codes.specs.Lent.{laid}
 use Rattle.codes.specs.declared.DDDMPVersion.{DDDMPVersion}
 use Rattle.codes.proofs.Lent.{length-laid}
@@ -33,12 +33,12 @@ use Rattle.exported.specs.Export.{headingOf}
 use Rattle.exported.proofs.Accepted.{Accepted}
 use Rattle.exported.proofs.Bare.{bare-walkable, bare-allowed}
 
-module _ {σ : Store} {roots : List ℤ} {order : List ℕ} {p : Lent} {room marks out : ℕ} (A : Accepted σ roots order p room marks out) where
+module _ {σ : Store} {roots : List ℤ} {order : List ℕ} {p : Lent} {room marks out : ℕ} (A : Accepted limits σ roots order p room marks out) where
   abbrev ns : List ℕ
   ns = numbering (bare σ) roots
 
   -- the numbering is one that document 01 allows
-  pub exported : Exported σ roots ns
+  pub exported : Exported limits σ roots ns
   exported = record {
     rules = A .rules;
     roots-there = A .roots-there;

@@ -7,10 +7,9 @@ use mathlib.Core.Bool.{Bool, true, _&&_}
 use lib.Dec.{leb}
 use lib.ListN.{length}
 use lib.IntN.{ℤ, natAbs}
-use Rattle.codes.specs.Limits.{rootLimit}
+use Rattle.codes.specs.Limits.{Limits, rootLimit}
 use Rattle.codes.specs.Faults.{firstFault, unless}
 use Rattle.store.specs.Store.{Store}
-use Rattle.store.specs.Rules.{limits}
 use Rattle.store.specs.Keeps.{keeps}
 use Rattle.variable_order.specs.Order.{isOrder}
 use Rattle.export_names.specs.Names.{nameAt, fitPlace, nameListFits}
@@ -51,11 +50,11 @@ namesFit σ roots p =
     && fitPlace true (p .bytes) (p .dd)
 
 -- 'Export gives 1, 3, 4, 6, 5.' The refusal, 0 of none.
-unfoldable pub exportFault : Store → List ℤ → List ℕ → Lent → ℕ → ℕ → ℕ → ℕ
-exportFault σ roots order p slots numbers out =
+unfoldable pub exportFault : Limits → Store → List ℤ → List ℕ → Lent → ℕ → ℕ → ℕ → ℕ
+exportFault m σ roots order p slots numbers out =
     firstFault (
     unless (longEnough σ roots p slots numbers out) 1
-    ∷ unless (keeps limits σ) 3
+    ∷ unless (keeps m σ) 3
     ∷ unless (rootsFit (σ .count) roots) 4
     ∷ unless (isOrder (σ .levels) order) 6
     ∷ unless (namesFit σ roots p) 5

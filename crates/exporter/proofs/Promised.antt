@@ -6,7 +6,7 @@ use native.Mathlib.Omega.{arith}
 use lib.ListN.{length, replicate}
 use lib.IntN.{ℤ}
 use Rattle.codes.specs.Answer.{value}
-use Rattle.codes.specs.Limits.{varLimit}
+use Rattle.codes.specs.Limits.{limits, varLimit}
 use Rattle.codes.specs.Lent.{laid}
 use Rattle.store.specs.Store.{Store}
 use Rattle.seats.specs.Seats.{Seats}
@@ -27,14 +27,14 @@ own-zeros e z = rw e z
 
 -- The lists that were lent are as long as ever when the refusal k is found.
 module _ (σ : Store) (roots : List ℤ) (order : List ℕ) (p : Lent) {a b c slots numbers lent k : ℕ} (x : a ≡ slots) (y : b ≡ numbers) (z : c ≡ lent)
-    (e : k ≡ exportFault σ roots order p a b c) where
-  refusal : k ≡ exportFault σ roots order p slots numbers lent
+    (e : k ≡ exportFault limits σ roots order p a b c) where
+  refusal : k ≡ exportFault limits σ roots order p slots numbers lent
   refusal = e ∙ rw (x, y, z)
 
   -- a refusal, with an output of zeros
   pub promised-none : (s : Settings) {out : List ℕ} → (k ≡ 0 → ⊥) → out ≡ replicate lent 0
-      → ExportsBy (exportFault σ roots order p slots numbers lent) s σ roots order p lent (Refused k) out
-  promised-none s {out} f q = go (exportFault σ roots order p slots numbers lent) refusal
+      → ExportsBy (exportFault limits σ roots order p slots numbers lent) s σ roots order p lent (Refused k) out
+  promised-none s {out} f q = go (exportFault limits σ roots order p slots numbers lent) refusal
     where
       go : (fault : ℕ) → k ≡ fault → ExportsBy fault s σ roots order p lent (Refused k) out
       go zero e = absurd (f e)
@@ -50,7 +50,7 @@ module _ (σ : Store) (roots : List ℤ) (order : List ℕ) (p : Lent) {a b c sl
     -- and the file of the numbered nodes is written
     pub promised-file : (s : Settings) {n : ℕ} {out : List ℕ} → n ≡ length (fileOf s σ roots order p (numbering (bare σ) roots))
         → out ≡ laid (fileOf s σ roots order p (numbering (bare σ) roots)) (replicate c 0)
-        → ExportsBy (exportFault σ roots order p slots numbers lent) s σ roots order p lent (Written n) out
+        → ExportsBy (exportFault limits σ roots order p slots numbers lent) s σ roots order p lent (Written n) out
     promised-file s q w =
         rw (sym refusal ∙ none) (record {
           nodes = numbering (bare σ) roots;

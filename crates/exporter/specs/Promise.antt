@@ -4,6 +4,7 @@ use mathlib.Core.Path.{_≡_}
 use mathlib.Core.List.{List}
 use lib.ListN.{length, replicate}
 use lib.IntN.{ℤ}
+use Rattle.codes.specs.Limits.{limits}
 use Rattle.codes.specs.Answer.{Read, value, refused}
 use Rattle.codes.specs.Lent.{laid, Part, old, new}
 use Rattle.store.specs.Store.{Store}
@@ -50,7 +51,7 @@ module _ (self : ExportSettings) (levels count : ℕ) (level : Part (List ℕ)) 
   lentNames = lent (old bytes) (old starts) (old lens) (old rootstarts) (old rootlens) (ofSettings self .dd)
 
   abbrev fault : ℕ
-  fault = exportFault lentStore (old roots) (old order) lentNames (length (old slots)) (length (old numbers)) (length (old out))
+  fault = exportFault limits lentStore (old roots) (old order) lentNames (length (old slots)) (length (old numbers)) (length (old out))
 
   pub record ExporterPromise (r : Exported) : Type 0 where
     -- 'Export gives 1, 3, 4, 6, 5'; 'on success unused output is zero'

@@ -2,12 +2,12 @@
 use mathlib.Core.Path.{_≡_, refl, ap, _∙_}
 use mathlib.Core.Bool.{Bool, true, false, cond}
 use mathlib.Core.List.{List, [], _∷_, _++_, map, flatten}
-use Prim.Native.Nat.{ℕ, suc, _+_, _*_, _≤_, _<_}
+use Prim.Native.Nat.{ℕ, suc, _+_, _*_, _^_, _≤_, _<_}
 use native.Mathlib.Omega.{arith}
 use native.Mathlib.Decide.{ℕ-discrete}
 use lib.ListN.{length, getD, length-append}
 use lib.IntN.{ℤ, pos, natAbs}
-use Rattle.codes.specs.Limits.{varLimit, rootLimit, nodeLimit}
+use Rattle.codes.specs.Limits.{varLimit, rootLimit}
 use Rattle.codes.specs.declared.DDDMPVersion.{DDDMPVersion}
 use Rattle.codes.specs.declared.DDDMPVersion.the-variants.{«V2_0», «V3_0»}
 use Rattle.header_keys.specs.declared.Key.the-variants.{Ver, Mode, Varinfo, Dd, Nnodes, Nvars, Nsuppvars, Nroots, Rootnames, Varnames}
@@ -65,12 +65,12 @@ levels-short support (l ∷ order) f = go (isIn l support) (levels-short support
     go true k = omega (arith, spaced-length (decimal l) (map decimal (permidsOf support order)), decimal-short l 4 (omega (arith, f 0 (omega arith))) (omega arith))
     go false k = omega arith
 
--- the roots, at most 32,767 each
-roots-short : (es : List ℤ) → ((i : ℕ) → i < length es → natAbs (getD es i (pos 0)) ≤ nodeLimit) → length (spaced (map edgeText es)) ≤ 7 * length es
+-- the roots, of at most seven digits each
+roots-short : (es : List ℤ) → ((i : ℕ) → i < length es → natAbs (getD es i (pos 0)) < 10 ^ 7) → length (spaced (map edgeText es)) ≤ 9 * length es
 unfolding spaced
 roots-short [] f = omega arith
 roots-short (e ∷ es) f =
-    omega (arith, roots-short es (λ i h. f (suc i) (omega arith)), spaced-length (edgeText e) (map edgeText es), edge-short 5 e (omega (arith, f 0 (omega arith))) (omega arith))
+    omega (arith, roots-short es (λ i h. f (suc i) (omega arith)), spaced-length (edgeText e) (map edgeText es), edge-short 7 e (omega (arith, f 0 (omega arith))) (omega arith))
 
 -- The groups of lines.
 version-length : (version : DDDMPVersion) → length (versionText version) ≡ 9
@@ -100,15 +100,15 @@ intro-short version ascii dd =
       diagram-short dd,
     )
 
-counts-short : (nnodes nvars nsuppvars : ℕ) → nnodes ≤ nodeLimit → nvars ≤ varLimit → nsuppvars ≤ varLimit
-    → length (linesText (countLines nnodes nvars nsuppvars)) ≤ 42
+counts-short : (nnodes nvars nsuppvars : ℕ) → nnodes < 10 ^ 7 → nvars ≤ varLimit → nsuppvars ≤ varLimit
+    → length (linesText (countLines nnodes nvars nsuppvars)) ≤ 44
 unfolding sum
 counts-short nnodes nvars nsuppvars h k l =
     omega (
       arith,
       parts-length _ (count-parts nnodes nvars nsuppvars),
       word-length (keyText Nnodes) (decimal nnodes),
-      decimal-short nnodes 5 (omega arith) (omega arith),
+      decimal-short nnodes 7 (omega arith) (omega arith),
       word-length (keyText Nvars) (decimal nvars),
       decimal-short nvars 4 (omega arith) (omega arith),
       word-length (keyText Nsuppvars) (decimal nsuppvars),
@@ -156,8 +156,8 @@ id-lines-short support order p h =
     )
 
 root-lines-short : (rootids : List ℤ) (rootnames : List (List ℕ)) → length rootids ≤ rootLimit
-    → ((i : ℕ) → i < length rootids → natAbs (getD rootids i (pos 0)) ≤ nodeLimit)
-    → length (linesText (rootLines rootids rootnames)) ≤ 33 + (7 * length rootids + (length rootnames + sum (map length rootnames)))
+    → ((i : ℕ) → i < length rootids → natAbs (getD rootids i (pos 0)) < 10 ^ 7)
+    → length (linesText (rootLines rootids rootnames)) ≤ 33 + (9 * length rootids + (length rootnames + sum (map length rootnames)))
 unfolding sum
 root-lines-short rootids rootnames h f =
     omega (

@@ -9,7 +9,7 @@ use native.Mathlib.Decide.{decLt}
 use lib.ListN.{length, getD, length-append, List·getD-map, List·getD-eq-default}
 use lib.IntN.{ℤ, natAbs}
 use lib.Dec.{ltb}
-use Rattle.codes.specs.Limits.{varLimit, nodeLimit}
+use Rattle.codes.specs.Limits.{varLimit}
 use Rattle.codes.specs.declared.Code.{Code}
 use Rattle.codes.specs.declared.Code.the-variants.{Terminal, AbsoluteID, RelativeID, Relative1}
 use Rattle.edges.specs.Edge.{minus}
@@ -20,22 +20,22 @@ use Rattle.writers.proofs.SevenBit.{seven-bit-short}
 use Rattle.node_writers.specs.Encoded.{textBytes, codeByte, numberFor, childCode, smaller, variableCode, innerBytes, binBytes, encodeFrom, lineBytes, nodeBytes}
 use Rattle.node_writers.proofs.LineBytes.{length-terminal, length-text}
 
--- a line whose numbers are within the limits
+-- a line whose position is within the limit, and whose numbers have seven digits at most
 abbrev pub Small : Line → Type 0
 Small terminal = Unit
-Small (inner p t e) = (p < varLimit) × (natAbs t ≤ nodeLimit) × (natAbs e ≤ nodeLimit)
+Small (inner p t e) = (p < varLimit) × (natAbs t < 10 ^ 7) × (natAbs e < 10 ^ 7)
 
--- A line of text has at most five digits for its number and each child's, and four for its position.
-text-short : (n : ℕ) (l : Line) → n ≤ nodeLimit → Small l → length (textBytes n l) ≤ 32
-text-short n terminal h s = omega (arith, length-terminal n, decimal-short n 5 (omega arith) (omega arith))
+-- A line of text has at most seven digits for its number and each child's, and four for its position.
+text-short : (n : ℕ) (l : Line) → n < 10 ^ 7 → Small l → length (textBytes n l) ≤ 32
+text-short n terminal h s = omega (arith, length-terminal n, decimal-short n 7 (omega arith) (omega arith))
 text-short n (inner p t e) h s =
     omega (
       arith,
       length-text n p t e,
-      decimal-short n 5 (omega arith) (omega arith),
+      decimal-short n 7 (omega arith) (omega arith),
       decimal-short p 4 (omega arith) (omega arith),
-      edge-short 5 t (omega arith) (omega arith),
-      edge-short 5 e (omega arith) (omega arith),
+      edge-short 7 t (omega arith) (omega arith),
+      edge-short 7 e (omega arith) (omega arith),
     )
 
 -- A binary line has two bytes at most for its codes, and as many for each group of a number.
@@ -45,7 +45,7 @@ number-short AbsoluteID absolute distance k a d s = seven-bit-short absolute k a
 number-short RelativeID absolute distance k a d s = seven-bit-short distance k d s
 number-short Relative1 absolute distance k a d s = omega arith
 
-inner-short : (n p : ℕ) (t e : ℤ) (seat : ℕ) → n ≤ nodeLimit → Small (inner p t e) → seat ≤ varLimit → length (innerBytes n p t e seat) ≤ 32
+inner-short : (n p : ℕ) (t e : ℤ) (seat : ℕ) → n < 10 ^ 7 → Small (inner p t e) → seat ≤ varLimit → length (innerBytes n p t e seat) ≤ 32
 unfolding innerBytes
 inner-short n p t e seat h s l =
     let variable = variableCode p seat in
@@ -56,8 +56,8 @@ inner-short n p t e seat h s l =
       arith,
       escaped-short (codeByte variable then (minus e) els),
       number-short variable p (seat - 1 - p) 2 (omega arith) (omega arith) (omega arith),
-      number-short then (natAbs t) (n - natAbs t) 3 (omega arith) (omega arith) (omega arith),
-      number-short els (natAbs e) (n - natAbs e) 3 (omega arith) (omega arith) (omega arith),
+      number-short then (natAbs t) (n - natAbs t) 4 (omega arith) (omega arith) (omega arith),
+      number-short els (natAbs e) (n - natAbs e) 4 (omega arith) (omega arith) (omega arith),
     ))
 
 -- of two seats the smaller is one of them
@@ -71,7 +71,7 @@ smaller-most (suc t) (suc e) m h k = go (ltb t e)
     go false = k
 
 -- A line of either mode.
-pub line-short : (ascii : Bool) (seats : List ℕ) (n : ℕ) (l : Line) → ((i : ℕ) → getD seats i 0 ≤ varLimit) → n ≤ nodeLimit → Small l
+pub line-short : (ascii : Bool) (seats : List ℕ) (n : ℕ) (l : Line) → ((i : ℕ) → getD seats i 0 ≤ varLimit) → n < 10 ^ 7 → Small l
     → length (lineBytes ascii seats n l) ≤ 32
 unfolding binBytes
 line-short true seats n l low h s = text-short n l h s
@@ -91,7 +91,7 @@ encode-short write n (l ∷ ls) h =
     omega (arith, length-append (write n l) (encodeFrom write (n + 1) ls))
 
 -- All lines of a file.
-pub nodes-short : (ascii : Bool) (ls : List Line) → length ls ≤ nodeLimit → ((i : ℕ) → i < length ls → Small (getD ls i terminal))
+pub nodes-short : (ascii : Bool) (ls : List Line) → length ls < 10 ^ 7 → ((i : ℕ) → i < length ls → Small (getD ls i terminal))
     → length (nodeBytes ascii ls) ≤ 32 * length ls
 unfolding nodeBytes
 nodes-short ascii ls few small = encode-short (lineBytes ascii (map seatOfLine ls)) 1 ls (λ i h. line-short ascii (map seatOfLine ls) (1 + i) (getD ls i terminal) low (omega arith) (small i h))

@@ -4,7 +4,7 @@ use mathlib.Core.Bool.{true, false}
 use borrow.Author.Needs.{needs}
 use Rattle.header_values.specs.Kinds.{ofPlace}
 use Rattle.store.specs.Store.{Store, store}
-use Rattle.store.specs.Rules.{limits}
+use Rattle.codes.specs.Limits.{limits}
 use Rattle.store.specs.Keeps.{keeps}
 use Rattle.variable_order.specs.Order.{isOrder}
 use Rattle.heading.specs.Tables.{Lent, lent}

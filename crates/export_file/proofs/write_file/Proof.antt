@@ -5,6 +5,7 @@ use Prim.Native.Nat.{ℕ, _≤_}
 use native.Mathlib.Omega.{arith}
 use lib.ListN.{length, take, replicate}
 use lib.Seq.{length-take-le}
+use Rattle.codes.specs.Limits.{limits}
 use Rattle.codes.specs.Lent.{laid}
 use Rattle.header_values.specs.Kinds.{ofPlace}
 use Rattle.store.specs.Store.{Store, store, slots}
@@ -13,6 +14,7 @@ use Rattle.numbering.specs.Numbering.{numbering}
 use Rattle.export_nodes.specs.Lines.{linesFor}
 use Rattle.node_writers.specs.Encoded.{nodeBytes}
 use Rattle.export_nodes.specs.Tables.{linesBy}
+use Rattle.codes.proofs.LimitsNow.{limits-exports}
 use Rattle.export_nodes.proofs.ExportLines.{Filled}
 use Rattle.heading.specs.Heading.{headText}
 use Rattle.heading.specs.Tables.{Lent, lent, headingBy}
@@ -90,7 +92,7 @@ file s = fileOf (chosen s) (σ s) (s .args .roots .now) (s .args .order .now) (n
 
 -- nothing is refused of it
 taken : (s : tie.Start)
-    → Accepted (σ s) (s .args .roots .now) (s .args .order .now) (names s) (length (s .args .slots .now)) (length (s .args .numbers .now))
+    → Accepted limits (σ s) (s .args .roots .now) (s .args .order .now) (names s) (length (s .args .slots .now)) (length (s .args .numbers .now))
     (length (s .args .out .now))
 taken s = accepted _ _ _ _ _ _ _ (s .pre .taken)
 
@@ -141,7 +143,7 @@ file-is : (e : tie.After-put-bytes)
     → (e .put-bytes .result ≡ length (file (origin (seated (headed (bodied e))))))
     × (e .put-bytes .last .0 ≡ laid (file (origin (seated (headed (bodied e))))) (replicate (length (origin (seated (headed (bodied e))) .args .out .now)) 0))
 file-is e =
-    file-written (chosen (origin (seated (headed (bodied e))))) (taken (origin (seated (headed (bodied e)))))
+    file-written (chosen (origin (seated (headed (bodied e))))) limits-exports (taken (origin (seated (headed (bodied e)))))
     (exported (taken (origin (seated (headed (bodied e))))))
     (header-is (seated (headed (bodied e)))) (lines-are (seated (headed (bodied e)))) (headed (bodied e) .write-header .ensures)
     (bodied e .write-nodes .ensures) (e .put-bytes .ensures) (origin (seated (headed (bodied e))) .pre .out-clear)
@@ -188,7 +190,7 @@ write-header-requires c κs =
       names = taken (origin d) .names;
       counted = seats-count (taken (origin d)) (numbered d .number-nodes .ensures .many) (numbered d .number-nodes .ensures .lies) (tables d)
           (d .seat-levels .ensures .0);
-      room = head-room (chosen (origin d)) (taken (origin d)) (exported (taken (origin d))) (header-is d);
+      room = head-room (chosen (origin d)) limits-exports (taken (origin d)) (exported (taken (origin d))) (header-is d);
     }
 
 slice-reshare-prefix-write-nodes : tie.Need-slice-reshare-prefix-write-nodes
@@ -205,7 +207,8 @@ write-nodes-requires c κs =
     let h = at-write-header (c .before) in
     let d = seated h in (
       lined (taken (origin d)) (numbered d .number-nodes .ensures .many) (numbered d .number-nodes .ensures .lies) (tables d),
-      body-room (chosen (origin d)) (taken (origin d)) (exported (taken (origin d))) (header-is d) (lines-are d) (h .write-header .ensures .next)
+      body-room (chosen (origin d)) limits-exports (taken (origin d)) (exported (taken (origin d)))
+          (header-is d) (lines-are d) (h .write-header .ensures .next)
           (h .write-header .kept .1 .1 .0),
     )
 
@@ -216,7 +219,8 @@ put-bytes-requires : tie.Need-put-bytes-requires
 put-bytes-requires c κs =
     let w = at-write-nodes (c .before .before .before) in
     let d = seated (headed w) in
-    end-room (chosen (origin d)) (taken (origin d)) (exported (taken (origin d))) (header-is d) (lines-are d) (headed w .write-header .ensures .next)
+    end-room (chosen (origin d)) limits-exports (taken (origin d)) (exported (taken (origin d)))
+    (header-is d) (lines-are d) (headed w .write-header .ensures .next)
     (w .write-nodes .ensures .next) (out-kept w)
 
 same-length : tie.Need-same-length

@@ -4,6 +4,7 @@ use mathlib.Core.Path.{_≡_, refl, sym, ap, _∙_}
 use mathlib.Core.List.{List}
 use Prim.Native.Nat.{ℕ}
 use lib.ListN.{length, replicate}
+use Rattle.codes.specs.Limits.{limits}
 use Rattle.header_values.specs.Kinds.{ofPlace}
 use Rattle.store.specs.Store.{Store, store}
 use Rattle.heading.specs.Tables.{Lent, lent}
@@ -58,7 +59,7 @@ names s =
     lent (s .args .bytes .now) (s .args .starts .now) (s .args .lens .now) (s .args .rootstarts .now) (s .args .rootlens .now) (ofPlace (s .args .self .dd))
 
 abbrev fault : tie.Start → ℕ → ℕ → ℕ → ℕ
-fault s slots numbers out = exportFault (σ s) (s .args .roots .now) (s .args .order .now) (names s) slots numbers out
+fault s slots numbers out = exportFault limits (σ s) (s .args .roots .now) (s .args .order .now) (names s) slots numbers out
 
 abbrev Promised : tie.Start → Exported → List ℕ → Type 0
 Promised s r out =

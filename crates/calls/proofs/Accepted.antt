@@ -5,9 +5,9 @@ use mathlib.Core.Bool.{true}
 use mathlib.Core.Logic.{_↔_}
 use Prim.Native.Nat.{ℕ}
 use Rattle.store.specs.Store.{Store}
-use Rattle.store.specs.Rules.{limits, Rules}
+use Rattle.store.specs.Rules.{Rules}
 use Rattle.store.specs.Keeps.{keeps-true, rules-keeps}
-use Rattle.codes.specs.Limits.{varLimit, rootLimit}
+use Rattle.codes.specs.Limits.{Limits, varLimit, rootLimit}
 use Rattle.header_lines.specs.Sweep.{linesOf}
 use Rattle.header_lines.proofs.HeaderEnd.{sound-lines}
 use Rattle.header_values.specs.Values.{nsuppvarsIn}
@@ -32,41 +32,41 @@ use Rattle.calls.proofs.Passes.{between-none, none-between, Passes, loa
 abbrev said : Load → ℕ → ℕ → Header
 said c next lines = headerIn (c .file) (tableOf (c .file)) next lines
 
-module _ (c : Load) (σ : Store) where
+module _ (m : Limits) (c : Load) (σ : Store) where
   -- the store of a header that stands keeps the rules
-  pub stands-rules : (h : Header) → Stands c σ h → Rules limits σ
-  stands-rules h s = keeps-true limits σ (s .kept)
+  pub stands-rules : (h : Header) → Stands m c σ h → Rules m σ
+  stands-rules h s = keeps-true m σ (s .kept)
 
   -- the nodes are read exactly where they are accepted
-  nodes-accept : (h : Header) → Rules limits σ → LevelsOf σ (c .list)
-      → ((at : ℕ) × (nodesOf c σ h .answer ≡ nodes at)) ↔ accept.NodesAccepted (setupOf c (σ .levels) h) σ (c .file) (h .next)
+  nodes-accept : (h : Header) → Rules m σ → LevelsOf σ (c .list)
+      → ((at : ℕ) × (nodesOf m c σ h .answer ≡ nodes at)) ↔ accept.NodesAccepted m (setupOf c (σ .levels) h) σ (c .file) (h .next)
   nodes-accept h R W = import-accepted.accepted (setupOf c (σ .levels) h) σ (c .file) (h .next) _ R W
 
   -- the header that an accepted file says
-  abbrev pub saidBy : Accepts c σ → Header
+  abbrev pub saidBy : Accepts m c σ → Header
   saidBy A = said c (A .next) (A .lines)
 
   -- it is sound
-  pub sound-of : (A : Accepts c σ) → Sound (c .file) (saidBy A)
+  pub sound-of : (A : Accepts m c σ) → Sound m (c .file) (saidBy A)
   sound-of A = record {
     next = A .next;
     lines = A .lines;
     ends = sound-lines (c .file) (linesOf (c .file)) (A .next) (A .lines) .1 (A .header-lines);
-    whole = whole-rules (c .file) (tableOf (c .file)) .1 (A .whole);
+    whole = whole-rules m (c .file) (tableOf (c .file)) .1 (A .whole);
     is = refl;
   }
 
   -- its level list fits
-  pub list-fits : (A : Accepts c σ) → listFits (nsuppvarsIn (c .file) (tableOf (c .file))) (σ .levels) (c .list) ≡ true
+  pub list-fits : (A : Accepts m c σ) → listFits (nsuppvarsIn (c .file) (tableOf (c .file))) (σ .levels) (c .list) ≡ true
   list-fits A = list-allowed _ _ (c .list) .1 (A .levels-counted, A .levels-allowed)
 
   -- where all stages pass the conditions hold
-  passes-accepts : (h : Header) → Passes c σ h → Accepts c σ
+  passes-accepts : (h : Header) → Passes m c σ h → Accepts m c σ
   passes-accepts h p =
-      let S = answer-stands c σ h (p .header-read) in
-      go S (subst (Passes c σ) (S .sound .is) p)
+      let S = answer-stands m c σ h (p .header-read) in
+      go S (subst (Passes m c σ) (S .sound .is) p)
     where
-      go : (S : Stands c σ h) → Passes c σ (said c (S .sound .next) (S .sound .lines)) → Accepts c σ
+      go : (S : Stands m c σ h) → Passes m c σ (said c (S .sound .next) (S .sound .lines)) → Accepts m c σ
       go S p =
           let R = stands-rules h S in
           let b = between-none c σ _ (p .unrefused) in
@@ -78,7 +78,7 @@ module _ (c : Load) (σ : Store) where
             next = S .sound .next;
             lines = S .sound .lines;
             header-lines = sound-lines (c .file) (linesOf (c .file)) _ _ .0 (S .sound .ends);
-            whole = whole-rules (c .file) (tableOf (c .file)) .0 (S .sound .whole);
+            whole = whole-rules m (c .file) (tableOf (c .file)) .0 (S .sound .whole);
             edges-long = b .0;
             seats-long = b .1 .0;
             levels-counted = list-allowed _ _ (c .list) .0 (b .1 .1) .0;
@@ -87,14 +87,14 @@ module _ (c : Load) (σ : Store) where
           }
 
   -- and the other way
-  pub accepts-passes : (A : Accepts c σ) → Passes c σ (saidBy A)
+  pub accepts-passes : (A : Accepts m c σ) → Passes m c σ (saidBy A)
   accepts-passes A =
       let w = nodes-accept (saidBy A) (A .rules) (list-levels _ _ (c .list) (list-fits A)) .1 (A .node-lines) in
       record {
-        header-read = stands-answer c σ (saidBy A) (record {
+        header-read = stands-answer m c σ (saidBy A) (record {
           vars-long = lengths-enough varLimit (variableLists (c .lent)) .1 (A .variables-long);
           roots-long = lengths-enough rootLimit (rootLists (c .lent)) .1 (A .roots-long);
-          kept = rules-keeps limits σ (A .rules);
+          kept = rules-keeps m σ (A .rules);
           short = A .short;
           sound = sound-of A;
         });
@@ -104,23 +104,23 @@ module _ (c : Load) (σ : Store) where
       }
 
   -- where the conditions hold the answer is the header that the file says
-  pub accepted-header : (A : Accepts c σ) → loadOf c σ .answer ≡ header (saidBy A)
-  accepted-header A = ap (λ r. r .answer) (passes-load c σ (saidBy A) (accepts-passes A))
+  pub accepted-header : (A : Accepts m c σ) → loadOf m c σ .answer ≡ header (saidBy A)
+  accepted-header A = ap (λ r. r .answer) (passes-load m c σ (saidBy A) (accepts-passes A))
 
   -- and there it is what the file's lines say
-  said-header : (A : Accepts c σ) → HeaderSaid (c .file) (saidBy A)
+  said-header : (A : Accepts m c σ) → HeaderSaid (c .file) (saidBy A)
   said-header A = header-said (c .file) (A .next) (A .lines) (A .header-lines)
 
   -- where the answer is a header the conditions hold
-  pub answered : (h : Header) → loadOf c σ .answer ≡ header h → Accepts c σ
-  answered h q = let w = load-passes c σ h q in passes-accepts (w .0) (w .1)
+  pub answered : (h : Header) → loadOf m c σ .answer ≡ header h → Accepts m c σ
+  answered h q = let w = load-passes m c σ h q in passes-accepts (w .0) (w .1)
 
   -- then all stages pass with it
-  pub answered-passes : (h : Header) → loadOf c σ .answer ≡ header h → Passes c σ h
-  answered-passes h q = let A = answered h q in subst (Passes c σ) (one-header (sym (accepted-header A) ∙ q)) (accepts-passes A)
+  pub answered-passes : (h : Header) → loadOf m c σ .answer ≡ header h → Passes m c σ h
+  answered-passes h q = let A = answered h q in subst (Passes m c σ) (one-header (sym (accepted-header A) ∙ q)) (accepts-passes A)
 
   -- A load is accepted with a header exactly where the file's lines say this header and the conditions hold.
-  pub accepted : (h : Header) → (loadOf c σ .answer ≡ header h) ↔ (HeaderSaid (c .file) h × Accepts c σ)
+  pub accepted : (h : Header) → (loadOf m c σ .answer ≡ header h) ↔ (HeaderSaid (c .file) h × Accepts m c σ)
   accepted h = (
     λ q. let A = answered h q in (subst (HeaderSaid (c .file)) (one-header (sym (accepted-header A) ∙ q)) (said-header A), A),
     λ w. let A = w .1 in accepted-header A ∙ ap header (sym (one-said (c .file) (A .next) (A .lines) (A .header-lines) h (w .0))),
@@ -132,13 +132,13 @@ module _ (c : Load) (σ : Store) where
   lists-by f (refusal n line) h q = no-header q
 
   -- The lists of an accepted load are what the file's lines say.
-  pub accepted-lists : (h : Header) → loadOf c σ .answer ≡ header h → LoadedLists (c .file) h (loadOf c σ)
+  pub accepted-lists : (h : Header) → loadOf m c σ .answer ≡ header h → LoadedLists (c .file) h (loadOf m c σ)
   unfolding headerOf head.loadHeader
   accepted-lists h q =
       let A = answered h q in
       let p = accepts-passes A in
       let e = one-header (sym (accepted-header A) ∙ q) in
-      let a = head.after (beforeHeader c σ) (c .file) in
+      let a = head.after m (beforeHeader m c σ) (c .file) in
       let l = lists-by (c .file) a (saidBy A) (p .header-read) in
-      subst (λ (g : Header). LoadedLists (c .file) g (loadOf c σ)) e
-      (rw (passes-load c σ (saidBy A) p, l) (lists-said (c .file) (A .next) (A .lines) (A .header-lines) (A .whole) a))
+      subst (λ (g : Header). LoadedLists (c .file) g (loadOf m c σ)) e
+      (rw (passes-load m c σ (saidBy A) p, l) (lists-said (c .file) (A .next) (A .lines) (A .header-lines) (A .whole) a))

@@ -11,7 +11,8 @@ use lib.IntN.{ℤ}
 use borrow.Author.Tests.{le-leb}
 use Rattle.codes.specs.Answer.{Read, value}
 use Rattle.store.specs.Store.{Store}
-use Rattle.store.specs.Rules.{limits, Rules}
+use Rattle.codes.specs.Limits.{Limits}
+use Rattle.store.specs.Rules.{Rules}
 use Rattle.store.specs.Keeps.{rules-keeps}
 use Rattle.store.specs.Meaning.{answer}
 use Rattle.store.specs.Settings.{chosen}
@@ -30,27 +31,27 @@ abbrev pub Answers : Option Bool → Read Bool → Type 0
 Answers x r = (b : Bool) × ((x ≡ some b) × (r ≡ value b))
 
 -- an edge of a store that keeps the rules answers what it means
-means-evaluates : (τ : Store) (e : ℤ) (m : Meaning) (s : List Bool) → Rules limits τ → Means τ e m → length s ≡ τ .levels
-    → Answers (m (chosen s)) (evaluateOf e (bytesOf s) τ)
+means-evaluates : {m : Limits} (τ : Store) (e : ℤ) (x : Meaning) (s : List Bool) → Rules m τ → Means τ e x → length s ≡ τ .levels
+    → Answers (x (chosen s)) (evaluateOf m e (bytesOf s) τ)
 unfolding evaluation
-means-evaluates τ e m s R M q = (answer τ (chosen s) e, (M .agrees (chosen s), go))
+means-evaluates {m} τ e x s R M q = (answer τ (chosen s) e, (M .agrees (chosen s), go))
   where
-    go : evaluateOf e (bytesOf s) τ ≡ value (answer τ (chosen s) e)
+    go : evaluateOf m e (bytesOf s) τ ≡ value (answer τ (chosen s) e)
     go =
         let a = bytes-setting τ s .1 q in
-        rw (rules-keeps limits τ R, le-leb 1 _ (M .edge .some), le-leb _ (τ .count) (M .edge .there), a, setting-chosen s)
+        rw (rules-keeps m τ R, le-leb 1 _ (M .edge .some), le-leb _ (τ .count) (M .edge .there), a, setting-chosen s)
 
-module _ (levels slots : ℕ) (cs : List Call) (a : Root levels slots cs) (s : List Bool) (q : length s ≡ levels) where
+module _ (m : Limits) (levels slots : ℕ) (cs : List Call) (a : Root m levels slots cs) (s : List Bool) (q : length s ≡ levels) where
   -- Evaluating a root after the call that gave it, or after any later one, gives what its file's lines say.
   pub evaluates-later : (k : ℕ) → a .place ≤ k
-      → Answers (a .meaning (chosen s)) (evaluateOf (a .edge) (bytesOf s) (after levels slots cs k))
+      → Answers (a .meaning (chosen s)) (evaluateOf m (a .edge) (bytesOf s) (after m levels slots cs k))
   evaluates-later k h =
-      means-evaluates (after levels slots cs k) (a .edge) (a .meaning) s (root-rules levels slots cs a k h) (root-means levels slots cs a k h)
-      (q ∙ sym (levels-after levels slots cs k))
+      means-evaluates (after m levels slots cs k) (a .edge) (a .meaning) s (root-rules m levels slots cs a k h) (root-means m levels slots cs a k h)
+      (q ∙ sym (levels-after m levels slots cs k))
 
   -- So does evaluating it after the whole list.
-  pub evaluates-as-given : Answers (a .meaning (chosen s)) (evaluateOf (a .edge) (bytesOf s) (runCalls (empty levels slots) cs))
+  pub evaluates-as-given : Answers (a .meaning (chosen s)) (evaluateOf m (a .edge) (bytesOf s) (runCalls m (empty levels slots) cs))
   evaluates-as-given =
-      subst (λ (l : List Call). Answers (a .meaning (chosen s)) (evaluateOf (a .edge) (bytesOf s) (runCalls (empty levels slots) l)))
+      subst (λ (l : List Call). Answers (a .meaning (chosen s)) (evaluateOf m (a .edge) (bytesOf s) (runCalls m (empty levels slots) l)))
       (take-all (suc (length cs)) cs (omega arith))
       (evaluates-later (length cs) (omega (arith, at-below (a .at))))

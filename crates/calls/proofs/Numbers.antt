@@ -16,7 +16,7 @@ use Rattle.imported.specs.Refused.{crowded, early, text, binary, unended}
 use Rattle.header_lines.proofs.HeaderEnd.{refused-lines, lines-numbers}
 use Rattle.header_checks.proofs.WholeNumbers.{whole-numbers}
 use Rattle.store.specs.Store.{Store}
-use Rattle.store.specs.Rules.{limits}
+use Rattle.codes.specs.Limits.{Limits}
 use Rattle.store.specs.Keeps.{keeps}
 use Rattle.evaluation.specs.Evaluation.{isRoot, isSetting, evaluation}
 use Rattle.header.specs.Header as head
@@ -46,20 +46,20 @@ same-verdict {n} {line} {k} {at} q =
     (a, b)
 
 -- a load
-load-refuses : (c : Load) (σ : Store) (n line : ℕ) → verdictOf (loadOf c σ .answer) ≡ refusal n line → LoadRefused c σ n line
-load-refuses c σ n line q = go (loadOf c σ .answer) refl q
+load-refuses : (m : Limits) (c : Load) (σ : Store) (n line : ℕ) → verdictOf (loadOf m c σ .answer) ≡ refusal n line → LoadRefused m c σ n line
+load-refuses m c σ n line q = go (loadOf m c σ .answer) refl q
   where
-    go : (a : head.HeaderAnswer) → loadOf c σ .answer ≡ a → verdictOf a ≡ refusal n line → LoadRefused c σ n line
+    go : (a : head.HeaderAnswer) → loadOf m c σ .answer ≡ a → verdictOf a ≡ refusal n line → LoadRefused m c σ n line
     go (head.header h) e q = not-refused q
     go (head.refusal k at) e q =
         let s = same-verdict q in
-        refused-exactly c σ n line .0 (e ∙ rw (s .0, s .1))
+        refused-exactly m c σ n line .0 (e ∙ rw (s .0, s .1))
 
 -- an evaluation: 'Evaluation gives 3, 4'
-evaluate-refuses : (e : ℤ) (s : List ℕ) (σ : Store) (n line : ℕ) → verdictRead (evaluateOf e s σ) ≡ refusal n line
+evaluate-refuses : (m : Limits) (e : ℤ) (s : List ℕ) (σ : Store) (n line : ℕ) → verdictRead (evaluateOf m e s σ) ≡ refusal n line
     → ((n ≡ 3) ⊎ (n ≡ 4)) × (line ≡ 0)
 unfolding evaluation
-evaluate-refuses e s σ n line q = go (keeps limits σ) (isRoot σ e && isSetting σ s) _ q
+evaluate-refuses m e s σ n line q = go (keeps m σ) (isRoot σ e && isSetting σ s) _ q
   where
     go : (k r b : Bool) → verdictRead (cond k (cond r (value b) (refused 4)) (refused 3)) ≡ refusal n line → ((n ≡ 3) ⊎ (n ≡ 4)) × (line ≡ 0)
     go false r b q = let s = same-verdict q in (inl (sym (s .0)), sym (s .1))
@@ -74,19 +74,19 @@ ExportNumber n = (n ≡ 0) ⊎ ((n ≡ 1) ⊎ ((3 ≤ n) × (n ≤ 6)))
 checked : (n : ℕ) (b : Bool) (l : List ℕ) → (n ≡ 1) ⊎ ((3 ≤ n) × (n ≤ 6)) → ExportNumber (firstFault l) → ExportNumber (firstFault (unless b n ∷ l))
 checked n b l h w = first-in ExportNumber (unless b n) l (unless-in ExportNumber (inl refl) {n = n} (inr h) b) w
 
-fault-number : (x : Export) (σ : Store) → ExportNumber (exportFaultOf x σ)
+fault-number : (m : Limits) (x : Export) (σ : Store) → ExportNumber (exportFaultOf m x σ)
 unfolding exportFault
-fault-number x σ =
+fault-number m x σ =
     checked 1 (longEnough σ (x .roots) (x .names) (x .slots) (x .numbers) (x .out)) _ (inl refl)
-    (checked 3 (keeps limits σ) _ (inr (omega arith))
+    (checked 3 (keeps m σ) _ (inr (omega arith))
     (checked 4 (rootsFit (σ .count) (x .roots)) _ (inr (omega arith))
     (checked 6 (isOrder (σ .levels) (x .order)) _ (inr (omega arith))
     (checked 5 (namesFit σ (x .roots) (x .names)) _ (inr (omega arith))
     (none-in ExportNumber (inl refl))))))
 
-export-refuses : (x : Export) (σ : Store) (r : Exported) (out : List ℕ) (n line : ℕ) → Exports x σ r out
+export-refuses : (m : Limits) (x : Export) (σ : Store) (r : Exported) (out : List ℕ) (n line : ℕ) → Exports m x σ r out
     → verdictRead (promise.ofExported r) ≡ refusal n line → ((n ≡ 1) ⊎ ((3 ≤ n) × (n ≤ 6))) × (line ≡ 0)
-export-refuses x σ r out n line w q = go (exportFaultOf x σ) (fault-number x σ) w
+export-refuses m x σ r out n line w q = go (exportFaultOf m x σ) (fault-number m x σ) w
   where
     some : (k : ℕ) → ExportNumber (suc k) → (suc k ≡ 1) ⊎ ((3 ≤ suc k) × (suc k ≤ 6))
     some k (inl z) = absurd (omega arith)
@@ -97,16 +97,17 @@ export-refuses x σ r out n line w q = go (exportFaultOf x σ) (fault-number x �
     go zero N w = not-refused (rw (w .answer) at q)
     go (suc k) N w =
         let s = same-verdict (rw (w .answer) at q) in
-        (subst (λ (m : ℕ). (m ≡ 1) ⊎ ((3 ≤ m) × (m ≤ 6))) (s .0) (some k N), sym (s .1))
+        (subst (λ (i : ℕ). (i ≡ 1) ⊎ ((3 ≤ i) × (i ≤ 6))) (s .0) (some k N), sym (s .1))
 
 -- Every call is refused by a rule that is broken, and at the line that document 01 names.
-pub refused-for : {c : Call} {σ : Store} {o : Outcome} → Leaves c σ o → (n line : ℕ) → o .verdict ≡ refusal n line → RefusedFor c σ n line
-refused-for (loads c σ) n line q = load-refuses c σ n line q
-refused-for (evaluates e s σ) n line q = evaluate-refuses e s σ n line q
-refused-for (exports x σ r out w) n line q = export-refuses x σ r out n line w q
+pub refused-for : {m : Limits} {c : Call} {σ : Store} {o : Outcome} → Leaves m c σ o → (n line : ℕ) → o .verdict ≡ refusal n line
+    → RefusedFor m c σ n line
+refused-for {m} (loads c σ) n line q = load-refuses m c σ n line q
+refused-for {m} (evaluates e s σ) n line q = evaluate-refuses m e s σ n line q
+refused-for {m} (exports x σ r out w) n line q = export-refuses m x σ r out n line w q
 
 -- the numbers of a load's refusals
-load-number : (c : Load) (σ : Store) {n line : ℕ} → LoadRefused c σ n line → RefusalNumber n
+load-number : {m : Limits} (c : Load) (σ : Store) {n line : ℕ} → LoadRefused m c σ n line → RefusalNumber n
 load-number c σ (lists-short w) = inl (omega arith)
 load-number c σ (store-broken L w) = inl (omega arith)
 load-number c σ (input-long L R w) = inr (inl (omega arith))
@@ -115,7 +116,7 @@ load-number c σ (line-refused {n} {line} O w) = go (lines-numbers (c .file) (li
     go : ((n ≡ 10) × (line ≡ 0)) ⊎ (((11 ≤ n) × (n ≤ 19)) × (1 ≤ line)) → RefusalNumber n
     go (inl z) = inr (inl (omega (arith, z .0)))
     go (inr z) = inr (inl (omega (arith, z .0 .0, z .0 .1)))
-load-number c σ (whole-refused {n} O s q k) = go (whole-numbers (c .file) (tableOf (c .file)) n q)
+load-number {m} c σ (whole-refused {n} O s q k) = go (whole-numbers m (c .file) (tableOf (c .file)) n q)
   where
     go : (n ≡ 0) ⊎ ((19 ≤ n) × (n ≤ 26)) → RefusalNumber n
     go (inl z) = absurd (omega arith)
@@ -130,7 +131,7 @@ load-number c σ (nodes-refused {h} {n} {line} H S L w) =
     (nodes-numbers u σ (c .file) (h .next) [] R W n line (refused-nodes u σ (c .file) (h .next) [] R W n line .1 w))
 
 -- A load's refusal has a line from 1 on exactly where it carries one: else its line is 0.
-pub line-carried : (c : Load) (σ : Store) {n line : ℕ} (w : LoadRefused c σ n line) → (1 ≤ line) ↔ CarriesLine w
+pub line-carried : {m : Limits} (c : Load) (σ : Store) {n line : ℕ} (w : LoadRefused m c σ n line) → (1 ≤ line) ↔ CarriesLine w
 line-carried c σ (lists-short w) = (λ h. omega arith, λ z. absurd z)
 line-carried c σ (store-broken L w) = (λ h. omega arith, λ z. absurd z)
 line-carried c σ (input-long L R w) = (λ h. omega arith, λ z. absurd z)
@@ -141,15 +142,15 @@ line-carried c σ (scratch-short H w) = (λ h. omega arith, λ z. absurd z)
 line-carried c σ (list-refused H S w) = (λ h. omega arith, λ z. absurd z)
 line-carried c σ (nodes-refused H S L (crowded w)) = (λ h. omega arith, λ z. absurd z)
 line-carried c σ (nodes-refused H S L (early r a e)) = (λ h. omega arith, λ z. absurd z)
-line-carried c σ (nodes-refused H S L (text r a e k t i m)) = (λ h. tt, λ z. omega (arith, i))
+line-carried c σ (nodes-refused H S L (text r a e k t i l)) = (λ h. tt, λ z. omega (arith, i))
 line-carried c σ (nodes-refused H S L (binary r a e k)) = (λ h. omega arith, λ z. absurd z)
 line-carried c σ (nodes-refused H S L (unended r e w)) = (λ h. omega arith, λ z. absurd z)
 
 -- Document 01's numbers are all that a call is refused with.
-pub refusal-number : (c : Call) (σ : Store) (n line : ℕ) → RefusedFor c σ n line → RefusalNumber n
-refusal-number (load c) σ n line w = load-number c σ w
-refusal-number (evaluate e s) σ n line w = ⊎-elim (λ z. inl (omega (arith, z))) (λ z. inl (omega (arith, z))) (w .0)
-refusal-number (export x) σ n line w = ⊎-elim (λ z. inl (omega (arith, z))) (λ z. inl (omega (arith, z .0, z .1))) (w .0)
+pub refusal-number : (m : Limits) (c : Call) (σ : Store) (n line : ℕ) → RefusedFor m c σ n line → RefusalNumber n
+refusal-number m (load c) σ n line w = load-number c σ w
+refusal-number m (evaluate e s) σ n line w = ⊎-elim (λ z. inl (omega (arith, z))) (λ z. inl (omega (arith, z))) (w .0)
+refusal-number m (export x) σ n line w = ⊎-elim (λ z. inl (omega (arith, z))) (λ z. inl (omega (arith, z .0, z .1))) (w .0)
 
 -- 0 is none of them
 pub number-some : {n : ℕ} → RefusalNumber n → 1 ≤ n
@@ -158,12 +159,13 @@ number-some (inr (inl z)) = omega (arith, z .0)
 number-some (inr (inr z)) = omega (arith, z .0)
 
 -- So C is told 0 exactly where a call isn't refused.
-pub told-zero : {c : Call} {σ : Store} {o : Outcome} → Leaves c σ o → (n line : ℕ) → Tells n line (o .verdict) → (n ≡ 0) ↔ (o .verdict ≡ accepted)
-told-zero {c} {σ} {o} L n line t = go (o .verdict) refl t
+pub told-zero : {m : Limits} {c : Call} {σ : Store} {o : Outcome} → Leaves m c σ o → (n line : ℕ) → Tells n line (o .verdict)
+    → (n ≡ 0) ↔ (o .verdict ≡ accepted)
+told-zero {m} {c} {σ} {o} L n line t = go (o .verdict) refl t
   where
     go : (v : Verdict) → o .verdict ≡ v → Tells n line v → (n ≡ 0) ↔ (v ≡ accepted)
     go accepted q t = (λ z. refl, λ z. t .0)
     go (refusal k at) q t = (
-      λ z. absurd (omega (arith, number-some (refusal-number c σ k at (refused-for L k at q)), t .0)),
+      λ z. absurd (omega (arith, number-some (refusal-number m c σ k at (refused-for L k at q)), t .0)),
       λ z. not-refused (sym z),
     )

@@ -5,7 +5,7 @@ use mathlib.Core.List.{List}
 use lib.IntN.{ℤ}
 use Rattle.codes.specs.Answer.{Read}
 use Rattle.store.specs.Store.{Store}
-use Rattle.store.specs.Rules.{limits}
+use Rattle.codes.specs.Limits.{Limits}
 use Rattle.evaluation.specs.Evaluation.{evaluation}
 use Rattle.heading.specs.Tables.{Lent}
 use Rattle.exported.specs.Settings.{Settings}
@@ -35,13 +35,13 @@ exportInto s roots order names slots numbers out = record {
 }
 
 -- 'Export gives 1, 3, 4, 6, 5'; 0 of none
-abbrev pub exportFaultOf : Export → Store → ℕ
-exportFaultOf x σ = exportFault σ (x .roots) (x .order) (x .names) (x .slots) (x .numbers) (x .out)
+abbrev pub exportFaultOf : Limits → Export → Store → ℕ
+exportFaultOf m x σ = exportFault m σ (x .roots) (x .order) (x .names) (x .slots) (x .numbers) (x .out)
 
 -- what an export answers and leaves in its output: by its refusal
-abbrev pub Exports : Export → Store → Exported → List ℕ → Type 0
-Exports x σ r out = promise.ExportsBy (exportFaultOf x σ) (x .settings) σ (x .roots) (x .order) (x .names) (x .out) r out
+abbrev pub Exports : Limits → Export → Store → Exported → List ℕ → Type 0
+Exports m x σ r out = promise.ExportsBy (exportFaultOf m x σ) (x .settings) σ (x .roots) (x .order) (x .names) (x .out) r out
 
 -- what an evaluation answers: 'Evaluation gives 3, 4'
-abbrev pub evaluateOf : ℤ → List ℕ → Store → Read Bool
-evaluateOf e s σ = evaluation limits σ e s
+abbrev pub evaluateOf : Limits → ℤ → List ℕ → Store → Read Bool
+evaluateOf m e s σ = evaluation m σ e s

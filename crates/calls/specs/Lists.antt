@@ -4,6 +4,7 @@ use Prim.Native.Nat.{ℕ}
 use mathlib.Core.List.{List, [], _∷_}
 use lib.ListN.{take}
 use lib.IntN.{ℤ}
+use Rattle.codes.specs.Limits.{Limits}
 use Rattle.store.specs.Store.{Store}
 use Rattle.calls.specs.Load.{Load, loadOf}
 use Rattle.calls.specs.Calls.{Export}
@@ -15,16 +16,16 @@ pub data Call : Type 0 where
   export : Export → Call
 
 -- the store after a call: evaluation and export only read it
-abbrev pub leaves : Call → Store → Store
-leaves (load c) σ = loadOf c σ .after
-leaves (evaluate e s) σ = σ
-leaves (export x) σ = σ
+abbrev pub leaves : Limits → Call → Store → Store
+leaves m (load c) σ = loadOf m c σ .after
+leaves m (evaluate e s) σ = σ
+leaves m (export x) σ = σ
 
 -- calls one after the other, each on the store as the last one left it, refused ones included
-unfoldable pub runCalls : Store → List Call → Store
-runCalls σ [] = σ
-runCalls σ (c ∷ cs) = runCalls (leaves c σ) cs
+unfoldable pub runCalls : Limits → Store → List Call → Store
+runCalls m σ [] = σ
+runCalls m σ (c ∷ cs) = runCalls m (leaves m c σ) cs
 
 -- the store before the call at a place of the list, counted from 0
-abbrev pub before : Store → List Call → ℕ → Store
-before σ cs k = runCalls σ (take k cs)
+abbrev pub before : Limits → Store → List Call → ℕ → Store
+before m σ cs k = runCalls m σ (take k cs)

@@ -8,7 +8,7 @@ use lib.IntN.{ℤ, pos}
 use Rattle.codes.specs.Lent.{laid}
 use Rattle.read_text.specs.Text.{Place, startOf, lenOf}
 use Rattle.store.specs.Store.{Store}
-use Rattle.store.specs.Rules.{limits}
+use Rattle.codes.specs.Limits.{Limits}
 use Rattle.store.specs.Keeps.{keeps}
 use Rattle.header_values.specs.Values.{pad}
 use Rattle.codes.specs.Faults.{firstFault, unless}
@@ -75,20 +75,20 @@ abbrev pub lentFault : Lengths → ℕ
 lentFault l = head.listsFault (variableLists l) (rootLists l)
 
 -- '3 the store breaks its rules'
-abbrev pub storeFault : Store → ℕ
-storeFault σ = unless (keeps limits σ) 3
+abbrev pub storeFault : Limits → Store → ℕ
+storeFault m σ = unless (keeps m σ) 3
 
 -- '19 for the input's length': 'input 16,777,216 bytes (19, line 0, before all reading)'
-abbrev pub inputFault : List ℕ → ℕ
-inputFault f = head.lengthFault (length f)
+abbrev pub inputFault : Limits → List ℕ → ℕ
+inputFault m f = head.lengthFault m (length f)
 
 -- '1 (lists), 3, 19 for the input's length': the first of them
-unfoldable pub beforeHeader : Load → Store → ℕ
-beforeHeader c σ = firstFault (lentFault (c .lent) ∷ storeFault σ ∷ inputFault (c .file) ∷ [])
+unfoldable pub beforeHeader : Limits → Load → Store → ℕ
+beforeHeader m c σ = firstFault (lentFault (c .lent) ∷ storeFault m σ ∷ inputFault m (c .file) ∷ [])
 
 -- 'header'
-unfoldable pub headerOf : Load → Store → head.HeaderLoaded
-headerOf c σ = head.loadHeader (beforeHeader c σ) (c .file)
+unfoldable pub headerOf : Limits → Load → Store → head.HeaderLoaded
+headerOf m c σ = head.loadHeader m (beforeHeader m c σ) (c .file)
 
 -- '1 (scratch)': '1 a lent part too short: .. `.nnodes` for node scratch', by the lengths of its two lists
 unfoldable pub scratchFault : ℕ → ℕ → ℕ → ℕ
@@ -114,37 +114,37 @@ abbrev pub setupOf : Load → ℕ → head.Header → nodes.Setup
 setupOf c levels h = setupFor (c .list) levels h
 
 -- 'nodes, 39': the roots take the place of their numbers
-abbrev pub nodesOf : Load → Store → head.Header → nodes.Imported
-nodesOf c σ h =
-    nodes.importOf (setupOf c (σ .levels) h) σ (c .file) (h .next) (laid (headerOf c σ .roots) (replicate (c .lent .roots) (pos 0)))
+abbrev pub nodesOf : Limits → Load → Store → head.Header → nodes.Imported
+nodesOf m c σ h =
+    nodes.importOf m (setupOf c (σ .levels) h) σ (c .file) (h .next) (laid (headerOf m c σ .roots) (replicate (c .lent .roots) (pos 0)))
 
-abbrev pub withNodes : Load → Store → head.Header → nodes.Imported → nodes.NodesAnswer → Loaded
-withNodes c σ h r (nodes.refusal k line) = refusedAt c σ k line
-withNodes c σ h r (nodes.nodes at) = record {
+abbrev pub withNodes : Limits → Load → Store → head.Header → nodes.Imported → nodes.NodesAnswer → Loaded
+withNodes m c σ h r (nodes.refusal k line) = refusedAt c σ k line
+withNodes m c σ h r (nodes.nodes at) = record {
   answer = head.header h;
   after = r .after;
   roots = r .roots;
-  ids = headerOf c σ .ids;
-  order = headerOf c σ .order;
-  permids = headerOf c σ .permids;
-  auxids = headerOf c σ .auxids;
-  names = headerOf c σ .names;
-  rootnames = headerOf c σ .rootnames;
+  ids = headerOf m c σ .ids;
+  order = headerOf m c σ .order;
+  permids = headerOf m c σ .permids;
+  auxids = headerOf m c σ .auxids;
+  names = headerOf m c σ .names;
+  rootnames = headerOf m c σ .rootnames;
 }
 
 -- after scratch and level list
-abbrev pub withList : Load → Store → head.Header → ℕ → Loaded
-withList c σ h (suc k) = refusedAt c σ (suc k) 0
-withList c σ h zero = withNodes c σ h (nodesOf c σ h) (nodesOf c σ h .answer)
+abbrev pub withList : Limits → Load → Store → head.Header → ℕ → Loaded
+withList m c σ h (suc k) = refusedAt c σ (suc k) 0
+withList m c σ h zero = withNodes m c σ h (nodesOf m c σ h) (nodesOf m c σ h .answer)
 
 -- after the header
-abbrev pub withHeader : Load → Store → head.HeaderAnswer → Loaded
-withHeader c σ (head.refusal n line) = refusedAt c σ n line
-withHeader c σ (head.header h) = withList c σ h (beforeNodes c σ h)
+abbrev pub withHeader : Limits → Load → Store → head.HeaderAnswer → Loaded
+withHeader m c σ (head.refusal n line) = refusedAt c σ n line
+withHeader m c σ (head.header h) = withList m c σ h (beforeNodes c σ h)
 
 -- 'load gives 1 (lists), 3, 19 for the input's length, header, 1 (scratch), 2, nodes, 39'
-unfoldable pub loadOf : Load → Store → Loaded
-loadOf c σ = withHeader c σ (headerOf c σ .answer)
+unfoldable pub loadOf : Limits → Load → Store → Loaded
+loadOf m c σ = withHeader m c σ (headerOf m c σ .answer)
 
 -- the lists themselves that a load is lent beside the store
 pub record Parts : Type 0 where

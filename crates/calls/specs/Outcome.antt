@@ -5,6 +5,7 @@ use mathlib.Core.Path.{_≡_}
 use mathlib.Core.List.{List, [], _∷_}
 use lib.ListN.{length, replicate}
 use lib.IntN.{ℤ, pos}
+use Rattle.codes.specs.Limits.{Limits}
 use Rattle.codes.specs.Answer.{Read, value, refused}
 use Rattle.store.specs.Store.{Store}
 use Rattle.header.specs.Header as head
@@ -68,11 +69,11 @@ scratchOf p = edges (p .edges) ∷ numbers (p .seats) ∷ []
 
 -- What a call on a store may leave, as the calls promise it: of a load or an evaluation one outcome; of an export one for each file that it
 -- may write, with the marks, which are its scratch, as zeros.
-pub data Leaves : Call → Store → Outcome → Type 0 where
+pub data Leaves (m : Limits) : Call → Store → Outcome → Type 0 where
   loads : (c : Load) (σ : Store)
-      → Leaves (load c) σ (outcome (verdictOf (loadOf c σ .answer)) (loadOf c σ .after)
-      (outputsOf (partsOf (c .lent) (loadOf c σ))) (scratchOf (partsOf (c .lent) (loadOf c σ))))
-  evaluates : (e : ℤ) (s : List ℕ) (σ : Store) → Leaves (evaluate e s) σ (outcome (verdictRead (evaluateOf e s σ)) σ [] [])
-  exports : (x : Export) (σ : Store) (r : Exported) (out : List ℕ) → Exports x σ r out
-      → Leaves (export x) σ (outcome (verdictRead (ofExported r)) σ (numbers out ∷ [])
+      → Leaves m (load c) σ (outcome (verdictOf (loadOf m c σ .answer)) (loadOf m c σ .after)
+      (outputsOf (partsOf (c .lent) (loadOf m c σ))) (scratchOf (partsOf (c .lent) (loadOf m c σ))))
+  evaluates : (e : ℤ) (s : List ℕ) (σ : Store) → Leaves m (evaluate e s) σ (outcome (verdictRead (evaluateOf m e s σ)) σ [] [])
+  exports : (x : Export) (σ : Store) (r : Exported) (out : List ℕ) → Exports m x σ r out
+      → Leaves m (export x) σ (outcome (verdictRead (ofExported r)) σ (numbers out ∷ [])
       (numbers (replicate (x .slots) 0) ∷ numbers (replicate (x .numbers) 0) ∷ []))

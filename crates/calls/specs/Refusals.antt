@@ -6,7 +6,7 @@ use Prim.Native.Nat.{ℕ, _≤_, _<_}
 use mathlib.Core.Path.{_≡_}
 use mathlib.Core.Logic.{_⊎_}
 use lib.ListN.{length}
-use Rattle.codes.specs.Limits.{varLimit, rootLimit, inputLimit}
+use Rattle.codes.specs.Limits.{Limits, varLimit, rootLimit}
 use Rattle.read_lines.specs.Each.{Each}
 use Rattle.header_lines.specs.Sweep.{linesOf}
 use Rattle.header_lines.specs.SoundLines.{SoundLines, RefusedLines, cut-short, faulty}
@@ -14,7 +14,7 @@ use Rattle.header_checks.specs.Whole.{wholeFault}
 use Rattle.header_checks.specs.WholeRules.{WholeRules}
 use Rattle.support.specs.Support.{IdsAllowed}
 use Rattle.store.specs.Store.{Store}
-use Rattle.store.specs.Rules.{limits, Rules}
+use Rattle.store.specs.Rules.{Rules}
 use Rattle.header.specs.Header.{Header, tableOf}
 use Rattle.header.specs.HeaderSaid.{HeaderSaid}
 use Rattle.imported.specs.Refused.{NodesRefused, crowded, early, text, binary, unended}
@@ -31,16 +31,16 @@ pub record LongLists (l : Lengths) : Type 0 where
   pub roots : Each (λ n. rootLimit ≤ n) (rootLists l)
 
 -- nothing is refused before the header
-pub record Opened (c : Load) (σ : Store) : Type 0 where
+pub record Opened (m : Limits) (c : Load) (σ : Store) : Type 0 where
   pub lists : LongLists (c .lent)
-  pub rules : Rules limits σ
-  pub short : length (c .file) ≤ inputLimit
+  pub rules : Rules m σ
+  pub short : length (c .file) ≤ m .input
 
 -- nothing is refused of the header, which is this one
-pub record HeaderRead (c : Load) (σ : Store) (h : Header) : Type 0 where
-  pub opened : Opened c σ
+pub record HeaderRead (m : Limits) (c : Load) (σ : Store) (h : Header) : Type 0 where
+  pub opened : Opened m c σ
   pub sound : SoundLines (c .file) (linesOf (c .file)) (h .next) (h .lines)
-  pub whole : WholeRules (c .file) (tableOf (c .file))
+  pub whole : WholeRules m (c .file) (tableOf (c .file))
   pub said : HeaderSaid (c .file) h
 
 -- '`.nnodes` for node scratch'
@@ -55,28 +55,28 @@ pub record ListAllowed (c : Load) (σ : Store) (h : Header) : Type 0 where
 
 -- How a load is refused. Each case has what was not refused before it, and the line that it carries: only a line of the header, and an ASCII
 -- node line, has another than 0.
-pub data LoadRefused (c : Load) (σ : Store) : ℕ → ℕ → Type 0 where
+pub data LoadRefused (m : Limits) (c : Load) (σ : Store) : ℕ → ℕ → Type 0 where
   -- '1 (lists)'
-  lists-short : (LongLists (c .lent) → ⊥) → LoadRefused c σ 1 0
+  lists-short : (LongLists (c .lent) → ⊥) → LoadRefused m c σ 1 0
   -- '3 the store breaks its rules'
-  store-broken : LongLists (c .lent) → (Rules limits σ → ⊥) → LoadRefused c σ 3 0
+  store-broken : LongLists (c .lent) → (Rules m σ → ⊥) → LoadRefused m c σ 3 0
   -- '19 for the input's length': 'line 0, before all reading'
-  input-long : LongLists (c .lent) → Rules limits σ → inputLimit < length (c .file) → LoadRefused c σ 19 0
+  input-long : LongLists (c .lent) → Rules m σ → m .input < length (c .file) → LoadRefused m c σ 19 0
   -- 'The file's writer, line by line': '10°', or the first line with a fault
-  line-refused : {n line : ℕ} → Opened c σ → RefusedLines (c .file) (linesOf (c .file)) n line → LoadRefused c σ n line
+  line-refused : {n line : ℕ} → Opened m c σ → RefusedLines (c .file) (linesOf (c .file)) n line → LoadRefused m c σ n line
   -- 'The file's writer, header as a whole', 'made after `.nodes`' line'
-  whole-refused : {n next lines : ℕ} → Opened c σ → SoundLines (c .file) (linesOf (c .file)) next lines
-      → wholeFault (c .file) (tableOf (c .file)) ≡ n → 1 ≤ n → LoadRefused c σ n 0
+  whole-refused : {n next lines : ℕ} → Opened m c σ → SoundLines (c .file) (linesOf (c .file)) next lines
+      → wholeFault m (c .file) (tableOf (c .file)) ≡ n → 1 ≤ n → LoadRefused m c σ n 0
   -- '1 (scratch)'
-  scratch-short : {h : Header} → HeaderRead c σ h → (LongScratch c h → ⊥) → LoadRefused c σ 1 0
+  scratch-short : {h : Header} → HeaderRead m c σ h → (LongScratch c h → ⊥) → LoadRefused m c σ 1 0
   -- '2'
-  list-refused : {h : Header} → HeaderRead c σ h → LongScratch c h → (ListAllowed c σ h → ⊥) → LoadRefused c σ 2 0
+  list-refused : {h : Header} → HeaderRead m c σ h → LongScratch c h → (ListAllowed c σ h → ⊥) → LoadRefused m c σ 2 0
   -- 'nodes, 39'
-  nodes-refused : {h : Header} {n line : ℕ} → HeaderRead c σ h → LongScratch c h → ListAllowed c σ h
-      → NodesRefused (setupOf c (σ .levels) h) σ (c .file) (h .next) n line → LoadRefused c σ n line
+  nodes-refused : {h : Header} {n line : ℕ} → HeaderRead m c σ h → LongScratch c h → ListAllowed c σ h
+      → NodesRefused m (setupOf c (σ .levels) h) σ (c .file) (h .next) n line → LoadRefused m c σ n line
 
 -- the refusals of a load that carry a line: of a line of the header, and of an ASCII node line 'but for 30 and 40'
-abbrev pub CarriesLine : {c : Load} {σ : Store} {n line : ℕ} → LoadRefused c σ n line → Type 0
+abbrev pub CarriesLine : {m : Limits} {c : Load} {σ : Store} {n line : ℕ} → LoadRefused m c σ n line → Type 0
 CarriesLine (lists-short w) = ⊥
 CarriesLine (store-broken L w) = ⊥
 CarriesLine (input-long L R w) = ⊥
@@ -87,12 +87,12 @@ CarriesLine (scratch-short H w) = ⊥
 CarriesLine (list-refused H S w) = ⊥
 CarriesLine (nodes-refused H S L (crowded w)) = ⊥
 CarriesLine (nodes-refused H S L (early r a e)) = ⊥
-CarriesLine (nodes-refused H S L (text r a e k t i m)) = Unit
+CarriesLine (nodes-refused H S L (text r a e k t i l)) = Unit
 CarriesLine (nodes-refused H S L (binary r a e k)) = ⊥
 CarriesLine (nodes-refused H S L (unended r e w)) = ⊥
 
 -- how each call is refused: the line is 0 'in every call that reads no file'
-abbrev pub RefusedFor : Call → Store → ℕ → ℕ → Type 0
-RefusedFor (load c) σ n line = LoadRefused c σ n line
-RefusedFor (evaluate e s) σ n line = ((n ≡ 3) ⊎ (n ≡ 4)) × (line ≡ 0)
-RefusedFor (export x) σ n line = ((n ≡ 1) ⊎ ((3 ≤ n) × (n ≤ 6))) × (line ≡ 0)
+abbrev pub RefusedFor : Limits → Call → Store → ℕ → ℕ → Type 0
+RefusedFor m (load c) σ n line = LoadRefused m c σ n line
+RefusedFor m (evaluate e s) σ n line = ((n ≡ 3) ⊎ (n ≡ 4)) × (line ≡ 0)
+RefusedFor m (export x) σ n line = ((n ≡ 1) ⊎ ((3 ≤ n) × (n ≤ 6))) × (line ≡ 0)

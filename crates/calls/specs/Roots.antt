@@ -7,7 +7,8 @@ use mathlib.Core.Option.{Option, none, some}
 use lib.ListN.{length, getD, getElem?}
 use lib.IntN.{ℤ, pos}
 use Rattle.store.specs.Store.{Store}
-use Rattle.store.specs.Rules.{limits, Rules}
+use Rattle.codes.specs.Limits.{Limits}
+use Rattle.store.specs.Rules.{Rules}
 use Rattle.store.specs.Growth.{EdgeOf, Grows}
 use Rattle.store.specs.Meaning.{Setting, answer}
 use Rattle.store.specs.Settings.{chosen}
@@ -34,8 +35,8 @@ abbrev pub linesUnder : List ℕ → List ℕ → ℕ → HeaderAnswer → List 
 linesUnder f list levels (header h) = linesIn (setupFor list levels h) f (h .next) .lines
 linesUnder f list levels (refusal n line) = []
 
-abbrev pub nodeLinesOf : List ℕ → List ℕ → ℕ → List Line
-nodeLinesOf f list levels = linesUnder f list levels (readOf f)
+abbrev pub nodeLinesOf : Limits → List ℕ → List ℕ → ℕ → List Line
+nodeLinesOf m f list levels = linesUnder f list levels (readOf m f)
 
 -- a root that is there says what the lines say of it
 abbrev pub rootSays : List ℕ → List Line → Setting → Option ℤ → Option Bool
@@ -43,12 +44,12 @@ rootSays list lines s none = none
 rootSays list lines s (some r) = says list lines s r
 
 -- What a file says of the root at an entry of its `.rootids`, by a level list and a level count: by nothing else, and no load's answer.
-abbrev pub fileSays : List ℕ → List ℕ → ℕ → ℕ → Meaning
-fileSays f list levels i s = rootSays list (nodeLinesOf f list levels) s (getElem? (rootsOf f) i)
+abbrev pub fileSays : Limits → List ℕ → List ℕ → ℕ → ℕ → Meaning
+fileSays m f list levels i s = rootSays list (nodeLinesOf m f list levels) s (getElem? (rootsOf f) i)
 
 -- what a load's file says of a root, at the levels that were named at this reading
-abbrev pub loadSays : Load → Store → ℕ → Meaning
-loadSays c σ i = fileSays (c .file) (c .list) (σ .levels) i
+abbrev pub loadSays : Limits → Load → Store → ℕ → Meaning
+loadSays m c σ i = fileSays m (c .file) (c .list) (σ .levels) i
 
 -- in a store an edge has a meaning: it is one of the store's, and at every setting its answer is what is meant
 pub record Means (τ : Store) (e : ℤ) (m : Meaning) : Type 0 where
@@ -56,24 +57,24 @@ pub record Means (τ : Store) (e : ℤ) (m : Meaning) : Type 0 where
   pub agrees : (s : Setting) → m s ≡ some (answer τ s e)
 
 -- a root that a load has given for an entry of `.rootids`: it is there, and means what the file says
-pub record RootGained (c : Load) (σ : Store) (r : Loaded) (i : ℕ) : Type 0 where
+pub record RootGained (m : Limits) (c : Load) (σ : Store) (r : Loaded) (i : ℕ) : Type 0 where
   pub root : ℤ
   pub there : getElem? (r .roots) i ≡ some root
-  pub means : Means (r .after) root (loadSays c σ i)
+  pub means : Means (r .after) root (loadSays m c σ i)
 
 -- What an accepted load leaves: a store that keeps the rules and has only grown; a root for each entry of the file's `.rootids`; and zeros
 -- after them.
-pub record Gains (c : Load) (σ : Store) (r : Loaded) : Type 0 where
-  pub rules : Rules limits (r .after)
+pub record Gains (m : Limits) (c : Load) (σ : Store) (r : Loaded) : Type 0 where
+  pub rules : Rules m (r .after)
   pub grows : Grows σ (r .after)
-  pub root : (i : ℕ) → i < length (rootsOf (c .file)) → RootGained c σ r i
+  pub root : (i : ℕ) → i < length (rootsOf (c .file)) → RootGained m c σ r i
   pub unused : (i : ℕ) → length (rootsOf (c .file)) ≤ i → getD (r .roots) i (pos 0) ≡ pos 0
 
 -- A call on a store gives a root, with its meaning. 'A load is accepted where it answers no refusal ..; its roots belong to the entries of
 -- `.rootids` in their order, and are compared as the load gave them.' Calls whose roots come from no file will be further cases.
-pub data Gives : Call → Store → ℤ → Meaning → Type 0 where
-  loaded : (c : Load) (σ : Store) (h : Header) (i : ℕ) (e : ℤ) → loadOf c σ .answer ≡ header h → i < length (rootsOf (c .file))
-      → getElem? (loadOf c σ .roots) i ≡ some e → Gives (load c) σ e (loadSays c σ i)
+pub data Gives (m : Limits) : Call → Store → ℤ → Meaning → Type 0 where
+  loaded : (c : Load) (σ : Store) (h : Header) (i : ℕ) (e : ℤ) → loadOf m c σ .answer ≡ header h → i < length (rootsOf (c .file))
+      → getElem? (loadOf m c σ .roots) i ≡ some e → Gives m (load c) σ e (loadSays m c σ i)
 
 -- a call at a place of a list, counted from 0
 pub data At : List Call → ℕ → Call → Type 0 where
@@ -81,13 +82,13 @@ pub data At : List Call → ℕ → Call → Type 0 where
   later : {c d : Call} {cs : List Call} {k : ℕ} → At cs k c → At (d ∷ cs) (suc k) c
 
 -- A root that a list of calls gave, from an empty store of so many levels and slots on.
-pub record Root (levels slots : ℕ) (cs : List Call) : Type 0 where
+pub record Root (m : Limits) (levels slots : ℕ) (cs : List Call) : Type 0 where
   pub place : ℕ
   pub call : Call
   pub at : At cs place call
   pub edge : ℤ
   pub meaning : Meaning
-  pub given : Gives call (before (empty levels slots) cs place) edge meaning
+  pub given : Gives m call (before m (empty levels slots) cs place) edge meaning
 
 -- both answer, and the same
 abbrev pub SameAnswer : Option Bool → Option Bool → Type 0

@@ -1,4 +1,4 @@
--- An export is far shorter than a load takes: 'input 16,777,216 bytes'.
+-- An export is no longer than a load takes.
 use mathlib.Core.Path.{_≡_}
 use mathlib.Core.Bool.{true, false}
 use mathlib.Core.List.{List, map}
@@ -7,7 +7,7 @@ use Prim.Native.Nat.{ℕ, _*_, _≤_}
 use native.Mathlib.Omega.{arith}
 use lib.ListN.{length}
 use lib.IntN.{ℤ}
-use Rattle.codes.specs.Limits.{inputLimit}
+use Rattle.codes.specs.Limits.{Limits, RoomForExports}
 use Rattle.read_lines.specs.Each.{Each, none, each}
 use Rattle.store.specs.Store.{Store}
 use Rattle.export_names.specs.Names.{nameAt, fitName, nameListFits}
@@ -34,9 +34,10 @@ list-short want bytes starts lens h =
     let k = names-short (list-names want bytes starts lens h) in
     ⊎-elim (λ e. omega arith) (λ e. omega arith) (list-count want bytes starts lens h)
 
-module _ {σ : Store} {roots : List ℤ} {order : List ℕ} {p : Lent} {slots numbers out : ℕ} (A : Accepted σ roots order p slots numbers out) where
+module _ {m : Limits} (W : RoomForExports m) {σ : Store} {roots : List ℤ} {order : List ℕ} {p : Lent} {slots numbers out : ℕ}
+    (A : Accepted m σ roots order p slots numbers out) where
   -- so the export size is no more than an input may have,
-  size-small : exportSize (σ .count) (σ .levels) (length roots) (p .lens) (p .rootlens) (p .dd .len) ≤ inputLimit
+  size-small : exportSize (σ .count) (σ .levels) (length roots) (p .lens) (p .rootlens) (p .dd .len) ≤ m .input
   unfolding exportSize
   size-small =
       let sizes = A .rules .sizes in
@@ -45,8 +46,8 @@ module _ {σ : Store} {roots : List ℤ} {order : List ℕ} {p : Lent} {slots nu
       let names = list-short (length order) (p .bytes) (p .starts) (p .lens) (A .names .names) in
       let rootnames = list-short (length roots) (p .bytes) (p .rootstarts) (p .rootlens) (A .names .rootnames) in
       let dd = fit-most true (nameAt (p .bytes) (p .dd)) (place-fit true (p .bytes) (p .dd) (A .names .diagram)) in
-      omega (arith, place-length true (p .bytes) (p .dd .start) (p .dd .len) (A .names .diagram))
+      omega (arith, W .input-long, place-length true (p .bytes) (p .dd .start) (p .dd .len) (A .names .diagram))
 
   -- and an export has no more.
-  pub input-short : (s : Settings) {ns : List ℕ} → Exported σ roots ns → length (fileOf s σ roots order p ns) ≤ inputLimit
-  input-short s E = omega (arith, file-short s A E, size-small)
+  pub input-short : (s : Settings) {ns : List ℕ} → Exported m σ roots ns → length (fileOf s σ roots order p ns) ≤ m .input
+  input-short s E = omega (arith, file-short s W A E, size-small)

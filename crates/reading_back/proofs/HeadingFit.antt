@@ -4,6 +4,7 @@ use Prim.Native.Nat.{ℕ, _≤_, _<_}
 use native.Mathlib.Omega.{arith}
 use lib.ListN.{length, getD, length-map}
 use lib.IntN.{ℤ, pos, natAbs}
+use Rattle.codes.specs.Limits.{Limits, RoomForExports}
 use Rattle.store.specs.Store.{Store}
 use Rattle.export_names.proofs.FitLists.{place-fit, list-count, list-names}
 use Rattle.export_support.proofs.SupportLevels.{support-fits}
@@ -18,8 +19,8 @@ use Rattle.exported.proofs.Accepted.{Accepted}
 use Rattle.reading_header.specs.HeaderBack.{Fit}
 use Rattle.reading_nodes.proofs.RootsBack.{root-some, root-low}
 
-module _ {σ : Store} {roots : List ℤ} {order : List ℕ} {p : Lent} {slots numbers out : ℕ} (A : Accepted σ roots order p slots numbers out)
-    {ns : List ℕ} (E : Exported σ roots ns) where
+module _ {m : Limits} (W : RoomForExports m) {σ : Store} {roots : List ℤ} {order : List ℕ} {p : Lent} {slots numbers out : ℕ}
+    (A : Accepted m σ roots order p slots numbers out) {ns : List ℕ} (E : Exported m σ roots ns) where
   -- what holds of each root's number holds of each entry of `.rootids`
   of-root : (P : ℤ → Type 0) → ((i : ℕ) → i < length roots → P (renumbered ns (getD roots i (pos 0))))
       → (i : ℕ) → i < length (map (renumbered ns) roots) → P (getD (map (renumbered ns) roots) i (pos 0))
@@ -34,9 +35,9 @@ module _ {σ : Store} {roots : List ℤ} {order : List ℕ} {p : Lent} {slots nu
       let counted = length-map roots (renumbered ns) in
       record {
         order = A .is-order;
-        few-variables = omega (arith, A .order-long);
+        few-variables = omega (arith, A .order-long, W .few-levels);
         support = rw (A .order-long) (support-fits σ ns);
-        few-nodes = omega (arith, lines-few E);
+        few-nodes = omega (arith, lines-few E, W .few-digits);
         dd = place-fit _ (p .bytes) (p .dd) (A .names .diagram);
         names-counted = list-count (length order) (p .bytes) (p .starts) (p .lens) (A .names .names);
         names = list-names (length order) (p .bytes) (p .starts) (p .lens) (A .names .names);

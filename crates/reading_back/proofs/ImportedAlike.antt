@@ -4,6 +4,7 @@ use mathlib.Core.Bool.{true, false}
 use mathlib.Core.List.{List}
 use Prim.Native.Nat.{ℕ}
 use lib.IntN.{ℤ}
+use Rattle.codes.specs.Limits.{Limits, RoomForExports}
 use Rattle.codes.specs.declared.DDDMPVersion.{DDDMPVersion}
 use Rattle.read_text.specs.Text.{Place}
 use Rattle.store.specs.Store.{Store}
@@ -18,27 +19,28 @@ use Rattle.reading_back.specs.ReadsBack.{ReadsBack, importBy, GivesBack,
 use Rattle.reading_back.proofs.ReadsBack.{reads-back}
 
 -- An import into the store that the file came from, as the header that is read leads to it, gives back the roots.
-pub led-back : {s : Settings} {σ : Store} {roots : List ℤ} {order : List ℕ} {p : Lent} {ns f : List ℕ} {lent : ℕ} {h : Header}
-    → ReadsBack s σ roots order p ns f lent → answerOf f ≡ header h → GivesBack σ roots lent (importBy f h σ (supportOf σ ns) lent)
+pub led-back : {m : Limits} {s : Settings} {σ : Store} {roots : List ℤ} {order : List ℕ} {p : Lent} {ns f : List ℕ} {lent : ℕ} {h : Header}
+    → ReadsBack m s σ roots order p ns f lent → answerOf m f ≡ header h → GivesBack σ roots lent (importBy m f h σ (supportOf σ ns) lent)
 unfolding headingOf
-led-back {s} {σ} {roots} {order} {p} {ns} {f} {lent} {h} b e =
+led-back {m} {s} {σ} {roots} {order} {p} {ns} {f} {lent} {h} b e =
     let H = b .header-back in
     let same : h ≡ headerFor (headingOf s σ roots order p ns) (H .dd) = cc in
     rw (same, H .roots, b .nodes-back .imported) (record { end = _; accepted = refl; unchanged = refl; same = refl })
 
 -- Two files that read back the same roots, be they text or binary, of either version, with lines in any order that document 01 allows: what
 -- is imported is the same.
-pub alike-back : {s t : Settings} {σ : Store} {roots : List ℤ} {order others : List ℕ} {p q : Lent} {ns ms f g : List ℕ} {lent : ℕ}
-    {h k : Header} → ReadsBack s σ roots order p ns f lent → ReadsBack t σ roots others q ms g lent → answerOf f ≡ header h → answerOf g ≡ header k
-    → ReadAlike (importBy f h σ (supportOf σ ns) lent) (importBy g k σ (supportOf σ ms) lent)
+pub alike-back : {m : Limits} {s t : Settings} {σ : Store} {roots : List ℤ} {order others : List ℕ} {p q : Lent} {ns ms f g : List ℕ} {lent : ℕ}
+    {h k : Header} → ReadsBack m s σ roots order p ns f lent → ReadsBack m t σ roots others q ms g lent
+    → answerOf m f ≡ header h → answerOf m g ≡ header k
+    → ReadAlike (importBy m f h σ (supportOf σ ns) lent) (importBy m g k σ (supportOf σ ms) lent)
 alike-back b c d e =
     let x = led-back b d in
     let y = led-back c e in
     record { store = x .unchanged ∙ sym (y .unchanged); roots = x .same ∙ sym (y .same) }
 
 -- So text and binary of one export read back alike.
-module _ (σ : Store) (roots : List ℤ) (order : List ℕ) (p : Lent) (slots numbers out : ℕ)
-    (e : exportFault σ roots order p slots numbers out ≡ 0) {ns ms : List ℕ} (a : Allowed σ roots ns) (b : Allowed σ roots ms)
+module _ {m : Limits} (W : RoomForExports m) (σ : Store) (roots : List ℤ) (order : List ℕ) (p : Lent) (slots numbers out : ℕ)
+    (e : exportFault m σ roots order p slots numbers out ≡ 0) {ns ms : List ℕ} (a : Allowed σ roots ns) (b : Allowed σ roots ms)
     (version : DDDMPVersion) (dd : Place) where
   abbrev text : List ℕ
   text = fileOf (settings version true dd) σ roots order p ns
@@ -46,9 +48,9 @@ module _ (σ : Store) (roots : List ℤ) (order : List ℕ) (p : Lent) (slots nu
   abbrev binary : List ℕ
   binary = fileOf (settings version false dd) σ roots order p ms
 
-  pub text-as-binary : (lent : ℕ) {h k : Header} → answerOf text ≡ header h → answerOf binary ≡ header k
-      → ReadAlike (importBy text h σ (supportOf σ ns) lent) (importBy binary k σ (supportOf σ ms) lent)
+  pub text-as-binary : (lent : ℕ) {h k : Header} → answerOf m text ≡ header h → answerOf m binary ≡ header k
+      → ReadAlike (importBy m text h σ (supportOf σ ns) lent) (importBy m binary k σ (supportOf σ ms) lent)
   text-as-binary lent =
       alike-back
-      (reads-back slots numbers out e a (settings version true dd) lent)
-      (reads-back slots numbers out e b (settings version false dd) lent)
+      (reads-back W slots numbers out e a (settings version true dd) lent)
+      (reads-back W slots numbers out e b (settings version false dd) lent)

@@ -2,13 +2,15 @@
 use mathlib.Core.Path.{_≡_, refl, subst}
 use mathlib.Core.Bool.{true}
 use mathlib.Core.List.{List, _++_}
-use Prim.Native.Nat.{ℕ}
+use Prim.Native.Nat.{ℕ, _≤_}
+use native.Mathlib.Omega.{arith}
 use lib.ListN.{length}
 use lib.Seq.{drop-append-seam}
 use lib.IntN.{ℤ}
 use borrow.Author.Tests.{eq-eqb}
 use Rattle.store.specs.Store.{Store}
-use Rattle.store.specs.Rules.{limits, Rules}
+use Rattle.codes.specs.Limits.{Limits, RoomForExports}
+use Rattle.store.specs.Rules.{Rules}
 use Rattle.store.specs.Growth.{Grows}
 use Rattle.numbering.specs.Allowed.{Allowed}
 use Rattle.numbering.specs.Support.{supportOf}
@@ -16,6 +18,7 @@ use Rattle.numbering.proofs.Grown.{allowed-grown}
 use Rattle.export_support.proofs.SupportLevels.{support-fits}
 use Rattle.export_nodes.specs.Exported.{Exported}
 use Rattle.export_nodes.specs.Lines.{linesFor}
+use Rattle.export_nodes.proofs.Renumbered.{lines-few}
 use Rattle.node_writers.specs.Encoded.{nodeBytes, endText}
 use Rattle.level_list.specs.List.{listFits}
 use Rattle.heading.specs.Heading.{headText}
@@ -32,8 +35,8 @@ use Rattle.reading_back.proofs.HeadingFit.{heading-fit}
 use Rattle.reading_back.proofs.FileShort.{input-short}
 use Rattle.exported.proofs.Started.{exported}
 
-module _ {σ : Store} {roots : List ℤ} {order : List ℕ} {p : Lent} {slots numbers out : ℕ} (A : Accepted σ roots order p slots numbers out)
-    {ns : List ℕ} (allowed : Allowed σ roots ns) (s : Settings) where
+module _ {m : Limits} (W : RoomForExports m) {σ : Store} {roots : List ℤ} {order : List ℕ} {p : Lent} {slots numbers out : ℕ}
+    (A : Accepted m σ roots order p slots numbers out) {ns : List ℕ} (allowed : Allowed σ roots ns) (s : Settings) where
   abbrev f : List ℕ
   f = fileOf s σ roots order p ns
 
@@ -43,7 +46,7 @@ module _ {σ : Store} {roots : List ℤ} {order : List ℕ} {p : Lent} {slots nu
   abbrev rest : List ℕ
   rest = nodeBytes (s .ascii) (linesFor σ ns) ++ endText
 
-  E : Exported σ roots ns
+  E : Exported m σ roots ns
   E = exported A allowed
 
   -- the nodes stand behind the header
@@ -56,29 +59,34 @@ module _ {σ : Store} {roots : List ℤ} {order : List ℕ} {p : Lent} {slots nu
   unfolding listFits
   own-levels = rw (eq-eqb (length (supportOf σ ns)) (length (supportOf σ ns)) refl) (support-fits σ ns)
 
+  -- there are no more nodes than a load takes
+  few : headingOf s σ roots order p ns .nnodes ≤ m .nodes
+  unfolding headingOf
+  few = omega (arith, lines-few E, A .rules .sizes .count-limit)
+
   -- An accepted export reads back, in whatever order that document 01 allows its lines stand.
-  pub accepted-back : (lent : ℕ) → ReadsBack s σ roots order p ns f lent
+  pub accepted-back : (lent : ℕ) → ReadsBack m s σ roots order p ns f lent
   unfolding fileOf
   accepted-back lent =
-      let short = input-short A s E in
+      let short = input-short W A s E in
       record {
         short = short;
-        header-back = header-back _ f rest (heading-fit A E s) short refl;
+        header-back = header-back m _ f rest (heading-fit W A E s) few short refl;
         levels-fit = own-levels;
-        nodes-back = nodes-read-back E (s .ascii) f (length head) _ stand lent;
+        nodes-back = nodes-read-back W E (s .ascii) f (length head) _ stand lent;
       }
 
 -- So it does into every store that the exporting one has grown into: the file is as if exported from there.
-pub later-back : {σ τ : Store} {roots : List ℤ} {order : List ℕ} {p : Lent} {slots numbers out : ℕ} → Accepted σ roots order p slots numbers out
-    → {ns : List ℕ} → Allowed σ roots ns → Grows σ τ → Rules limits τ → (s : Settings) (lent : ℕ)
-    → ReadsBack s τ roots order p ns (fileOf s σ roots order p ns) lent
-later-back {σ} {τ} {roots} {order} {p} A {ns} allowed G R s lent =
+pub later-back : {m : Limits} → RoomForExports m → {σ τ : Store} {roots : List ℤ} {order : List ℕ} {p : Lent} {slots numbers out : ℕ}
+    → Accepted m σ roots order p slots numbers out → {ns : List ℕ} → Allowed σ roots ns → Grows σ τ → Rules m τ → (s : Settings) (lent : ℕ)
+    → ReadsBack m s τ roots order p ns (fileOf s σ roots order p ns) lent
+later-back {m} W {σ} {τ} {roots} {order} {p} A {ns} allowed G R s lent =
     let there = accepted-grown G R A in
     let later = allowed-grown G (A .rules .nodes) (A .roots-there) allowed in
-    subst (λ f. ReadsBack s τ roots order p ns f lent) (file-grown G s order p (exported A allowed)) (accepted-back there later s lent)
+    subst (λ f. ReadsBack m s τ roots order p ns f lent) (file-grown G s order p (exported A allowed)) (accepted-back W there later s lent)
 
 -- Demand 2: an export that isn't refused reads back.
-pub reads-back : {σ : Store} {roots : List ℤ} {order ns : List ℕ} {p : Lent} (slots numbers out : ℕ)
-    → exportFault σ roots order p slots numbers out ≡ 0 → Allowed σ roots ns → (s : Settings) (lent : ℕ)
-    → ReadsBack s σ roots order p ns (fileOf s σ roots order p ns) lent
-reads-back {σ} {roots} {order} {p = p} slots numbers out e allowed = accepted-back (accepted σ roots order p slots numbers out e) allowed
+pub reads-back : {m : Limits} → RoomForExports m → {σ : Store} {roots : List ℤ} {order ns : List ℕ} {p : Lent} (slots numbers out : ℕ)
+    → exportFault m σ roots order p slots numbers out ≡ 0 → Allowed σ roots ns → (s : Settings) (lent : ℕ)
+    → ReadsBack m s σ roots order p ns (fileOf s σ roots order p ns) lent
+reads-back W {σ} {roots} {order} {p = p} slots numbers out e allowed = accepted-back W (accepted σ roots order p slots numbers out e) allowed

@@ -6,10 +6,10 @@ use mathlib.Core.List.{List}
 use lib.Dec.{eqb}
 use lib.ListN.{length, take, replicate}
 use lib.IntN.{ℤ, pos}
-use Rattle.codes.specs.Limits.{inputLimit}
+use Rattle.codes.specs.Limits.{Limits}
 use Rattle.codes.specs.Lent.{laid}
 use Rattle.store.specs.Store.{Store}
-use Rattle.store.specs.Rules.{limits, Rules}
+use Rattle.store.specs.Rules.{Rules}
 use Rattle.store.specs.Growth.{Grows}
 use Rattle.header.specs.Header.{Header}
 use Rattle.numbering.specs.Allowed.{Allowed}
@@ -25,20 +25,20 @@ use Rattle.reading_nodes.specs.Back.{NodesBack}
 
 -- The file f is accepted, as header and as nodes, and gives back what was exported: into its store, at its own levels, with no new node, the
 -- same roots, signs included; of the header what `HeaderBack` says. The roots are read into a lent list of a length.
-pub record ReadsBack (s : Settings) (σ : Store) (roots : List ℤ) (order : List ℕ) (p : Lent) (ns f : List ℕ) (lent : ℕ) : Type 0 where
+pub record ReadsBack (m : Limits) (s : Settings) (σ : Store) (roots : List ℤ) (order : List ℕ) (p : Lent) (ns f : List ℕ) (lent : ℕ) : Type 0 where
   -- '19 .. input 16,777,216 bytes' isn't met
-  pub short : length f ≤ inputLimit
-  pub header-back : HeaderBack (headingOf s σ roots order p ns) f
+  pub short : length f ≤ m .input
+  pub header-back : HeaderBack m (headingOf s σ roots order p ns) f
   -- 'at its own levels': the levels of the support are a level list that nothing is refused of
   pub levels-fit : listFits (length (supportOf σ ns)) (σ .levels) (supportOf σ ns) ≡ true
-  pub nodes-back : NodesBack (s .ascii) σ roots ns f (length (headText (headingOf s σ roots order p ns))) (length (headLines (headingOf s σ roots order p ns))) lent
+  pub nodes-back : NodesBack m (s .ascii) σ roots ns f (length (headText (headingOf s σ roots order p ns))) (length (headLines (headingOf s σ roots order p ns))) lent
 
 -- What an import of a file's nodes leaves, as the file's header leads to it: into a store, at a level list, with a lent list of roots of a
 -- length.
-abbrev pub importBy : List ℕ → Header → Store → List ℕ → ℕ → Imported
-importBy f h σ levels lent =
-    importOf (setup (h .ascii) (not (eqb (h .varinfo) 4)) (h .nnodes) (h .lines) levels (σ .levels)) σ f (h .next)
-    (laid (loadedFrom f .roots) (replicate lent (pos 0)))
+abbrev pub importBy : Limits → List ℕ → Header → Store → List ℕ → ℕ → Imported
+importBy m f h σ levels lent =
+    importOf m (setup (h .ascii) (not (eqb (h .varinfo) 4)) (h .nnodes) (h .lines) levels (σ .levels)) σ f (h .next)
+    (laid (loadedFrom m f .roots) (replicate lent (pos 0)))
 
 -- It is accepted, the store is as it was, and the roots stand in the lent list.
 pub record GivesBack (σ : Store) (roots : List ℤ) (lent : ℕ) (r : Imported) : Type 0 where
@@ -54,8 +54,9 @@ pub record ReadAlike (r q : Imported) : Type 0 where
 
 -- The first n bytes of an export's output are a file, whose lines stand in an order that document 01 allows, and it reads back into every
 -- store that the exporting one has grown into.
-pub record OutputBack (s : Settings) (σ : Store) (roots : List ℤ) (order : List ℕ) (p : Lent) (n : ℕ) (out : List ℕ) (lent : ℕ) : Type 0 where
+pub record OutputBack (m : Limits) (s : Settings) (σ : Store) (roots : List ℤ) (order : List ℕ) (p : Lent) (n : ℕ) (out : List ℕ)
+    (lent : ℕ) : Type 0 where
   pub nodes : List ℕ
   pub allowed : Allowed σ roots nodes
   pub file : take n out ≡ fileOf s σ roots order p nodes
-  pub back : (τ : Store) → Grows σ τ → Rules limits τ → ReadsBack s τ roots order p nodes (take n out) lent
+  pub back : (τ : Store) → Grows σ τ → Rules m τ → ReadsBack m s τ roots order p nodes (take n out) lent

@@ -3,7 +3,7 @@ use mathlib.Core.Path.{_≡_}
 use mathlib.Core.List.{List, _++_}
 use Prim.Native.Nat.{ℕ, _-_, _≤_}
 use lib.ListN.{length}
-use Rattle.codes.specs.Limits.{inputLimit}
+use Rattle.codes.specs.Limits.{Limits}
 use Rattle.header_lines.specs.Sweep.{Span}
 use Rattle.header_keys.specs.declared.Key.the-variants.{Dd}
 use Rattle.header_values.specs.Values.{spanIn, valueIn, asciiIn, varinfoIn, ddIn}
@@ -22,7 +22,8 @@ use Rattle.reading_header.proofs.ValuesBack.{values-back}
 use Rattle.reading_header.proofs.WholeBack.{whole-back, order-read, supp-name-read, all-names-read}
 
 -- A file that starts with an export's header, whatever follows.
-module _ (h : Heading) (f r : List ℕ) (fit : Fit h) (short : length f ≤ inputLimit) (e : f ≡ headText h ++ r) where
+module _ (m : Limits) (h : Heading) (f r : List ℕ) (fit : Fit h) (few : h .nnodes ≤ m .nodes) (short : length f ≤ m .input)
+    (e : f ≡ headText h ++ r) where
   abbrev t : List Span
   t = tableOf f
 
@@ -50,14 +51,14 @@ module _ (h : Heading) (f r : List ℕ) (fit : Fit h) (short : length f ≤ inpu
       rw (values .dd, diagram-back at (h .dd) (fit .dd)) (text-there f (spanIn t Dd .end - at) at (trimmed (h .dd)) (values .dd))
 
   -- The header is accepted,
-  accepted : answerOf f ≡ header (headerFor h (ddIn f t))
+  accepted : answerOf m f ≡ header (headerFor h (ddIn f t))
   unfolding answerOf readOf
   accepted =
-      rw (none-length (length f) short, head-end fit f r e, whole-back fit read, ascii-read, varinfo-read)
+      rw (none-length m (length f) short, head-end fit f r e, whole-back fit read m few, ascii-read, varinfo-read)
       (rw (read .nnodes, read .nvars, read .nsuppvars, read .nroots))
 
   -- and gives back what was written.
-  pub header-back : HeaderBack h f
+  pub header-back : HeaderBack m h f
   header-back = record {
     dd = ddIn f t;
     answer = accepted;

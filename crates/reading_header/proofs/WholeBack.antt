@@ -7,6 +7,7 @@ use Prim.Native.Nat.{ℕ, _≤_}
 use lib.Dec.{eqb}
 use lib.ListN.{length, getD}
 use borrow.Author.Tests.{eq-eqb}
+use Rattle.codes.specs.Limits.{Limits}
 use Rattle.codes.specs.declared.DDDMPVersion.the-variants.{«V3_0»}
 use Rattle.read_lines.specs.Each.{Each, none, each}
 use Rattle.read_text.specs.Text.{place}
@@ -49,10 +50,10 @@ module _ {h : Heading} {f : List ℕ} {t : List Span} (fit : Fit h) (v : ValuesB
   given = given-back h f _ _ _ (fit .names-counted) (v .varnames) (v .orderedvarnames) (v .suppvarnames)
 
   -- each group of checks
-  numbers : firstFault (numberFaults (nvarsIn f t) (nnodesIn f t) (nsuppvarsIn f t)) ≡ 0
-  numbers =
+  numbers : (m : Limits) → h .nnodes ≤ m .nodes → firstFault (numberFaults m (nvarsIn f t) (nnodesIn f t) (nsuppvarsIn f t)) ≡ 0
+  numbers m few =
       rw (v .nvars, v .nnodes, v .nsuppvars)
-      (sym (numbers-pass (length (h .order)) (h .nnodes) (length (h .support)) (fit .few-variables) (fit .few-nodes)
+      (sym (numbers-pass m (length (h .order)) (h .nnodes) (length (h .support)) (fit .few-variables) few
       (supported fit .few)))
 
   support : firstFault (supportFaults f t) ≡ 0
@@ -95,8 +96,8 @@ module _ {h : Heading} {f : List ℕ} {t : List Span} (fit : Fit h) (v : ValuesB
       (each (given-right _ _ (fit .rootnames-counted)) none))))
 
   -- No check refuses,
-  pub whole-back : wholeFault f t ≡ 0
-  whole-back = sym (names-passed f t numbers (sym support) refl (sym name-counts) refl (sym names) refl (sym roots))
+  pub whole-back : (m : Limits) → h .nnodes ≤ m .nodes → wholeFault m f t ≡ 0
+  whole-back m few = sym (names-passed m f t (numbers m few) (sym support) refl (sym name-counts) refl (sym names) refl (sym roots))
 
   -- the support order is the export's,
   pub order-read : supportOrder (nvarsIn f t) (u32sIn f t Ids) (u32sIn f t Permids) ≡ map (variableOfLevel (h .order)) (h .support)

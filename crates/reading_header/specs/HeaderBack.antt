@@ -1,12 +1,12 @@
 -- The header of an export, read back. Demand 2: an exported file, text or binary, reads back.
-use Prim.Native.Nat.{ℕ, _-_, _≤_, _<_}
+use Prim.Native.Nat.{ℕ, _-_, _^_, _≤_, _<_}
 use mathlib.Core.Path.{_≡_}
 use mathlib.Core.Bool.{true, false}
 use mathlib.Core.Logic.{_⊎_}
 use mathlib.Core.List.{List, [], map}
 use lib.ListN.{length, getD}
 use lib.IntN.{pos, natAbs}
-use Rattle.codes.specs.Limits.{varLimit, rootLimit, nodeLimit}
+use Rattle.codes.specs.Limits.{Limits, varLimit, rootLimit}
 use Rattle.codes.specs.declared.DDDMPVersion.the-variants.{«V3_0»}
 use Rattle.read_text.specs.Text.{Place, place}
 use Rattle.read_lines.specs.Each.{Each}
@@ -22,12 +22,13 @@ use Rattle.reading_header.specs.Joined.{trimmed}
 abbrev pub AllOrNone : List (List ℕ) → ℕ → Type 0
 AllOrNone names n = (length names ≡ 0) ⊎ (length names ≡ n)
 
--- What a header of an export holds to: what the export checks, and what its numbering gives.
+-- What a header of an export holds to: what the export checks, and what its numbering gives. Whether its nodes are few enough for a load
+-- is asked apart: here their number need only be one that a root can have.
 pub record Fit (h : Heading) : Type 0 where
   pub order : isOrder (length (h .order)) (h .order) ≡ true
   pub few-variables : length (h .order) ≤ varLimit
   pub support : idsFit (length (h .order)) (h .support) ≡ true
-  pub few-nodes : h .nnodes ≤ nodeLimit
+  pub few-nodes : h .nnodes < 2 ^ 63
   pub dd : fitName true (h .dd) ≡ true
   pub names-counted : AllOrNone (h .names) (length (h .order))
   pub names : Each (λ name. fitName false name ≡ true) (h .names)
@@ -52,8 +53,8 @@ headerFor h dd = record {
 }
 
 -- what a load of the file's header leaves
-abbrev pub loadedFrom : List ℕ → HeaderLoaded
-loadedFrom f = listsBy f (answerOf f)
+abbrev pub loadedFrom : Limits → List ℕ → HeaderLoaded
+loadedFrom m f = listsBy f (answerOf m f)
 
 -- the support variable at a level
 abbrev pub variableOfLevel : List ℕ → ℕ → ℕ
@@ -61,18 +62,18 @@ variableOfLevel order l = seatOf l order - 1
 
 -- The header of a file that starts with an export's: it is accepted, and all that it says comes back. Of the names of variables, version 3.0
 -- has all; version 2.0 has those of the support, since the order of the variables outside it stands in no line.
-pub record HeaderBack (h : Heading) (f : List ℕ) : Type 0 where
+pub record HeaderBack (m : Limits) (h : Heading) (f : List ℕ) : Type 0 where
   pub dd : Place
-  pub answer : answerOf f ≡ header (headerFor h dd)
+  pub answer : answerOf m f ≡ header (headerFor h dd)
   pub diagram : nameAt f dd ≡ trimmed (h .dd)
-  pub ids : loadedFrom f .ids ≡ idsFrom (h .support) 0 (h .order)
-  pub permids : loadedFrom f .permids ≡ permidsOf (h .support) (h .order)
-  pub order : loadedFrom f .order ≡ map (variableOfLevel (h .order)) (h .support)
-  pub auxids : loadedFrom f .auxids ≡ []
-  pub roots : loadedFrom f .roots ≡ h .rootids
-  pub rootnames : map (nameAt f) (loadedFrom f .rootnames) ≡ h .rootnames
+  pub ids : loadedFrom m f .ids ≡ idsFrom (h .support) 0 (h .order)
+  pub permids : loadedFrom m f .permids ≡ permidsOf (h .support) (h .order)
+  pub order : loadedFrom m f .order ≡ map (variableOfLevel (h .order)) (h .support)
+  pub auxids : loadedFrom m f .auxids ≡ []
+  pub roots : loadedFrom m f .roots ≡ h .rootids
+  pub rootnames : map (nameAt f) (loadedFrom m f .rootnames) ≡ h .rootnames
   -- names of the support variables; no name where none was written
   pub supp-names : (v : ℕ) → 1 ≤ seatOf v (idsFrom (h .support) 0 (h .order))
-      → nameAt f (getD (loadedFrom f .names) v (place 0 0)) ≡ getD (h .names) v []
+      → nameAt f (getD (loadedFrom m f .names) v (place 0 0)) ≡ getD (h .names) v []
   -- in version 3.0 the names of all
-  pub all-names : h .version ≡ «V3_0» → map (nameAt f) (loadedFrom f .names) ≡ h .names
+  pub all-names : h .version ≡ «V3_0» → map (nameAt f) (loadedFrom m f .names) ≡ h .names

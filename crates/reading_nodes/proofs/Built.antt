@@ -10,7 +10,8 @@ use Rattle.codes.specs.Answer.{value}
 use Rattle.edges.specs.Edge.{minus}
 use Rattle.edges.proofs.Edge.{eqZ-ne}
 use Rattle.store.specs.Store.{Store, levelAt, thenAt, elseAt}
-use Rattle.store.specs.Rules.{Limits, limits, Nodes}
+use Rattle.codes.specs.Limits.{Limits}
+use Rattle.store.specs.Rules.{Nodes}
 use Rattle.store.specs.Make.{made, placedNode, insert, make}
 use Rattle.store.proofs.Find.{find-is}
 use Rattle.numbering.specs.Support.{supportOf}
@@ -49,16 +50,16 @@ line-made m N p terminalAt = refl
 line-made {σ} {ns} {n = n} m N p (innerAt I) =
     rw (line-inner σ ns n (I .node), addLine, level-back I, edge-back p (thenAt σ n) (I .then), edge-back p (elseAt σ n) (I .els)) (own-made m N I)
 
-module _ {σ : Store} {roots : List ℤ} {ns : List ℕ} (E : Exported σ roots ns) where
+module _ {m : Limits} {σ : Store} {roots : List ℤ} {ns : List ℕ} (E : Exported m σ roots ns) where
   -- the lines from the next on make no node
   rest-built : (before rest : List ℕ) → Parts ns before rest
-      → buildOn limits (supportOf σ ns) σ (map pos before) (map (lineOf σ ns) rest) ≡ built (value (map pos ns)) σ
+      → buildOn m (supportOf σ ns) σ (map pos before) (map (lineOf σ ns) rest) ≡ built (value (map pos ns)) σ
   unfolding buildOn
   rest-built before [] p = ap (λ l. built (value (map pos l)) σ) (sym (append-nil before) ∙ p .whole)
   rest-built before (n ∷ rest) p =
-      rw (line-made limits (E .rules .nodes) p (next-node E p)) (rw map-append at (rest-built (before ++ (n ∷ [])) rest (parts-more p)))
+      rw (line-made m (E .rules .nodes) p (next-node E p)) (rw map-append at (rest-built (before ++ (n ∷ [])) rest (parts-more p)))
 
   -- The edges of the lines are their nodes, and the store is the one before, with no new node.
-  pub built-back : build limits (supportOf σ ns) σ (linesFor σ ns) ≡ built (value (map pos ns)) σ
+  pub built-back : build m (supportOf σ ns) σ (linesFor σ ns) ≡ built (value (map pos ns)) σ
   unfolding build linesFor
   built-back = rest-built [] ns (parts-start ns)

@@ -8,6 +8,7 @@ use native.Mathlib.Omega.{arith}
 use lib.ListN.{length, length-map}
 use lib.IntN.{ℤ, natAbs}
 use borrow.Author.Tests.{lt-ltb, ne-eqb}
+use Rattle.codes.specs.Limits.{Limits}
 use Rattle.store.specs.Store.{Store, levelAt, thenAt, elseAt}
 use Rattle.store.specs.Rules.{depth}
 use Rattle.store.proofs.Meaning.{depth-node}
@@ -52,7 +53,7 @@ unfolding lineOfNode
 line-plain terminalAt = tt
 line-plain {σ} {ns} {i} {n} (innerAt I) = rw (line-inner σ ns n (I .node)) (renumbered-plain ns (thenAt σ n) (I .fits .positive))
 
-module _ {σ : Store} {roots : List ℤ} {ns : List ℕ} (E : Exported σ roots ns) where
+module _ {m : Limits} {σ : Store} {roots : List ℤ} {ns : List ℕ} (E : Exported m σ roots ns) where
   module _ {before rest : List ℕ} (p : Parts ns before rest) where
     -- a child of the next line
     child-judged : (l : ℕ) (c : ℤ) → Numbered ns (length before) c → l < depth σ (natAbs c)

@@ -6,6 +6,7 @@ use Prim.Native.Nat.{ℕ, _+_}
 use native.Mathlib.Omega.{arith}
 use lib.ListN.{length, length-map}
 use lib.IntN.{ℤ}
+use Rattle.codes.specs.Limits.{Limits, RoomForExports}
 use Rattle.codes.proofs.Bytes.{both}
 use Rattle.store.specs.Store.{Store}
 use Rattle.seats.specs.Ordered.{ascending}
@@ -26,8 +27,8 @@ use Rattle.reading_nodes.proofs.Built.{built-back}
 use Rattle.reading_nodes.proofs.RootsBack.{roots-back}
 
 -- The nodes of an export stand in a file from a position on, after a header of so many lines.
-module _ {σ : Store} {roots : List ℤ} {ns : List ℕ} (E : Exported σ roots ns) (ascii : Bool) (f : List ℕ) (at lines : ℕ)
-    (stand : Stand ascii σ ns f at) where
+module _ {m : Limits} (W : RoomForExports m) {σ : Store} {roots : List ℤ} {ns : List ℕ} (E : Exported m σ roots ns)
+    (ascii : Bool) (f : List ℕ) (at lines : ℕ) (stand : Stand ascii σ ns f at) where
   -- the levels of the support ascend
   ascends : ascending (supportOf σ ns) ≡ true
   unfolding idsFit
@@ -42,14 +43,15 @@ module _ {σ : Store} {roots : List ℤ} {ns : List ℕ} (E : Exported σ roots 
   all-lines-back =
       let sizes = E .rules .sizes in
       rw lines-counted at
-      (lines-back (σ .levels) (supportOf σ ns) ascends (omega (arith, support-few σ ns)) f ascii (linesFor σ ns) (lines-plain E) (lines-judged E)
-      (omega (arith, lines-counted, lines-few E)) lines at endText stand)
+      (lines-back (σ .levels) (supportOf σ ns) ascends (omega (arith, support-few σ ns, W .few-levels))
+      f ascii (linesFor σ ns) (lines-plain E) (lines-judged E)
+      (omega (arith, lines-counted, lines-few E, W .few-digits)) lines at endText stand)
 
   -- and the file ends well after them.
   ends-well : endsWell f (at + length (nodeBytes ascii (linesFor σ ns))) ≡ true
   ends-well = end-back f _ (stands-after f at (nodeBytes ascii (linesFor σ ns)) endText stand)
 
   -- So the nodes are accepted; the store is the one before, with no new node, and the roots are the same, signs included.
-  pub nodes-read-back : (lent : ℕ) → NodesBack ascii σ roots ns f at lines lent
+  pub nodes-read-back : (lent : ℕ) → NodesBack m ascii σ roots ns f at lines lent
   unfolding importOf linesAnswer
   nodes-read-back lent = record { lines-back = all-lines-back; imported = rw (all-lines-back, built-back E, ends-well, roots-back E lent) }

@@ -5,6 +5,7 @@ use Prim.Native.Nat.{ℕ, zero, suc, _≤_}
 use native.Mathlib.Omega.{arith}
 use lib.ListN.{length}
 use lib.IntN.{ℤ, pos, negsuc, natAbs}
+use Rattle.codes.specs.Limits.{Limits}
 use Rattle.edges.specs.Edge.{minus}
 use Rattle.read_edges.specs.Edges.{signed}
 use Rattle.store.specs.Store.{Store}
@@ -16,7 +17,7 @@ use Rattle.imported.specs.Build.{turnedOver, edgeFor}
 use Rattle.reading_nodes.proofs.Parts.{Parts, parts-low, parts-here, seat-early}
 
 -- the node of the next line
-pub next-node : {σ : Store} {roots : List ℤ} {ns before rest : List ℕ} {n : ℕ} → Exported σ roots ns → Parts ns before (n ∷ rest)
+pub next-node : {m : Limits} {σ : Store} {roots : List ℤ} {ns before rest : List ℕ} {n : ℕ} → Exported m σ roots ns → Parts ns before (n ∷ rest)
     → NodeAt σ ns (length before) n
 next-node {before = before} {n = n} E p = node-at E (length before) n (parts-low p) (parts-here p)
 

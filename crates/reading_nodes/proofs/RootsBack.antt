@@ -6,6 +6,7 @@ use native.Mathlib.Omega.{arith}
 use lib.ListN.{length, getD, replicate}
 use lib.IntN.{ℤ, pos, natAbs}
 use borrow.Author.Tests.{ne-eqb}
+use Rattle.codes.specs.Limits.{Limits}
 use Rattle.codes.specs.Lent.{laid}
 use Rattle.store.specs.Store.{Store}
 use Rattle.export_nodes.specs.Lines.{renumbered}
@@ -26,7 +27,7 @@ laid-back g h z (e ∷ es) back zero = refl
 laid-back g h z (e ∷ es) back (suc k) =
     ap₂ (λ a l. a ∷ l) (back 0 (omega arith)) (laid-back g h z es (λ i p. back (suc i) (omega arith)) k)
 
-module _ {σ : Store} {roots : List ℤ} {ns : List ℕ} (E : Exported σ roots ns) where
+module _ {m : Limits} {σ : Store} {roots : List ℤ} {ns : List ℕ} (E : Exported m σ roots ns) where
   module _ (i : ℕ) (h : i < length roots) where
     -- a root is the number of a line
     pub root-some : 1 ≤ natAbs (renumbered ns (getD roots i (pos 0)))

@@ -5,6 +5,7 @@ use mathlib.Core.Bool.{Bool, false}
 use mathlib.Core.List.{List, _++_, map}
 use lib.ListN.{length, drop, replicate}
 use lib.IntN.{ℤ, pos, natAbs}
+use Rattle.codes.specs.Limits.{Limits}
 use Rattle.codes.specs.Lent.{laid}
 use Rattle.store.specs.Store.{Store}
 use Rattle.node_lines.specs.Line.{Line, terminal, inner}
@@ -34,7 +35,7 @@ LinesBack ascii σ ns f at lines =
 
 -- The nodes are accepted, the store is the one before, with no new node, and the roots are the same, signs included. The roots' numbers
 -- stand in a lent list, which is longer; its unused entries are 0.
-pub record NodesBack (ascii : Bool) (σ : Store) (roots : List ℤ) (ns f : List ℕ) (at lines lent : ℕ) : Type 0 where
+pub record NodesBack (m : Limits) (ascii : Bool) (σ : Store) (roots : List ℤ) (ns f : List ℕ) (at lines lent : ℕ) : Type 0 where
   pub lines-back : LinesBack ascii σ ns f at lines
-  pub imported : importOf (setupBack ascii σ ns lines) σ f at (laid (map (renumbered ns) roots) (replicate lent (pos 0)))
+  pub imported : importOf m (setupBack ascii σ ns lines) σ f at (laid (map (renumbered ns) roots) (replicate lent (pos 0)))
       ≡ record { answer = nodes (at + length (nodeBytes ascii (linesFor σ ns))); after = σ; roots = laid roots (replicate lent (pos 0)) }

@@ -4,6 +4,7 @@ use Prim.Native.Nat.{ℕ}
 use mathlib.Core.Path.{_≡_}
 use mathlib.Core.Bool.{Bool}
 use mathlib.Core.List.{List}
+use Rattle.codes.specs.Limits.{limits}
 use Rattle.codes.specs.Answer.{Read, value, refused}
 use Rattle.store.specs.Store.{Store}
 use Rattle.header.specs.Header as head
@@ -56,5 +57,5 @@ ofLength (refused k) = record { refusal = k; line = 0; len = 0 }
 -- what an export answers and leaves in its output, as `dddmp` promises it: the answer is that of such an export
 pub record ExportingForC (x : Export) (σ : Store) (a : ExportAnswer) (out : List ℕ) : Type 0 where
   pub exported : Exported
-  pub exports : Exports x σ exported out
+  pub exports : Exports limits x σ exported out
   pub answer : a ≡ ofLength (ofExported exported)

@@ -4,6 +4,7 @@ use mathlib.Core.List.{List, [], _∷_}
 use Prim.Native.Nat.{ℕ, zero, suc}
 use lib.ListN.{length, replicate}
 use lib.IntN.{ℤ, pos}
+use Rattle.codes.specs.Limits.{limits}
 use Rattle.codes.specs.Lent.{laid}
 use Rattle.header_values.specs.Values.{pad}
 use Rattle.codes.specs.Faults.{firstFault}
@@ -34,57 +35,57 @@ module _ (file list : List ℕ) (p : Parts) (σ : Store) where
 
   -- what is found before the header: the lists, then the store, then the input's length
   pub before-is : (lists found before : ℕ) → lists ≡ lentFault (lengthsOf p) → found ≡ storeAfter lists σ
-      → before ≡ head.lengthAfter found (length file) → before ≡ beforeHeader this σ
+      → before ≡ head.lengthAfter limits found (length file) → before ≡ beforeHeader limits this σ
   unfolding beforeHeader storeAfter head.lengthAfter
   before-is lists found before l s e =
-      e ∙ ap (λ n. firstFault (n ∷ inputFault file ∷ [])) (s ∙ ap (λ n. firstFault (n ∷ storeFault σ ∷ [])) l)
-      ∙ three-first (lentFault (lengthsOf p)) (storeFault σ) (inputFault file)
+      e ∙ ap (λ n. firstFault (n ∷ inputFault limits file ∷ [])) (s ∙ ap (λ n. firstFault (n ∷ storeFault limits σ ∷ [])) l)
+      ∙ three-first (lentFault (lengthsOf p)) (storeFault limits σ) (inputFault limits file)
 
-  module _ (before : ℕ) (s : before ≡ beforeHeader this σ) where
-    head-after : head.loadHeader before file ≡ headerOf this σ
+  module _ (before : ℕ) (s : before ≡ beforeHeader limits this σ) where
+    head-after : head.loadHeader limits before file ≡ headerOf limits this σ
     unfolding headerOf
-    head-after = ap (λ n. head.loadHeader n file) s
+    head-after = ap (λ n. head.loadHeader limits n file) s
 
     -- the answers after the header, after scratch, and after the level list
-    module _ (a m b : HeaderAnswer) (q : a ≡ head.loadHeader before file .answer) (t : m ≡ scratched (length (p .edges)) (length (p .seats)) a)
+    module _ (a m b : HeaderAnswer) (q : a ≡ head.loadHeader limits before file .answer) (t : m ≡ scratched (length (p .edges)) (length (p .seats)) a)
         (r : b ≡ listed (σ .levels) list m) where
-      head-answer : a ≡ headerOf this σ .answer
+      head-answer : a ≡ headerOf limits this σ .answer
       head-answer = q ∙ ap (λ x. x .answer) head-after
 
-      ready-is : ready this σ (headerOf this σ .answer) ≡ b
+      ready-is : ready this σ (headerOf limits this σ .answer) ≡ b
       ready-is = ap (ready this σ) (sym head-answer) ∙ ap (listed (σ .levels) list) (sym t) ∙ sym r
 
       -- the nodes can be read
       pub ready-readable : Readable b σ list (length (p .edges)) (length (p .seats))
       ready-readable =
-          subst (λ x. Readable x σ list (length (p .edges)) (length (p .seats))) ready-is (readable this σ (headerOf this σ .answer) refl)
+          subst (λ x. Readable x σ list (length (p .edges)) (length (p .seats))) ready-is (readable this σ (headerOf limits this σ .answer) refl)
 
       -- the roots' numbers as the header leaves them
-      module _ (n : List ℤ) (w : n ≡ laid (head.loadHeader before file .roots) (replicate (length (p .roots)) (pos 0))) where
-        numbers-are : n ≡ laid (headerOf this σ .roots) (replicate (length (p .roots)) (pos 0))
+      module _ (n : List ℤ) (w : n ≡ laid (head.loadHeader limits before file .roots) (replicate (length (p .roots)) (pos 0))) where
+        numbers-are : n ≡ laid (headerOf limits this σ .roots) (replicate (length (p .roots)) (pos 0))
         numbers-are = w ∙ ap (λ x. laid (x .roots) (replicate (length (p .roots)) (pos 0))) head-after
 
         -- what the nodes leave is what the load leaves
-        nodes-left : nodesAfter b σ file list n ≡ nodesLeft (loadOf this σ)
+        nodes-left : nodesAfter b σ file list n ≡ nodesLeft (loadOf limits this σ)
         nodes-left =
             ap (λ x. nodesAfter b σ file list x) numbers-are
-            ∙ ap (λ x. nodesAfter x σ file list (laid (headerOf this σ .roots) (replicate (length (p .roots)) (pos 0)))) (sym ready-is)
+            ∙ ap (λ x. nodesAfter x σ file list (laid (headerOf limits this σ .roots) (replicate (length (p .roots)) (pos 0)))) (sym ready-is)
             ∙ sym (left-load this σ)
 
-        pub answer-left : (d : HeaderAnswer) → d ≡ nodesAfter b σ file list n .answer → d ≡ loadOf this σ .answer
+        pub answer-left : (d : HeaderAnswer) → d ≡ nodesAfter b σ file list n .answer → d ≡ loadOf limits this σ .answer
         answer-left d e = e ∙ ap (λ x. x .answer) nodes-left
 
-        pub store-left : (τ : Store) → τ ≡ nodesAfter b σ file list n .after → τ ≡ loadOf this σ .after
+        pub store-left : (τ : Store) → τ ≡ nodesAfter b σ file list n .after → τ ≡ loadOf limits this σ .after
         store-left τ e = e ∙ ap (λ x. x .after) nodes-left
 
-        pub roots-left : (l : List ℤ) → l ≡ nodesAfter b σ file list n .roots → l ≡ loadOf this σ .roots
+        pub roots-left : (l : List ℤ) → l ≡ nodesAfter b σ file list n .roots → l ≡ loadOf limits this σ .roots
         roots-left l e = e ∙ ap (λ x. x .roots) nodes-left
 
     -- a list as the header left it, cleared on a refusal, is what the load says
-    pub list-left : (d : HeaderAnswer) → d ≡ loadOf this σ .answer → (n : ℕ) (g : Entries → List ℕ) → g noEntries ≡ []
-        → (l : List ℕ) → l ≡ pad n (g (headEntries (head.loadHeader before file))) → (out : List ℕ) → out ≡ clearedIf (isRefusal d) l
-        → out ≡ pad n (g (loadEntries (loadOf this σ)))
+    pub list-left : (d : HeaderAnswer) → d ≡ loadOf limits this σ .answer → (n : ℕ) (g : Entries → List ℕ) → g noEntries ≡ []
+        → (l : List ℕ) → l ≡ pad n (g (headEntries (head.loadHeader limits before file))) → (out : List ℕ) → out ≡ clearedIf (isRefusal d) l
+        → out ≡ pad n (g (loadEntries (loadOf limits this σ)))
     list-left d e n g z l v out o =
         o ∙ ap (λ x. clearedIf (isRefusal x) l) e
-        ∙ ap (clearedIf (isRefusal (loadOf this σ .answer))) (v ∙ ap (λ x. pad n (g (headEntries x))) head-after)
+        ∙ ap (clearedIf (isRefusal (loadOf limits this σ .answer))) (v ∙ ap (λ x. pad n (g (headEntries x))) head-after)
         ∙ cleared-list this σ n g z

@@ -25,7 +25,7 @@ use Rattle.calls.specs.Load.{Load, headerOf, beforeNodes, setupFor}
 use Rattle.stages.specs.Stages.{unlessRefused, Readable}
 use Rattle.calls.proofs.HeaderStands.{Stands, answer-stands}
 use Rattle.calls.proofs.Passes.{between-none}
-use Rattle.store.specs.Rules.{limits}
+use Rattle.codes.specs.Limits.{limits}
 use Rattle.store.specs.Keeps.{keeps-true}
 use Rattle.dddmp.proofs.Staged.{ready, ready-header}
 
@@ -77,11 +77,11 @@ list-counted n m l q = eqb-true _ _ (both (eqb (length l) n) (idsFit m l) q .0)
 
 module _ (c : Load) (σ : Store) where
   -- what passes scratch and level list
-  bounded : (h : Header) → Stands c σ h → h .nnodes ≤ c .lent .edges → h .nnodes ≤ c .lent .seats
+  bounded : (h : Header) → Stands limits c σ h → h .nnodes ≤ c .lent .edges → h .nnodes ≤ c .lent .seats
       → listFits (h .nsuppvars) (σ .levels) (c .list) ≡ true → Bounded (setupFor (c .list) (σ .levels) h) (c .lent .edges) (c .lent .seats)
   bounded h S e s l =
       let w = S .sound in
-      let R = whole-rules (c .file) (tableOf (c .file)) .0 (w .whole) in
+      let R = whole-rules limits (c .file) (tableOf (c .file)) .0 (w .whole) in
       let few = lines-short (c .file) (w .next) (w .lines) (w .ends) in
       let n : h .nnodes ≡ nnodesIn (c .file) (tableOf (c .file)) = ap (λ g. g .nnodes) (w .is) in
       let v : h .nsuppvars ≡ nsuppvarsIn (c .file) (tableOf (c .file)) = ap (λ g. g .nsuppvars) (w .is) in
@@ -93,7 +93,7 @@ module _ (c : Load) (σ : Store) where
       let i = S .short in
       record { nodes = omega arith; edges-long = e; seats-long = s; few-levels = omega arith; few-lines = omega arith }
 
-  checked-readable : (h : Header) → Stands c σ h → (k : ℕ) → beforeNodes c σ h ≡ k
+  checked-readable : (h : Header) → Stands limits c σ h → (k : ℕ) → beforeNodes c σ h ≡ k
       → Readable (unlessRefused h k) σ (c .list) (c .lent .edges) (c .lent .seats)
   checked-readable h S zero q =
       let b = between-none c σ h q in
@@ -101,8 +101,8 @@ module _ (c : Load) (σ : Store) where
   checked-readable h S (suc k) q = tt
 
   -- What scratch and level list let pass, the nodes can lean on.
-  pub readable : (a : HeaderAnswer) → headerOf c σ .answer ≡ a → Readable (ready c σ a) σ (c .list) (c .lent .edges) (c .lent .seats)
+  pub readable : (a : HeaderAnswer) → headerOf limits c σ .answer ≡ a → Readable (ready c σ a) σ (c .list) (c .lent .edges) (c .lent .seats)
   readable (header h) q =
       subst (λ a. Readable a σ (c .list) (c .lent .edges) (c .lent .seats)) (sym (ready-header c σ h))
-      (checked-readable h (answer-stands c σ h q) _ refl)
+      (checked-readable h (answer-stands limits c σ h q) _ refl)
   readable (refusal n at) q = tt

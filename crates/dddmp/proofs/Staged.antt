@@ -6,6 +6,7 @@ use Prim.Native.Nat.{ℕ, zero, suc}
 use lib.ListN.{length, replicate}
 use lib.ListN.{length-replicate}
 use lib.IntN.{ℤ, pos}
+use Rattle.codes.specs.Limits.{limits}
 use Rattle.codes.specs.Lent.{laid}
 use Rattle.codes.proofs.Lent.{length-laid}
 use Rattle.read_text.specs.Text.{Place}
@@ -39,11 +40,11 @@ zeros-of (x ∷ l) = ap (λ r. pos 0 ∷ r) (zeros-of l)
 module _ (c : Load) (σ : Store) where
   -- the numbers of the roots, as the header leaves them
   abbrev pub numbersRead : List ℤ
-  numbersRead = laid (headerOf c σ .roots) (replicate (c .lent .roots) (pos 0))
+  numbersRead = laid (headerOf limits c σ .roots) (replicate (c .lent .roots) (pos 0))
 
   -- there are as many entries as the list was lent
   numbers-long : length numbersRead ≡ c .lent .roots
-  numbers-long = length-laid (headerOf c σ .roots) (replicate (c .lent .roots) (pos 0)) ∙ length-replicate (c .lent .roots) (pos 0)
+  numbers-long = length-laid (headerOf limits c σ .roots) (replicate (c .lent .roots) (pos 0)) ∙ length-replicate (c .lent .roots) (pos 0)
 
   -- the answer after scratch and level list
   abbrev pub ready : HeaderAnswer → HeaderAnswer
@@ -65,34 +66,35 @@ module _ (c : Load) (σ : Store) where
 
   -- nodes that are read or refused
   left-imported : (h : Header) (b : Built) (a : nodes.NodesAnswer)
-      → nodesLeft (withNodes c σ h (nodes.importedBy numbersRead σ b a) a) ≡ noded h (nodes.importedBy numbersRead σ b a)
+      → nodesLeft (withNodes limits c σ h (nodes.importedBy numbersRead σ b a) a) ≡ noded h (nodes.importedBy numbersRead σ b a)
   left-imported h b (nodes.nodes at) = refl
   left-imported h b (nodes.refusal k line) =
       ap (λ r. record { answer = refusal k line; after = σ; roots = r }) (numbers-zero ∙ sym (zeros-of numbersRead))
 
-  left-nodes : (h : Header) → nodesLeft (withNodes c σ h (nodesOf c σ h) (nodesOf c σ h .answer)) ≡ noded h (nodesOf c σ h)
+  left-nodes : (h : Header)
+      → nodesLeft (withNodes limits c σ h (nodesOf limits c σ h) (nodesOf limits c σ h .answer)) ≡ noded h (nodesOf limits c σ h)
   unfolding nodes.importOf
   left-nodes h =
       let u = setupFor (c .list) (σ .levels) h in
-      left-imported h (nodes.builtFrom u σ (c .file) (h .next)) (nodes.withEnd (c .file) (nodes.linesAnswer u σ (c .file) (h .next)))
+      left-imported h (nodes.builtFrom limits u σ (c .file) (h .next)) (nodes.withEnd (c .file) (nodes.linesAnswer limits u σ (c .file) (h .next)))
 
   -- after scratch and level list
   left-checked : (h : Header) (k : ℕ)
-      → nodesLeft (withList c σ h k) ≡ nodesAfter (unlessRefused h k) σ (c .file) (c .list) numbersRead
+      → nodesLeft (withList limits c σ h k) ≡ nodesAfter (unlessRefused h k) σ (c .file) (c .list) numbersRead
   unfolding nodesAfter
   left-checked h zero = left-nodes h
   left-checked h (suc k) = left-refused (suc k) 0
 
   -- after the header
-  left-header : (a : HeaderAnswer) → nodesLeft (withHeader c σ a) ≡ nodesAfter (ready a) σ (c .file) (c .list) numbersRead
+  left-header : (a : HeaderAnswer) → nodesLeft (withHeader limits c σ a) ≡ nodesAfter (ready a) σ (c .file) (c .list) numbersRead
   left-header (header h) =
       left-checked h (beforeNodes c σ h) ∙ ap (λ a. nodesAfter a σ (c .file) (c .list) numbersRead) (sym (ready-header h))
   left-header (refusal n line) = left-refused n line
 
   -- The nodes' stage leaves the answer, the store and the roots of the load.
-  pub left-load : nodesLeft (loadOf c σ) ≡ nodesAfter (ready (headerOf c σ .answer)) σ (c .file) (c .list) numbersRead
+  pub left-load : nodesLeft (loadOf limits c σ) ≡ nodesAfter (ready (headerOf limits c σ .answer)) σ (c .file) (c .list) numbersRead
   unfolding loadOf
-  left-load = left-header (headerOf c σ .answer)
+  left-load = left-header (headerOf limits c σ .answer)
 
 -- the entries of the lists that the last stage may clear
 pub record Entries : Type 0 where
@@ -133,24 +135,24 @@ unlessRefusal false e = e
 
 module _ (c : Load) (σ : Store) where
   abbrev Cleared : Loaded → Type 0
-  Cleared r = loadEntries r ≡ unlessRefusal (isRefusal (r .answer)) (headEntries (headerOf c σ))
+  Cleared r = loadEntries r ≡ unlessRefusal (isRefusal (r .answer)) (headEntries (headerOf limits c σ))
 
-  cleared-nodes : (h : Header) (r : nodes.Imported) (a : nodes.NodesAnswer) → Cleared (withNodes c σ h r a)
+  cleared-nodes : (h : Header) (r : nodes.Imported) (a : nodes.NodesAnswer) → Cleared (withNodes limits c σ h r a)
   cleared-nodes h r (nodes.nodes at) = refl
   cleared-nodes h r (nodes.refusal k line) = refl
 
-  cleared-checked : (h : Header) (k : ℕ) → Cleared (withList c σ h k)
-  cleared-checked h zero = cleared-nodes h (nodesOf c σ h) (nodesOf c σ h .answer)
+  cleared-checked : (h : Header) (k : ℕ) → Cleared (withList limits c σ h k)
+  cleared-checked h zero = cleared-nodes h (nodesOf limits c σ h) (nodesOf limits c σ h .answer)
   cleared-checked h (suc k) = refl
 
-  cleared-header : (a : HeaderAnswer) → Cleared (withHeader c σ a)
+  cleared-header : (a : HeaderAnswer) → Cleared (withHeader limits c σ a)
   cleared-header (header h) = cleared-checked h (beforeNodes c σ h)
   cleared-header (refusal n line) = refl
 
   -- the entries of a load are those of its header, or none on a refusal
-  cleared-load : Cleared (loadOf c σ)
+  cleared-load : Cleared (loadOf limits c σ)
   unfolding loadOf
-  cleared-load = cleared-header (headerOf c σ .answer)
+  cleared-load = cleared-header (headerOf limits c σ .answer)
 
   -- the entries of a list, where none are left on a refusal, over zeros: the list as the header left it, or zeros
   over-zeros : (n : ℕ) (e : List ℕ) (b : Bool) (l : List ℕ) → (b ≡ true → l ≡ []) → (b ≡ false → l ≡ e) → clearedIf b (pad n e) ≡ pad n l
@@ -161,8 +163,9 @@ module _ (c : Load) (σ : Store) where
 
   -- The last stage leaves in each list what the load says.
   pub cleared-list : (n : ℕ) (g : Entries → List ℕ) → g noEntries ≡ []
-      → clearedIf (isRefusal (loadOf c σ .answer)) (pad n (g (headEntries (headerOf c σ)))) ≡ pad n (g (loadEntries (loadOf c σ)))
+      → clearedIf (isRefusal (loadOf limits c σ .answer)) (pad n (g (headEntries (headerOf limits c σ))))
+      ≡ pad n (g (loadEntries (loadOf limits c σ)))
   cleared-list n g z =
-      over-zeros n (g (headEntries (headerOf c σ))) (isRefusal (loadOf c σ .answer)) (g (loadEntries (loadOf c σ)))
-      (λ q. ap g cleared-load ∙ ap (λ b. g (unlessRefusal b (headEntries (headerOf c σ)))) q ∙ z)
-      (λ q. ap g cleared-load ∙ ap (λ b. g (unlessRefusal b (headEntries (headerOf c σ)))) q)
+      over-zeros n (g (headEntries (headerOf limits c σ))) (isRefusal (loadOf limits c σ .answer)) (g (loadEntries (loadOf limits c σ)))
+      (λ q. ap g cleared-load ∙ ap (λ b. g (unlessRefusal b (headEntries (headerOf limits c σ)))) q ∙ z)
+      (λ q. ap g cleared-load ∙ ap (λ b. g (unlessRefusal b (headEntries (headerOf limits c σ)))) q)

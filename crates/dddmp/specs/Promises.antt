@@ -5,6 +5,7 @@ use mathlib.Core.Path.{_≡_}
 use mathlib.Core.List.{List}
 use lib.ListN.{length, replicate}
 use lib.IntN.{ℤ}
+use Rattle.codes.specs.Limits.{limits}
 use Rattle.store.specs.Store.{Store}
 use Rattle.codes.specs.Lent.{Part, old, new}
 use Rattle.store.specs.Lent.{oldStore, newStore}
@@ -35,7 +36,7 @@ module _ (f list : Part (List ℕ)) (levels : ℕ) (count : Part ℕ) (level : P
 
   -- 'load gives 1 (lists), 3, 19 for the input's length, header, 1 (scratch), 2, nodes, 39'
   abbrev pub loaded : calls.Loaded
-  loaded = loadOf (loadInto (old f) (old list) oldParts) (oldStore levels (old count) level then els next heads)
+  loaded = loadOf limits (loadInto (old f) (old list) oldParts) (oldStore levels (old count) level then els next heads)
 
   pub record LoadPromise (r : Loaded) : Type 0 where
     -- 'A refusal is a number and a line.'
@@ -48,7 +49,7 @@ module _ (f list : Part (List ℕ)) (levels : ℕ) (count : Part ℕ) (level : P
 pub record EvaluatePromise (levels count : ℕ) (level : Part (List ℕ)) (then els : Part (List ℤ)) (next heads : Part (List ℕ)) (root : ℤ)
     (setting : Part (List ℕ)) (r : Evaluation) : Type 0 where
   -- 'Evaluation gives 3, 4.'
-  pub answer : ofEvaluation r ≡ evaluateOf root (old setting) (oldStore levels count level then els next heads)
+  pub answer : ofEvaluation r ≡ evaluateOf limits root (old setting) (oldStore levels count level then els next heads)
 
 module _ (s : Settings) (levels count : ℕ) (level : Part (List ℕ)) (then els : Part (List ℤ)) (next heads : Part (List ℕ)) (roots : Part (List ℤ))
     (order bytes starts lens rootstarts rootlens slots numbers out : Part (List ℕ)) where
@@ -62,7 +63,7 @@ pub record ExportPromise (settings : ExportSettings) (levels count : ℕ) (level
     (next heads : Part (List ℕ)) (roots : Part (List ℤ)) (order bytes starts lens rootstarts rootlens slots numbers out : Part (List ℕ))
     (r : Exported) : Type 0 where
   -- 'Export gives 1, 3, 4, 6, 5'; 'order inside a level is left open'
-  pub file : Exports
+  pub file : Exports limits
       (exporting (ofSettings settings) levels count level then els next heads roots order bytes starts lens rootstarts rootlens slots numbers out)
       (oldStore levels count level then els next heads) r (new out)
   -- 'Scratch ends as zeros.'

@@ -4,6 +4,7 @@ use mathlib.Core.Path.{_≡_}
 use mathlib.Core.List.{List}
 use lib.ListN.{length, replicate}
 use lib.IntN.{ℤ}
+use Rattle.codes.specs.Limits.{limits}
 use Rattle.codes.specs.Lent.{Part, old, new}
 use Rattle.store.specs.Lent.{oldStore, newStore}
 use Rattle.calls.specs.Load as calls
@@ -43,7 +44,7 @@ module _ (file list : Part (List ℕ)) (levels : ℕ) (count : Part ℕ) (level 
 pub record ZtEvaluatePromise (levels count : ℕ) (level : Part (List ℕ)) (then els : Part (List ℤ)) (next heads : Part (List ℕ)) (root : ℤ)
     (setting : Part (List ℕ)) (r : EvaluateAnswer) : Type 0 where
   -- 'Evaluation gives 3, 4.'
-  pub answer : r ≡ ofEvaluated (evaluateOf root (old setting) (oldStore levels count level then els next heads))
+  pub answer : r ≡ ofEvaluated (evaluateOf limits root (old setting) (oldStore levels count level then els next heads))
 
 pub record ZtExportPromise (version text ddstart ddlen levels count : ℕ) (level : Part (List ℕ)) (then els : Part (List ℤ))
     (next heads : Part (List ℕ)) (roots : Part (List ℤ)) (order bytes starts lens rootstarts rootlens slots numbers out : Part (List ℕ))

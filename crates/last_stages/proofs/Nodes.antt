@@ -9,7 +9,8 @@ use lib.IntN.{ℤ, pos}
 use Rattle.edges.specs.Width.{edgeLimit}
 use Rattle.header_values.specs.Kinds.{ofVarInfo}
 use Rattle.store.specs.Store.{Store}
-use Rattle.store.specs.Rules.{limits, Rules}
+use Rattle.codes.specs.Limits.{limits}
+use Rattle.store.specs.Rules.{Rules}
 use Rattle.header.specs.Header.{refusal}
 use Rattle.header.specs.Kinds.{ofHeader, ofLoaded}
 use Rattle.header.specs.declared.DumpHeader.{DumpHeader}
@@ -41,7 +42,7 @@ module _ (r : Loaded) (σ : Store) (list : List ℕ) where
 
     -- the nodes leave what their import leaves
     pub nodes-noded : {x : Bool} → x ≡ not (eqb (ofVarInfo (h .varinfo)) 4) → (f : List ℕ) (ids : List ℤ)
-        → noded (ofHeader h) (nodes.importOf (by x) σ f (h .next) ids) ≡ nodesAfter (ofLoaded r) σ f list ids
+        → noded (ofHeader h) (nodes.importOf limits (by x) σ f (h .next) ids) ≡ nodesAfter (ofLoaded r) σ f list ids
     unfolding nodesAfter
     nodes-noded y f ids = rw (q, y)
 

@@ -8,7 +8,7 @@ use borrow.Author.Tests.{le-leb, lt-leb, not-true, not-false}
 use Rattle.codes.specs.Faults.{firstFault}
 use Rattle.codes.proofs.Faults.{refuses}
 use Rattle.store.specs.Store.{Store}
-use Rattle.store.specs.Rules.{limits}
+use Rattle.codes.specs.Limits.{limits}
 use Rattle.store.specs.Keeps.{keeps}
 use Rattle.header.specs.Header.{Header, header, refusal}
 use Rattle.header.specs.Kinds.{ofHeader, ofLoaded}

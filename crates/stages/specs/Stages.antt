@@ -7,7 +7,8 @@ use lib.ListN.{length, replicate}
 use lib.IntN.{ℤ, pos}
 use Rattle.codes.specs.Faults.{firstFault}
 use Rattle.store.specs.Store.{Store}
-use Rattle.store.specs.Rules.{limits, Rules}
+use Rattle.codes.specs.Limits.{limits}
+use Rattle.store.specs.Rules.{Rules}
 use Rattle.header.specs.Header.{Header, HeaderAnswer, header, refusal}
 use Rattle.imported.specs.Build.{LevelsOf}
 use Rattle.imported.specs.Import as nodes
@@ -15,7 +16,7 @@ use Rattle.calls.specs.Load.{storeFault, scratchFault, listFault, setupFor}
 
 -- '3 the store breaks its rules', after what was found before, 0 of nothing
 unfoldable pub storeAfter : ℕ → Store → ℕ
-storeAfter found σ = firstFault (found ∷ storeFault σ ∷ [])
+storeAfter found σ = firstFault (found ∷ storeFault limits σ ∷ [])
 
 -- a header, where nothing is refused of it
 abbrev pub unlessRefused : Header → ℕ → HeaderAnswer
@@ -54,7 +55,7 @@ noded h r = record { answer = answerWithNodes h (r .answer); after = r .after; r
 
 -- 'nodes, 39', after the answer so far
 unfoldable pub nodesAfter : HeaderAnswer → Store → List ℕ → List ℕ → List ℤ → Noded
-nodesAfter (header h) σ f list ids = noded h (nodes.importOf (setupFor list (σ .levels) h) σ f (h .next) ids)
+nodesAfter (header h) σ f list ids = noded h (nodes.importOf limits (setupFor list (σ .levels) h) σ f (h .next) ids)
 nodesAfter (refusal n line) σ f list ids =
     record { answer = refusal n line; after = σ; roots = replicate (length ids) (pos 0) }
 

@@ -3,6 +3,7 @@
 // `DumpHeader::load` of `header`; the nodes, the end and the zeros follow in `last_stages`.
 ghost use mathlib.Core.Path.{_≡_};
 ghost use mathlib.Core.List.{[], _∷_};
+ghost use Rattle.codes.specs.Limits.{limits};
 ghost use Rattle.store.specs.Lent.{oldStore};
 ghost use Rattle.header.specs.Header.{listsFault, atLeast, lengthAfter};
 ghost use Rattle.header.specs.Kinds.{ofLoaded};
@@ -117,7 +118,7 @@ pub fn lengths_fault(vars: &[usize], roots: &[usize]) -> u8
 
 // The input's length: what was found before, 0 for nothing; else 19 where it is too long, else 0.
 pub fn length_fault(found: u8, len: usize) -> u8
-    ensures { λ r. ⌜ r ≡ lengthAfter found len ⌝ }
+    ensures { λ r. ⌜ r ≡ lengthAfter limits found len ⌝ }
 {
     if found != 0 {
         return found;

@@ -3,6 +3,7 @@ use mathlib.Core.Path.{_≡_, refl, _∙_}
 use mathlib.Core.List.{List, map}
 use lib.ListN.{length, replicate}
 use lib.IntN.{ℤ, pos}
+use Rattle.codes.specs.Limits.{limits}
 use Rattle.codes.specs.Lent.{laid}
 use Rattle.read_text.specs.Text.{startOf, lenOf}
 use Rattle.store.specs.Store.{Store, store}
@@ -97,14 +98,15 @@ kept s = store (s .args .levels) (s .args .count .now) (s .args .level .now) (s 
 
 -- what is found before the header
 found : (c : tie.After-slice-known32)
-    → measured c .length-fault .result ≡ beforeHeader (loadInto (start c .args .f .now) (start c .args .list .now) (given (start c))) (kept (start c))
+    → measured c .length-fault .result ≡ beforeHeader limits
+    (loadInto (start c .args .f .now) (start c .args .list .now) (given (start c))) (kept (start c))
 found c =
     before-is (start c .args .f .now) (start c .args .list .now) (given (start c)) (kept (start c))
     (counted c .lists-fault .result) (judged c .store-fault .result) (measured c .length-fault .result)
     (counted c .lists-fault .ensures) (judged c .store-fault .ensures) (measured c .length-fault .ensures)
 
 found-nodes : (c : tie.After-load-nodes-arg9)
-    → measured-nodes c .length-fault .result ≡ beforeHeader
+    → measured-nodes c .length-fault .result ≡ beforeHeader limits
     (loadInto (start-nodes c .args .f .now) (start-nodes c .args .list .now) (given (start-nodes c))) (kept (start-nodes c))
 found-nodes c =
     before-is (start-nodes c .args .f .now) (start-nodes c .args .list .now) (given (start-nodes c)) (kept (start-nodes c))
@@ -189,7 +191,7 @@ same-length-16 c = noded c .load-nodes .kept .1 .1 .1 .1 .1 .1 .1 .1 .1 .1 .1 .1
 
 -- the answer of the load, as the stages give it
 answered : (c : tie.After-slice-known32)
-    → ofLoaded (noded c .load-nodes .result) ≡ loadOf (loadInto (start c .args .f .now) (start c .args .list .now) (given (start c)))
+    → ofLoaded (noded c .load-nodes .result) ≡ loadOf limits (loadInto (start c .args .f .now) (start c .args .list .now) (given (start c)))
     (kept (start c)) .answer
 answered c =
     answer-left (start c .args .f .now) (start c .args .list .now) (given (start c)) (kept (start c))
@@ -203,7 +205,7 @@ answered c =
 stored : (c : tie.After-slice-known32)
     → (store (start c .args .levels) (noded c .load-nodes .last .1 .1 .1 .1 .0) (noded c .load-nodes .last .1 .1 .1 .1 .1 .0)
     (noded c .load-nodes .last .1 .1 .1 .1 .1 .1 .0) (noded c .load-nodes .last .1 .1 .1 .1 .1 .1 .1 .0)
-    (noded c .load-nodes .last .1 .1 .1 .1 .1 .1 .1 .1 .0) (noded c .load-nodes .last .1 .1 .1 .1 .1 .1 .1 .1 .1 .0)) ≡ loadOf
+    (noded c .load-nodes .last .1 .1 .1 .1 .1 .1 .1 .1 .0) (noded c .load-nodes .last .1 .1 .1 .1 .1 .1 .1 .1 .1 .0)) ≡ loadOf limits
     (loadInto (start c .args .f .now) (start c .args .list .now) (given (start c))) (kept (start c)) .after
 stored c =
     store-left (start c .args .f .now) (start c .args .list .now) (given (start c)) (kept (start c))
@@ -218,7 +220,7 @@ stored c =
 
 -- the roots
 rooted : (c : tie.After-slice-known32)
-    → (noded c .load-nodes .last .1 .1 .1 .1 .1 .1 .1 .1 .1 .1 .0) ≡ loadOf
+    → (noded c .load-nodes .last .1 .1 .1 .1 .1 .1 .1 .1 .1 .1 .0) ≡ loadOf limits
     (loadInto (start c .args .f .now) (start c .args .list .now) (given (start c))) (kept (start c)) .roots
 rooted c =
     roots-left (start c .args .f .now) (start c .args .list .now) (given (start c)) (kept (start c))

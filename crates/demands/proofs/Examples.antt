@@ -8,7 +8,7 @@ use native.Mathlib.Omega.{arith}
 use lib.ListN.{replicate}
 use lib.IntN.{pos, negsuc}
 use Rattle.codes.specs.Lent.{laid}
-use Rattle.codes.specs.Limits.{varLimit}
+use Rattle.codes.specs.Limits.{limits, varLimit}
 use Rattle.codes.specs.Machine.{run}
 use Rattle.codes.specs.Bytes.{isBlank, isDigit, isLineEnd, isWhitespace}
 use Rattle.edges.specs.Edge.{minus, turn, eqZ}
@@ -35,7 +35,7 @@ use Rattle.store.specs.Make.{findUpTo, find, added, insert, make}
 use Rattle.store.specs.Store.{Store}
 use Rattle.store.specs.Settings as settings
 use Rattle.store.specs.Meaning.{Setting}
-use Rattle.store.specs.Rules.{limits, Rules}
+use Rattle.store.specs.Rules.{Rules}
 use Rattle.store.specs.Keeps.{keeps, says-no, is-keeps, rules-keeps}
 use Rattle.store.specs.Empty.{empty}
 use Rattle.store.proofs.Empty.{empty-keeps}
@@ -59,9 +59,9 @@ use Rattle.calls.proofs.RootsAnswer.{roots-answer}
 
 -- the header of a load, by whether the store keeps the rules
 abbrev pub headerBy : Load → Bool → head.HeaderLoaded
-headerBy c kept = head.loadHeader (firstFault (lentFault (c .lent) ∷ unless kept 3 ∷ inputFault (c .file) ∷ [])) (c .file)
+headerBy c kept = head.loadHeader limits (firstFault (lentFault (c .lent) ∷ unless kept 3 ∷ inputFault limits (c .file) ∷ [])) (c .file)
 
-pub header-by : (c : Load) (σ : Store) {b : Bool} → keeps limits σ ≡ b → headerOf c σ ≡ headerBy c b
+pub header-by : (c : Load) (σ : Store) {b : Bool} → keeps limits σ ≡ b → headerOf limits c σ ≡ headerBy c b
 unfolding headerOf beforeHeader
 header-by c σ q = ap (headerBy c) q
 
@@ -73,17 +73,18 @@ pub kept : (levels slots : ℕ) → levels ≤ varLimit → 1 ≤ slots → keep
 kept levels slots h k = rules-keeps limits (empty levels slots) (empty-keeps levels slots .1 (k, h))
 
 -- without a slot a file is refused with 3
-pub bare-breaks : loadOf bareLoad (empty 0 0) ≡ refusedAt bareLoad (empty 0 0) 3 0
+pub bare-breaks : loadOf limits bareLoad (empty 0 0) ≡ refusedAt bareLoad (empty 0 0) 3 0
 unfolding loadOf head.loadHeader head.listsFault firstFault atLeast
 bare-breaks =
-    load-refused bareLoad (empty 0 0) 3 0 (ap (λ r. withHeader bareLoad (empty 0 0) (r .answer) .answer) (header-by bareLoad (empty 0 0) (breaks 0)))
+    load-refused limits bareLoad (empty 0 0) 3 0
+    (ap (λ r. withHeader limits bareLoad (empty 0 0) (r .answer) .answer) (header-by bareLoad (empty 0 0) (breaks 0)))
 
 -- with one it is accepted
 bare-header : headerBy bareLoad true .answer ≡ head.header bareHeader
 unfolding run isBlank isLineEnd isOf seek trim feedAt lineOf keyEnd fieldOf single judge u32List wordsFrom words edgeEnd edgeList isUtf8 nameList textAt alike lookup keyOf linesFrom linesOf endFrom endOf allOf lastFrom lastOf lasts ascending lastBelow idsFit allBelow distinct permidsFit rootsFault numberIn asciiIn varinfoIn ddIn u32sIn namesIn rootsIn agree firstFault numberFaults supportFaults nameCountFaults nameFaults rootFaults wholeFault tableOf readOf head.lengthFault atLeast head.listsFault head.loadHeader
 bare-header = refl
 
-bare-passes : Passes bareLoad (empty 0 1) bareHeader
+bare-passes : Passes limits bareLoad (empty 0 1) bareHeader
 unfolding isBlank isLineEnd isWhitespace alike ascending lastBelow idsFit decodeFrom buildOn build linesIn linesAnswer blankAll endsWell importOf listFits beforeNodes scratchFault listFault firstFault
 bare-passes = record {
   header-read = ap (λ r. r .answer) (header-by bareLoad (empty 0 1) (kept 0 1 (omega arith) (omega arith))) ∙ bare-header;
@@ -92,19 +93,19 @@ bare-passes = record {
   nodes-read = refl;
 }
 
-pub bare-loads : loadOf bareLoad (empty 0 1) .answer ≡ head.header bareHeader
-bare-loads = ap (λ r. r .answer) (passes-load bareLoad (empty 0 1) bareHeader bare-passes)
+pub bare-loads : loadOf limits bareLoad (empty 0 1) .answer ≡ head.header bareHeader
+bare-loads = ap (λ r. r .answer) (passes-load limits bareLoad (empty 0 1) bareHeader bare-passes)
 
 -- the header of document 01's example
 example-header : headerBy exampleLoad true ≡ exampleLoaded
 unfolding run isBlank isDigit isLineEnd isOf seek trim feedAt lineOf keyEnd valueStart valueEnd fieldOf digit number single judge u32List wordsFrom words entryStep edgeAt edgeEnd edgeList utf8Next isUtf8 nameList textAt alike lookup keyOf versionFault modeFault varinfoFault textFault singleFault u32ListFault rootListFault nameListFault faultOf linesFrom linesOf endFrom endOf allOf lastFrom lastOf lasts seatOf ascending lastBelow idsFit allBelow distinct permidsFit orderFrom supportOrder places sameBytes sameName sameNames chosenPlaces freeFrom orderedFrom orderedSeats suppFrom suppSeats variableNames rootsFault spans numberIn asciiIn varinfoIn ddIn u32sIn namesIn rootsIn upFrom agree variableNamesIn firstFault numberFaults supportFaults nameCountFaults nameFaults rootFaults wholeFault tableOf readOf head.lengthFault atLeast head.listsFault head.loadHeader
 example-header = refl
 
-example-read : (σ : Store) → keeps limits σ ≡ true → headerOf exampleLoad σ ≡ exampleLoaded
+example-read : (σ : Store) → keeps limits σ ≡ true → headerOf limits exampleLoad σ ≡ exampleLoaded
 example-read σ q = header-by exampleLoad σ q ∙ example-header
 
 -- it is accepted where there is a slot for each of its nodes
-example-passes : Passes exampleLoad (empty 2 3) exampleHeader
+example-passes : Passes limits exampleLoad (empty 2 3) exampleHeader
 unfolding run isBlank isDigit isLineEnd isWhitespace isOf seek trim feedAt lineOf digit number single first wordsFrom words entryStep edgeAt edgeEnd edgeList children alike ascending lastBelow idsFit deeper childFault decodeFrom wordFrom numbered afterExtra variableWord textLine textLineAt minus eqZ empty findUpTo find added insert make edgeFor addLine buildOn build lineBy linesIn linesAnswer blankAll endsWell importOf listFits beforeNodes scratchFault listFault firstFault
 example-passes = record {
   header-read = ap (λ r. r .answer) (example-read (empty 2 3) (kept 2 3 (omega arith) (omega arith)));
@@ -113,15 +114,16 @@ example-passes = record {
   nodes-read = refl;
 }
 
-pub example-loads : loadOf exampleLoad (empty 2 3) .answer ≡ head.header exampleHeader
-example-loads = ap (λ r. r .answer) (passes-load exampleLoad (empty 2 3) exampleHeader example-passes)
+pub example-loads : loadOf limits exampleLoad (empty 2 3) .answer ≡ head.header exampleHeader
+example-loads = ap (λ r. r .answer) (passes-load limits exampleLoad (empty 2 3) exampleHeader example-passes)
 
 -- its roots, in an empty store, are 3 and -3
-pub example-roots : loadOf exampleLoad (empty 2 3) .roots ≡ pos 3 ∷ negsuc 2 ∷ replicate 1022 (pos 0)
+pub example-roots : loadOf limits exampleLoad (empty 2 3) .roots ≡ pos 3 ∷ negsuc 2 ∷ replicate 1022 (pos 0)
 unfolding run isBlank isDigit isLineEnd isWhitespace isOf seek trim feedAt lineOf digit number single first wordsFrom words entryStep edgeAt edgeEnd edgeList children alike ascending lastBelow idsFit deeper childFault decodeFrom wordFrom numbered afterExtra variableWord textLine textLineAt minus eqZ empty findUpTo find added insert make edgeFor addLine buildOn build lineBy linesIn linesAnswer blankAll endsWell importOf listFits beforeNodes scratchFault listFault firstFault laid
 example-roots =
-    ap (λ r. r .roots) (passes-load exampleLoad (empty 2 3) exampleHeader example-passes)
-    ∙ ap (λ r. importOf (setupOf exampleLoad 2 exampleHeader) (empty 2 3) (exampleLoad .file) 192 (laid (r .roots) (replicate 1024 (pos 0))) .roots)
+    ap (λ r. r .roots) (passes-load limits exampleLoad (empty 2 3) exampleHeader example-passes)
+    ∙ ap
+    (λ r. importOf limits (setupOf exampleLoad 2 exampleHeader) (empty 2 3) (exampleLoad .file) 192 (laid (r .roots) (replicate 1024 (pos 0))) .roots)
     (example-read (empty 2 3) (kept 2 3 (omega arith) (omega arith)))
 
 -- its lines, and the numbers of its roots
@@ -132,14 +134,16 @@ example-lines = refl
 
 pub example-ids : rootsOf (exampleLoad .file) ≡ pos 3 ∷ negsuc 2 ∷ []
 example-ids =
-    sym (answer-roots _ (exampleLoad .file) exampleHeader (ap (λ r. r .answer) example-header)) ∙ ap (λ r. r .roots) example-header
+    sym (answer-roots limits _ (exampleLoad .file) exampleHeader (ap (λ r. r .answer) example-header)) ∙ ap (λ r. r .roots) example-header
 
 -- its header by itself
-example-head : readOf (exampleLoad .file) ≡ head.header exampleHeader
-example-head = sound-read (exampleLoad .file) exampleHeader (answer-sound _ (exampleLoad .file) exampleHeader (ap (λ r. r .answer) example-header) .1)
+example-head : readOf limits (exampleLoad .file) ≡ head.header exampleHeader
+example-head =
+    sound-read limits (exampleLoad .file) exampleHeader
+    (answer-sound limits _ (exampleLoad .file) exampleHeader (ap (λ r. r .answer) example-header) .1)
 
 -- its first root says yes just where both levels are yes, and no elsewhere
-pub example-says : (a b : Bool) → fileSays (exampleLoad .file) (exampleLoad .list) 2 0 (settings.chosen (a ∷ b ∷ [])) ≡ some (a && b)
+pub example-says : (a b : Bool) → fileSays limits (exampleLoad .file) (exampleLoad .list) 2 0 (settings.chosen (a ∷ b ∷ [])) ≡ some (a && b)
 unfolding says saysBy turn
 example-says a b = rw (example-head, example-lines, example-ids) (go a b)
   where
@@ -152,7 +156,7 @@ example-says a b = rw (example-head, example-lines, example-ids) (go a b)
     go false false = refl
 
 -- it has no third root: of that nothing is said
-pub example-silent : (s : Setting) → fileSays (exampleLoad .file) (exampleLoad .list) 2 2 s ≡ none
+pub example-silent : (s : Setting) → fileSays limits (exampleLoad .file) (exampleLoad .list) 2 2 s ≡ none
 example-silent s = rw example-ids
 
 -- nor do lines that are not there, or a level that is not on the list, say anything
@@ -165,24 +169,25 @@ unfolding says saysBy
 level-missing s = refl
 
 -- with a slot less it is refused with 40
-pub example-crowded : loadOf exampleLoad (empty 2 2) ≡ refusedAt exampleLoad (empty 2 2) 40 0
+pub example-crowded : loadOf limits exampleLoad (empty 2 2) ≡ refusedAt exampleLoad (empty 2 2) 40 0
 unfolding run isBlank isDigit isLineEnd isWhitespace isOf seek trim feedAt lineOf digit number single first wordsFrom words entryStep edgeAt edgeEnd edgeList children alike ascending lastBelow idsFit deeper childFault decodeFrom wordFrom numbered afterExtra variableWord textLine textLineAt minus eqZ empty findUpTo find added insert make edgeFor addLine buildOn build lineBy linesIn linesAnswer blankAll endsWell importOf listFits beforeNodes scratchFault listFault firstFault loadOf
 example-crowded =
-    load-refused exampleLoad (empty 2 2) 40 0
-    (ap (λ a. withHeader exampleLoad (empty 2 2) a .answer)
+    load-refused limits exampleLoad (empty 2 2) 40 0
+    (ap (λ a. withHeader limits exampleLoad (empty 2 2) a .answer)
     (ap (λ r. r .answer) (example-read (empty 2 2) (kept 2 2 (omega arith) (omega arith)))))
 
 -- the store that the example leaves
 abbrev filled : Store
-filled = nodesOf exampleLoad (empty 2 3) exampleHeader .after
+filled = nodesOf limits exampleLoad (empty 2 3) exampleHeader .after
 
-after-filled : loadOf exampleLoad (empty 2 3) .after ≡ filled
-after-filled = ap (λ r. r .after) (passes-load exampleLoad (empty 2 3) exampleHeader example-passes)
+after-filled : loadOf limits exampleLoad (empty 2 3) .after ≡ filled
+after-filled = ap (λ r. r .after) (passes-load limits exampleLoad (empty 2 3) exampleHeader example-passes)
 
 filled-kept : keeps limits filled ≡ true
-filled-kept = rules-keeps limits filled (subst (Rules limits) after-filled (roots-answer exampleLoad (empty 2 3) exampleHeader example-loads .rules))
+filled-kept =
+    rules-keeps limits filled (subst (Rules limits) after-filled (roots-answer limits exampleLoad (empty 2 3) exampleHeader example-loads .rules))
 
-again-passes : Passes exampleLoad filled exampleHeader
+again-passes : Passes limits exampleLoad filled exampleHeader
 unfolding run isBlank isDigit isLineEnd isWhitespace isOf seek trim feedAt lineOf digit number single first wordsFrom words entryStep edgeAt edgeEnd edgeList children alike ascending lastBelow idsFit deeper childFault decodeFrom wordFrom numbered afterExtra variableWord textLine textLineAt minus eqZ empty findUpTo find added insert make edgeFor addLine buildOn build lineBy linesIn linesAnswer blankAll endsWell importOf listFits beforeNodes scratchFault listFault firstFault
 again-passes = record {
   header-read = ap (λ r. r .answer) (example-read filled filled-kept);
@@ -192,6 +197,7 @@ again-passes = record {
 }
 
 -- full as it is, it takes the example again
-pub again-loads : loadOf exampleLoad (loadOf exampleLoad (empty 2 3) .after) .answer ≡ head.header exampleHeader
+pub again-loads : loadOf limits exampleLoad (loadOf limits exampleLoad (empty 2 3) .after) .answer ≡ head.header exampleHeader
 again-loads =
-    ap (λ τ. loadOf exampleLoad τ .answer) after-filled ∙ ap (λ r. r .answer) (passes-load exampleLoad filled exampleHeader again-passes)
+    ap (λ τ. loadOf limits exampleLoad τ .answer) after-filled
+    ∙ ap (λ r. r .answer) (passes-load limits exampleLoad filled exampleHeader again-passes)

@@ -8,6 +8,7 @@ use Prim.Native.Nat.{_<_}
 use native.Mathlib.Omega.{arith}
 use lib.ListN.{length, getElem?}
 use lib.IntN.{ℤ, pos}
+use Rattle.codes.specs.Limits.{limits}
 use Rattle.codes.specs.Answer.{value}
 use Rattle.store.specs.Store.{Store}
 use Rattle.store.specs.Settings.{chosen}
@@ -31,61 +32,63 @@ pub first-entry : 0 < length (rootsOf (exampleLoad .file))
 first-entry = rw example-ids (omega arith)
 
 -- what a load of the example gives for it, in a store where it is accepted
-module _ (σ : Store) (q : loadOf exampleLoad σ .answer ≡ header exampleHeader) where
+module _ (σ : Store) (q : loadOf limits exampleLoad σ .answer ≡ header exampleHeader) where
   abbrev given-root : ℤ
-  given-root = roots-answer exampleLoad σ exampleHeader q .root 0 first-entry .root
+  given-root = roots-answer limits exampleLoad σ exampleHeader q .root 0 first-entry .root
 
-  gives-root : Gives (load exampleLoad) σ given-root (loadSays exampleLoad σ 0)
-  gives-root = loaded exampleLoad σ exampleHeader 0 given-root q first-entry (roots-answer exampleLoad σ exampleHeader q .root 0 first-entry .there)
+  gives-root : Gives limits (load exampleLoad) σ given-root (loadSays limits exampleLoad σ 0)
+  gives-root =
+      loaded exampleLoad σ exampleHeader 0 given-root q first-entry (roots-answer limits exampleLoad σ exampleHeader q .root 0 first-entry .there)
 
 -- the first root of the first load
-first-root : Root 2 3 twice
+first-root : Root limits 2 3 twice
 unfolding runCalls
 first-root = record {
   place = 0;
   call = load exampleLoad;
   at = here;
   edge = given-root (empty 2 3) example-loads;
-  meaning = loadSays exampleLoad (empty 2 3) 0;
+  meaning = loadSays limits exampleLoad (empty 2 3) 0;
   given = gives-root (empty 2 3) example-loads;
 }
 
 -- and of the second
-again-root : Root 2 3 twice
+again-root : Root limits 2 3 twice
 unfolding runCalls
 again-root = record {
   place = 2;
   call = load exampleLoad;
   at = later (later here);
-  edge = given-root (loadOf exampleLoad (empty 2 3) .after) again-loads;
-  meaning = loadSays exampleLoad (loadOf exampleLoad (empty 2 3) .after) 0;
-  given = gives-root (loadOf exampleLoad (empty 2 3) .after) again-loads;
+  edge = given-root (loadOf limits exampleLoad (empty 2 3) .after) again-loads;
+  meaning = loadSays limits exampleLoad (loadOf limits exampleLoad (empty 2 3) .after) 0;
+  given = gives-root (loadOf limits exampleLoad (empty 2 3) .after) again-loads;
 }
 
 -- the first is 3
 root-three : given-root (empty 2 3) example-loads ≡ pos 3
 root-three =
     Option·some-injective _ (pos 3)
-    (sym (roots-answer exampleLoad (empty 2 3) exampleHeader example-loads .root 0 first-entry .there) ∙ ap (λ r. getElem? r 0) example-roots)
+    (sym (roots-answer limits exampleLoad (empty 2 3) exampleHeader example-loads .root 0 first-entry .there) ∙ ap (λ r. getElem? r 0) example-roots)
 
 -- they are one number, since the two readings have as many levels
-pub same-root : given-root (loadOf exampleLoad (empty 2 3) .after) again-loads ≡ pos 3
+pub same-root : given-root (loadOf limits exampleLoad (empty 2 3) .after) again-loads ≡ pos 3
 unfolding empty first-root again-root
 same-root =
-    let v : loadOf exampleLoad (empty 2 3) .after .levels ≡ 2 = roots-answer exampleLoad (empty 2 3) exampleHeader example-loads .grows .levels in
-    demand-3 2 3 twice again-root first-root .1 (λ s l.
-    let w = evaluates-as-given 2 3 twice first-root s l in
-    (w .0, (ap (λ n. fileSays (exampleLoad .file) (exampleLoad .list) n 0 (chosen s)) v ∙ w .1 .0, w .1 .0)))
+    let v : loadOf limits exampleLoad (empty 2 3) .after .levels ≡ 2 =
+    roots-answer limits exampleLoad (empty 2 3) exampleHeader example-loads .grows .levels in
+    demand-3 limits 2 3 twice again-root first-root .1 (λ s l.
+    let w = evaluates-as-given limits 2 3 twice first-root s l in
+    (w .0, (ap (λ n. fileSays limits (exampleLoad .file) (exampleLoad .list) n 0 (chosen s)) v ∙ w .1 .0, w .1 .0)))
     ∙ root-three
 
 -- after all three calls evaluation still answers by the lines of the example: yes just where both levels are yes
-pub evaluates-both : (a b : Bool) → evaluateOf (pos 3) (byteOf a ∷ byteOf b ∷ []) (runCalls (empty 2 3) twice) ≡ value (a && b)
+pub evaluates-both : (a b : Bool) → evaluateOf limits (pos 3) (byteOf a ∷ byteOf b ∷ []) (runCalls limits (empty 2 3) twice) ≡ value (a && b)
 unfolding empty first-root
 evaluates-both a b =
-    let w = evaluates-as-given 2 3 twice first-root (a ∷ b ∷ []) refl in
+    let w = evaluates-as-given limits 2 3 twice first-root (a ∷ b ∷ []) refl in
     let same : w .0 ≡ (a && b) = Option·some-injective _ _ (sym (w .1 .0) ∙ example-says a b) in
-    ap (λ r. evaluateOf r (byteOf a ∷ byteOf b ∷ []) (runCalls (empty 2 3) twice)) (sym root-three) ∙ w .1 .1 ∙ ap value same
+    ap (λ r. evaluateOf limits r (byteOf a ∷ byteOf b ∷ []) (runCalls limits (empty 2 3) twice)) (sym root-three) ∙ w .1 .1 ∙ ap value same
 
 -- with a slot less than it needs the example leaves the store as it was, though its second line was made before its third found no room
-pub crowded-unchanged : loadOf exampleLoad (empty 2 2) .after ≡ empty 2 2
+pub crowded-unchanged : loadOf limits exampleLoad (empty 2 2) .after ≡ empty 2 2
 crowded-unchanged = demand-1 (loads exampleLoad (empty 2 2)) 40 0 (ap (λ r. verdictOf (r .answer)) example-crowded) .0

@@ -10,10 +10,10 @@ use lib.ListN.{length}
 use lib.IntN.{ℤ}
 use borrow.Author.Tests.{leb-true}
 use Rattle.codes.specs.Answer.{value}
-use Rattle.codes.specs.Limits.{rootLimit}
+use Rattle.codes.specs.Limits.{Limits, RoomForExports, rootLimit}
 use Rattle.codes.proofs.Bytes.{both}
 use Rattle.store.specs.Store.{Store}
-use Rattle.store.specs.Rules.{limits, Rules}
+use Rattle.store.specs.Rules.{Rules}
 use Rattle.store.specs.Keeps.{rules-keeps}
 use Rattle.header.specs.Header as head
 use Rattle.header.specs.Header.{Header, header, answerOf, atLeast}
@@ -45,8 +45,8 @@ roots-room : (l : Lengths) → atLeast rootLimit (rootLists l) ≡ true → root
 unfolding atLeast
 roots-room l q = leb-true rootLimit (l .roots) (both (leb rootLimit (l .roots)) _ q .0)
 
-module _ {s : Settings} {τ : Store} {roots : List ℤ} {order : List ℕ} {p : Lent} {ns f : List ℕ} {l : Lengths} (R : Rules limits τ)
-    (few : length roots ≤ rootLimit) (long : LongEnough (length ns) l) (b : ReadsBack s τ roots order p ns f (l .roots)) where
+module _ {m : Limits} {s : Settings} {τ : Store} {roots : List ℤ} {order : List ℕ} {p : Lent} {ns f : List ℕ} {l : Lengths} (R : Rules m τ)
+    (few : length roots ≤ rootLimit) (long : LongEnough (length ns) l) (b : ReadsBack m s τ roots order p ns f (l .roots)) where
   abbrev c : Load
   c = ownLoad τ ns f l
 
@@ -54,22 +54,22 @@ module _ {s : Settings} {τ : Store} {roots : List ℤ} {order : List ℕ} {p : 
   h = headerFor (headingOf s τ roots order p ns) (b .header-back .dd)
 
   -- neither lists nor store are refused: what is read is the file's header by itself
-  header-lists : headerOf c τ ≡ loadedFrom f
+  header-lists : headerOf m c τ ≡ loadedFrom m f
   unfolding headerOf head.loadHeader answerOf
-  header-lists = ap (λ n. head.loadHeader n f) (length-left c τ (long .variables) (long .roots) (rules-keeps limits τ R))
+  header-lists = ap (λ n. head.loadHeader m n f) (length-left m c τ (long .variables) (long .roots) (rules-keeps m τ R))
 
-  header-read : headerOf c τ .answer ≡ header h
-  header-read = ap (λ r. r .answer) header-lists ∙ lists-answer f (answerOf f) ∙ b .header-back .answer
+  header-read : headerOf m c τ .answer ≡ header h
+  header-read = ap (λ r. r .answer) header-lists ∙ lists-answer f (answerOf m f) ∙ b .header-back .answer
 
   -- the import of its nodes, as the header leads to it
-  import-given : GivesBack τ roots (l .roots) (importBy f h τ (supportOf τ ns) (l .roots))
+  import-given : GivesBack τ roots (l .roots) (importBy m f h τ (supportOf τ ns) (l .roots))
   import-given = led-back b (b .header-back .answer)
 
   -- and that is the import of the load
-  nodes-read : nodesOf c τ h .answer ≡ nodes (import-given .end)
+  nodes-read : nodesOf m c τ h .answer ≡ nodes (import-given .end)
   nodes-read = rw header-lists (import-given .accepted)
 
-  passes : Passes c τ h
+  passes : Passes m c τ h
   unfolding headingOf
   passes = record {
     header-read = header-read;
@@ -79,9 +79,9 @@ module _ {s : Settings} {τ : Store} {roots : List ℤ} {order : List ℕ} {p : 
   }
 
   -- A file that reads back loads back.
-  pub loads-back : LoadsBack (headingOf s τ roots order p ns) roots τ f l (loadOf c τ)
+  pub loads-back : LoadsBack m (headingOf s τ roots order p ns) roots τ f l (loadOf m c τ)
   loads-back =
-      rw (passes-load c τ h passes, header-lists) (record {
+      rw (passes-load m c τ h passes, header-lists) (record {
         header-back = b .header-back;
         accepted = refl;
         unchanged = import-given .unchanged;
@@ -95,14 +95,14 @@ module _ {s : Settings} {τ : Store} {roots : List ℤ} {order : List ℕ} {p : 
         rootnames = refl;
       })
 
-module _ {s : Settings} {σ : Store} {roots : List ℤ} {order : List ℕ} {p : Lent} (slots numbers lent : ℕ) (r : Exported) {out : List ℕ} {n : ℕ}
-    (is : ofExported r ≡ value n) where
+module _ {m : Limits} (W : RoomForExports m) {s : Settings} {σ : Store} {roots : List ℤ} {order : List ℕ} {p : Lent}
+    (slots numbers lent : ℕ) (r : Exported) {out : List ℕ} {n : ℕ} (is : ofExported r ≡ value n) where
   -- a file that is written is the front of the output, and loads back
-  pub writes-loads : exportFault σ roots order p slots numbers lent ≡ 0 → Writes s σ roots order p lent r out
-      → OutputLoads s σ roots order p n out
+  pub writes-loads : exportFault m σ roots order p slots numbers lent ≡ 0 → Writes s σ roots order p lent r out
+      → OutputLoads m s σ roots order p n out
   writes-loads e w =
       let A = accepted σ roots order p slots numbers lent e in
-      let file = written-file slots numbers lent r is A w in
+      let file = written-file W slots numbers lent r is A w in
       let E = exported A (w .allowed) in
       record {
         nodes = w .nodes;
@@ -110,26 +110,27 @@ module _ {s : Settings} {σ : Store} {roots : List ℤ} {order : List ℕ} {p : 
         file = file;
         loads = λ τ G R l long.
             rw (← heading-grown G s order p E, ← levels-grown G E)
-            (loads-back R (A .roots-few) long (rw file (later-back A (w .allowed) G R s (l .roots))));
+            (loads-back R (A .roots-few) long (rw file (later-back W A (w .allowed) G R s (l .roots))));
       }
 
   -- an export that answers a length isn't refused
-  unrefused : ExportsBy (exportFault σ roots order p slots numbers lent) s σ roots order p lent r out
-      → (exportFault σ roots order p slots numbers lent ≡ 0) × Writes s σ roots order p lent r out
-  unrefused w = go (exportFault σ roots order p slots numbers lent) refl w
+  unrefused : ExportsBy (exportFault m σ roots order p slots numbers lent) s σ roots order p lent r out
+      → (exportFault m σ roots order p slots numbers lent ≡ 0) × Writes s σ roots order p lent r out
+  unrefused w = go (exportFault m σ roots order p slots numbers lent) refl w
     where
-      go : (k : ℕ) → exportFault σ roots order p slots numbers lent ≡ k → ExportsBy k s σ roots order p lent r out
-          → (exportFault σ roots order p slots numbers lent ≡ 0) × Writes s σ roots order p lent r out
+      go : (k : ℕ) → exportFault m σ roots order p slots numbers lent ≡ k → ExportsBy k s σ roots order p lent r out
+          → (exportFault m σ roots order p slots numbers lent ≡ 0) × Writes s σ roots order p lent r out
       go zero e w = (e, w)
       go (suc k) e w = let a = w .answer in absurd (let z : _≡_ {A = ℕ} 0 1 = cc in omega arith)
 
   -- Demand 2, for the call load: where the answer of an export is a length, so many bytes of its output load back,
-  pub exports-loads : ExportsBy (exportFault σ roots order p slots numbers lent) s σ roots order p lent r out → OutputLoads s σ roots order p n out
+  pub exports-loads : ExportsBy (exportFault m σ roots order p slots numbers lent) s σ roots order p lent r out
+      → OutputLoads m s σ roots order p n out
   exports-loads w = let u = unrefused w in writes-loads (u .0) (u .1)
 
   -- after any calls too: the store has only grown, and keeps the rules that the export has shown.
-  pub exports-loads-later : ExportsBy (exportFault σ roots order p slots numbers lent) s σ roots order p lent r out
-      → OutputLoadsLater s σ roots order p n out
+  pub exports-loads-later : ExportsBy (exportFault m σ roots order p slots numbers lent) s σ roots order p lent r out
+      → OutputLoadsLater m s σ roots order p n out
   exports-loads-later w =
       let u = unrefused w in
       let b = writes-loads (u .0) (u .1) in
@@ -138,5 +139,5 @@ module _ {s : Settings} {σ : Store} {roots : List ℤ} {order : List ℕ} {p : 
         nodes = b .nodes;
         allowed = b .allowed;
         file = b .file;
-        loads = λ cs. b .loads (runCalls σ cs) (run-grows σ cs) (run-rules σ cs R);
+        loads = λ cs. b .loads (runCalls m σ cs) (run-grows m σ cs) (run-rules m σ cs R);
       }

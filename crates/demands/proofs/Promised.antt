@@ -5,6 +5,7 @@ use mathlib.Core.Path.{refl, sym, subst}
 use mathlib.Core.Bool.{Bool}
 use mathlib.Core.List.{List, [], _∷_}
 use lib.IntN.{ℤ}
+use Rattle.codes.specs.Limits.{limits}
 use Rattle.codes.specs.Answer.{Read, value, refused}
 use Rattle.store.specs.Store.{Store}
 use Rattle.codes.specs.Lent.{Part, old, new}
@@ -57,9 +58,9 @@ module _ (f list : Part (List ℕ)) (levels : ℕ) (count : Part ℕ) (level : P
 
   pub load-leaves : {r : Loaded}
       → LoadPromise f list levels count level then els next heads ids order permids auxids names lens roots rootnames rootlens edges seats r
-      → Leaves this before (left (verdictOf (ofLoaded r)) lists)
+      → Leaves limits this before (left (verdictOf (ofLoaded r)) lists)
   load-leaves {r} p =
-      subst (λ q. Leaves this before (left (verdictOf (ofLoaded r)) q)) (sym (p .lists)) (rw (p .answer, p .store) (loads _ _))
+      subst (λ q. Leaves limits this before (left (verdictOf (ofLoaded r)) q)) (sym (p .lists)) (rw (p .answer, p .store) (loads _ _))
 
   -- `zt_load`: number and line are those of the verdict
   zt-tells : (a : head.HeaderAnswer) → Tells (C.ofLoadAnswer a .refusal) (C.ofLoadAnswer a .line) (verdictOf a)
@@ -72,9 +73,9 @@ module _ (f list : Part (List ℕ)) (levels : ℕ) (count : Part ℕ) (level : P
 
   pub zt-load-leaves : {r : LoadAnswer}
       → ZtLoadPromise f list levels count level then els next heads ids order permids auxids names lens roots rootnames rootlens edges seats r
-      → Leaves this before (left (verdictOf answered) lists) × Tells (r .refusal) (r .line) (verdictOf answered)
+      → Leaves limits this before (left (verdictOf answered) lists) × Tells (r .refusal) (r .line) (verdictOf answered)
   zt-load-leaves p = (
-    subst (λ q. Leaves this before (left (verdictOf answered) q)) (sym (p .lists)) (rw (p .store) (loads _ _)),
+    subst (λ q. Leaves limits this before (left (verdictOf answered) q)) (sym (p .lists)) (rw (p .store) (loads _ _)),
     rw (p .answer) (zt-tells answered),
   )
 
@@ -82,7 +83,7 @@ module _ (f list : Part (List ℕ)) (levels : ℕ) (count : Part ℕ) (level : P
 module _ (levels count : ℕ) (level : Part (List ℕ)) (then els : Part (List ℤ)) (next heads : Part (List ℕ)) (root : ℤ)
     (setting : Part (List ℕ)) where
   pub evaluate-leaves : {r : Evaluation} → EvaluatePromise levels count level then els next heads root setting r
-      → Leaves
+      → Leaves limits
       (evaluate root (old setting))
       (oldStore levels count level then els next heads)
       (outcome (verdictRead (ofEvaluation r)) (oldStore levels count level then els next heads) [] [])
@@ -94,20 +95,20 @@ module _ (levels count : ℕ) (level : Part (List ℕ)) (then els : Part (List �
   zt-evaluated (refused n) = (refl, refl)
 
   pub zt-evaluate-leaves : {r : EvaluateAnswer} → ZtEvaluatePromise levels count level then els next heads root setting r
-      → Leaves
+      → Leaves limits
       (evaluate root (old setting))
       (oldStore levels count level then els next heads)
       (outcome
-      (verdictRead (evaluateOf root (old setting) (oldStore levels count level then els next heads)))
+      (verdictRead (evaluateOf limits root (old setting) (oldStore levels count level then els next heads)))
       (oldStore levels count level then els next heads) [] [])
-      × Tells (r .refusal) (r .line) (verdictRead (evaluateOf root (old setting) (oldStore levels count level then els next heads)))
-  zt-evaluate-leaves p = (evaluates _ _ _, rw (p .answer) (zt-evaluated (evaluateOf root (old setting) (oldStore levels count level then els next heads))))
+      × Tells (r .refusal) (r .line) (verdictRead (evaluateOf limits root (old setting) (oldStore levels count level then els next heads)))
+  zt-evaluate-leaves p = (evaluates _ _ _, rw (p .answer) (zt-evaluated (evaluateOf limits root (old setting) (oldStore levels count level then els next heads))))
 
 -- `dddmp::export`
 module _ (settings : ExportSettings) (levels count : ℕ) (level : Part (List ℕ)) (then els : Part (List ℤ)) (next heads : Part (List ℕ)) (roots : Part (List ℤ))
     (order bytes starts lens rootstarts rootlens slots numbers out : Part (List ℕ)) where
   pub export-leaves : {r : Exported} → ExportPromise settings levels count level then els next heads roots order bytes starts lens rootstarts rootlens slots numbers out r
-      → Leaves
+      → Leaves limits
       (export (exporting (ofSettings settings) levels count level then els next heads roots order bytes starts lens rootstarts rootlens slots numbers out))
       (oldStore levels count level then els next heads)
       (outcome
@@ -125,7 +126,7 @@ module _ (version text ddstart ddlen : ℕ) (levels count : ℕ) (level : Part (
   zt-exported (refused k) = (refl, refl)
 
   pub zt-export-leaves : {r : ExportAnswer} → (p : ZtExportPromise version text ddstart ddlen levels count level then els next heads roots order bytes starts lens rootstarts rootlens slots numbers out r)
-      → Leaves
+      → Leaves limits
       (export (exporting (settingsOf version text ddstart ddlen) levels count level then els next heads roots order bytes starts lens rootstarts rootlens slots numbers out))
       (oldStore levels count level then els next heads)
       (outcome

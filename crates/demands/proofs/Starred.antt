@@ -5,6 +5,7 @@ use mathlib.Core.List.{List, [], _∷_}
 use native.Mathlib.Omega.{arith}
 use lib.ListN.{take}
 use lib.IntN.{pos, negsuc}
+use Rattle.codes.specs.Limits.{limits}
 use Rattle.codes.specs.Codes.{codeOf}
 use Rattle.codes.specs.Machine.{run}
 use Rattle.codes.specs.Bytes.{isBlank, isDigit, isLineEnd, isWhitespace}
@@ -55,10 +56,10 @@ use Rattle.calls.proofs.Accepted.{answered-passes}
 use Rattle.demands.proofs.Examples.{headerBy, header-by, kept, example-loads, example-roots}
 
 -- the store that the example's load leaves is that of its nodes
-left-by-nodes : exampleLeft .after ≡ nodesOf exampleLoad (empty 2 3) exampleHeader .after
+left-by-nodes : exampleLeft .after ≡ nodesOf limits exampleLoad (empty 2 3) exampleHeader .after
 left-by-nodes =
-    let p = answered-passes exampleLoad (empty 2 3) exampleHeader example-loads in
-    ap (λ r. r .after) (passes-load exampleLoad (empty 2 3) exampleHeader p)
+    let p = answered-passes limits exampleLoad (empty 2 3) exampleHeader example-loads in
+    ap (λ r. r .after) (passes-load limits exampleLoad (empty 2 3) exampleHeader p)
 
 -- and its first two entries of the lent list are the roots 3 and -3
 two-roots : exampleRoots ≡ pos 3 ∷ negsuc 2 ∷ []
@@ -87,14 +88,14 @@ unfolding run isBlank isDigit isLineEnd isOf seek trim feedAt lineOf keyEnd valu
 headers = (refl, (refl, refl))
 
 -- each in an empty store with one slot, which keeps the rules
-three-kept : headerOf threeVariables (empty 3 1) ≡ headerBy threeVariables true
+three-kept : headerOf limits threeVariables (empty 3 1) ≡ headerBy threeVariables true
 three-kept = header-by threeVariables (empty 3 1) (kept 3 1 (omega arith) (omega arith))
 
-two-kept : headerOf twoVariables (empty 2 1) ≡ headerBy twoVariables true
+two-kept : headerOf limits twoVariables (empty 2 1) ≡ headerBy twoVariables true
 two-kept = header-by twoVariables (empty 2 1) (kept 2 1 (omega arith) (omega arith))
 
 -- three variables: the load passes all stages
-three-passes : Passes threeVariables (empty 3 1) threeHeader
+three-passes : Passes limits threeVariables (empty 3 1) threeHeader
 unfolding isBlank isLineEnd isWhitespace alike ascending lastBelow idsFit decodeFrom buildOn build linesIn linesAnswer blankAll endsWell importOf listFits beforeNodes scratchFault listFault firstFault empty
 three-passes = record {
   header-read = ap (λ r. r .answer) three-kept ∙ headers .0;
@@ -103,18 +104,19 @@ three-passes = record {
   nodes-read = refl;
 }
 
-three-loads : (loadOf threeVariables (empty 3 1) .answer ≡ head.header threeHeader) × (loadOf threeVariables (empty 3 1) .ids ≡ 0 ∷ 2 ∷ [])
+three-loads : (loadOf limits threeVariables (empty 3 1) .answer ≡ head.header threeHeader)
+    × (loadOf limits threeVariables (empty 3 1) .ids ≡ 0 ∷ 2 ∷ [])
 three-loads =
-    let q = passes-load threeVariables (empty 3 1) threeHeader three-passes in
+    let q = passes-load limits threeVariables (empty 3 1) threeHeader three-passes in
     (ap (λ r. r .answer) q, ap (λ r. r .ids) q ∙ ap (λ r. r .ids) three-kept ∙ headers .1 .0)
 
 -- two variables: it is refused, and gives no ids
-two-refused : loadOf twoVariables (empty 2 1) .answer ≡ head.refusal 22 0
+two-refused : loadOf limits twoVariables (empty 2 1) .answer ≡ head.refusal 22 0
 unfolding loadOf
-two-refused = ap (λ a. withHeader twoVariables (empty 2 1) a .answer) (ap (λ r. r .answer) two-kept ∙ headers .1 .1)
+two-refused = ap (λ a. withHeader limits twoVariables (empty 2 1) a .answer) (ap (λ r. r .answer) two-kept ∙ headers .1 .1)
 
-two-loads : (loadOf twoVariables (empty 2 1) .answer ≡ head.refusal 22 0) × (loadOf twoVariables (empty 2 1) .ids ≡ [])
-two-loads = (two-refused, ap (λ r. r .ids) (load-refused twoVariables (empty 2 1) 22 0 two-refused))
+two-loads : (loadOf limits twoVariables (empty 2 1) .answer ≡ head.refusal 22 0) × (loadOf limits twoVariables (empty 2 1) .ids ≡ [])
+two-loads = (two-refused, ap (λ r. r .ids) (load-refused limits twoVariables (empty 2 1) 22 0 two-refused))
 
 -- All starred cases of document 01.
 pub starred-holds : AllRows starred

@@ -6,10 +6,10 @@ use mathlib.Core.Bool.{true}
 use mathlib.Core.List.{List}
 use lib.ListN.{length, take, replicate}
 use lib.IntN.{ℤ, pos}
-use Rattle.codes.specs.Limits.{varLimit, rootLimit}
+use Rattle.codes.specs.Limits.{Limits, varLimit, rootLimit}
 use Rattle.codes.specs.Lent.{laid}
 use Rattle.store.specs.Store.{Store}
-use Rattle.store.specs.Rules.{limits, Rules}
+use Rattle.store.specs.Rules.{Rules}
 use Rattle.store.specs.Growth.{Grows}
 use Rattle.header.specs.Header.{header, atLeast}
 use Rattle.numbering.specs.Allowed.{Allowed}
@@ -35,9 +35,9 @@ pub record LongEnough (n : ℕ) (l : Lengths) : Type 0 where
   pub seats : n ≤ l .seats
 
 -- What a load into the store τ leaves, where its file f is an export of the roots with the header h.
-pub record LoadsBack (h : Heading) (roots : List ℤ) (τ : Store) (f : List ℕ) (l : Lengths) (r : Loaded) : Type 0 where
+pub record LoadsBack (m : Limits) (h : Heading) (roots : List ℤ) (τ : Store) (f : List ℕ) (l : Lengths) (r : Loaded) : Type 0 where
   -- what the header of the file says is what was exported
-  pub header-back : HeaderBack h f
+  pub header-back : HeaderBack m h f
   -- the load is accepted, and its answer is that header
   pub accepted : r .answer ≡ header (headerFor h (header-back .dd))
   -- no new node
@@ -46,30 +46,30 @@ pub record LoadsBack (h : Heading) (roots : List ℤ) (τ : Store) (f : List ℕ
   pub roots-fit : length roots ≤ l .roots
   pub same : r .roots ≡ laid roots (replicate (l .roots) (pos 0))
   -- the lists are those that `HeaderBack` speaks of
-  pub ids : r .ids ≡ loadedFrom f .ids
-  pub order-read : r .order ≡ loadedFrom f .order
-  pub permids : r .permids ≡ loadedFrom f .permids
-  pub auxids : r .auxids ≡ loadedFrom f .auxids
-  pub names : r .names ≡ loadedFrom f .names
-  pub rootnames : r .rootnames ≡ loadedFrom f .rootnames
+  pub ids : r .ids ≡ loadedFrom m f .ids
+  pub order-read : r .order ≡ loadedFrom m f .order
+  pub permids : r .permids ≡ loadedFrom m f .permids
+  pub auxids : r .auxids ≡ loadedFrom m f .auxids
+  pub names : r .names ≡ loadedFrom m f .names
+  pub rootnames : r .rootnames ≡ loadedFrom m f .rootnames
 
 -- Every load into the store τ, lent long enough parts, of a file f of the nodes ns that was exported from the store σ, gives back what was
 -- exported. The file's `.nnodes` is the number of its nodes.
-abbrev pub LoadsInto : Settings → Store → List ℤ → List ℕ → Lent → List ℕ → List ℕ → Store → Type 0
-LoadsInto s σ roots order p ns f τ =
-    (l : Lengths) → LongEnough (length ns) l → LoadsBack (headingOf s σ roots order p ns) roots τ f l (loadOf (ownLoad σ ns f l) τ)
+abbrev pub LoadsInto : Limits → Settings → Store → List ℤ → List ℕ → Lent → List ℕ → List ℕ → Store → Type 0
+LoadsInto m s σ roots order p ns f τ =
+    (l : Lengths) → LongEnough (length ns) l → LoadsBack m (headingOf s σ roots order p ns) roots τ f l (loadOf m (ownLoad σ ns f l) τ)
 
 -- The first n bytes of an export's output are a file, whose lines stand in an order that document 01 allows, and it loads back into every
 -- store that the exporting one has grown into.
-pub record OutputLoads (s : Settings) (σ : Store) (roots : List ℤ) (order : List ℕ) (p : Lent) (n : ℕ) (out : List ℕ) : Type 0 where
+pub record OutputLoads (m : Limits) (s : Settings) (σ : Store) (roots : List ℤ) (order : List ℕ) (p : Lent) (n : ℕ) (out : List ℕ) : Type 0 where
   pub nodes : List ℕ
   pub allowed : Allowed σ roots nodes
   pub file : take n out ≡ fileOf s σ roots order p nodes
-  pub loads : (τ : Store) → Grows σ τ → Rules limits τ → LoadsInto s σ roots order p nodes (take n out) τ
+  pub loads : (τ : Store) → Grows σ τ → Rules m τ → LoadsInto m s σ roots order p nodes (take n out) τ
 
 -- The same after any calls: export, load other files, load back.
-pub record OutputLoadsLater (s : Settings) (σ : Store) (roots : List ℤ) (order : List ℕ) (p : Lent) (n : ℕ) (out : List ℕ) : Type 0 where
+pub record OutputLoadsLater (m : Limits) (s : Settings) (σ : Store) (roots : List ℤ) (order : List ℕ) (p : Lent) (n : ℕ) (out : List ℕ) : Type 0 where
   pub nodes : List ℕ
   pub allowed : Allowed σ roots nodes
   pub file : take n out ≡ fileOf s σ roots order p nodes
-  pub loads : (cs : List Call) → LoadsInto s σ roots order p nodes (take n out) (runCalls σ cs)
+  pub loads : (cs : List Call) → LoadsInto m s σ roots order p nodes (take n out) (runCalls m σ cs)

@@ -6,7 +6,7 @@ use mathlib.Core.List.{List, [], _∷_, _++_}
 use lib.ListN.{length, take, replicate}
 use lib.IntN.{ℤ, pos, negℤ}
 use Rattle.codes.specs.Answer.{value, refused, Step, got, fails}
-use Rattle.codes.specs.Limits.{rootLimit}
+use Rattle.codes.specs.Limits.{limits, rootLimit}
 use Rattle.read_lists.specs.Lists.{Listed, listed}
 use Rattle.read_edges.specs.Edges.{edgeList}
 use Rattle.read_binary.specs.Binary.{numberAt}
@@ -27,7 +27,7 @@ use Rattle.demands.specs.Examples.{enoughFor, exampleLoad, exampleHeader
 
 -- what a load of document 01's example leaves in an empty store of two levels and three slots, and the roots that it gives
 abbrev pub exampleLeft : Loaded
-exampleLeft = loadOf exampleLoad (empty 2 3)
+exampleLeft = loadOf limits exampleLoad (empty 2 3)
 
 abbrev pub exampleRoots : List ℤ
 exampleRoots = take (exampleHeader .nroots) (exampleLeft .roots)
@@ -58,7 +58,7 @@ Holds (nodes ls w) = ThoseNodes ls w
 Holds (number n w) = (sevenBit n ≡ w) × (numberAt w 0 ≡ got n (length w))
 Holds (reads w a) = numberAt w 0 ≡ a
 Holds (roots s a) = edgeList rootLimit s ≡ a
-Holds (loads c σ a ids) = (loadOf c σ .answer ≡ a) × (loadOf c σ .ids ≡ ids)
+Holds (loads c σ a ids) = (loadOf limits c σ .answer ≡ a) × (loadOf limits c σ .ids ≡ ids)
 
 abbrev pub AllRows : List StarredRow → Type 0
 AllRows [] = Unit

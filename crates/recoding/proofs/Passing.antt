@@ -7,7 +7,7 @@ use native.Mathlib.Omega.{arith}
 use lib.ListN.{length, take, length-map}
 use lib.IntN.{ℤ}
 use Rattle.codes.specs.Lent.{laid}
-use Rattle.codes.specs.Limits.{varLimit}
+use Rattle.codes.specs.Limits.{limits, varLimit}
 use Rattle.codes.specs.declared.DDDMPVersion.the-variants.{«V2_0»}
 use Rattle.codes.proofs.Lent.{length-laid}
 use Rattle.read_text.specs.Text.{place}
@@ -88,10 +88,10 @@ module _ (f : List ℕ) (h : head.Header) (roots : List ℤ) (ids permids names 
       → s ≡ settings «V2_0» true (h .dd) → order ≡ variableLevels (h .nvars) ids permids
       → starts ≡ passed lens names → ls ≡ passed lens lens → rootstarts ≡ passed rootlens rootnames → rls ≡ passed rootlens rootlens
       → a ≡ slotsLent → b ≡ slotsLent → (r : Exported) (bytes : List ℕ) (x : Recoded)
-      → Exports (exportInto s roots order (lent f starts ls rootstarts rls (s .dd)) a b out) σ r bytes → x ≡ ofRead (ofExported r)
-      → ExportingAgain (exportWith f h roots ids permids names lens rootnames rootlens out) σ x bytes
+      → Exports limits (exportInto s roots order (lent f starts ls rootstarts rls (s .dd)) a b out) σ r bytes → x ≡ ofRead (ofExported r)
+      → ExportingAgain limits (exportWith f h roots ids permids names lens rootnames rootlens out) σ x bytes
   exporting {s} {order} {starts} {ls} {rootstarts} {rls} {a} {b} e1 e2 e3 e4 e5 e6 e7 e8 r bytes x p q =
       let same : exportInto s roots order (lent f starts ls rootstarts rls (s .dd)) a b out
       ≡ exportWith f h roots ids permids names lens rootnames rootlens out
       = rw (e1, e2, e3, e4, e5, e6, e7, e8) in
-      record { exported = r; exports = subst (λ y. Exports y σ r bytes) same p; answer = q }
+      record { exported = r; exports = subst (λ y. Exports limits y σ r bytes) same p; answer = q }

@@ -6,7 +6,7 @@ use native.Mathlib.Omega.{arith}
 use lib.ListN.{length, take}
 use Rattle.edges.specs.Width.{positionLimit}
 use Rattle.codes.specs.Lent.{laid}
-use Rattle.codes.specs.Limits.{varLimit}
+use Rattle.codes.specs.Limits.{limits, varLimit}
 use Rattle.header_values.specs.Values.{pad}
 use Rattle.header_values.proofs.Fronts.{front-fits, front-is, front-long}
 use Rattle.codes.specs.Faults.{firstFault}
@@ -25,18 +25,19 @@ use Rattle.recoding.proofs.Said.{Says, header-says}
 
 -- what is promised of an answer and of the list after it
 abbrev pub Plans : List ℕ → Plan → List ℕ → List ℕ → Type 0
-Plans f p out old = (p ≡ planBy (headRead f) (headRead f .answer)) × (out ≡ laid (listBy (headRead f) (headRead f .answer)) old)
+Plans f p out old =
+    (p ≡ planBy (headRead limits f) (headRead limits f .answer)) × (out ≡ laid (listBy (headRead limits f) (headRead limits f .answer)) old)
 
 -- the load of the header, after the input's length
-module _ (f : List ℕ) (found : ℕ) (e : found ≡ head.lengthAfter 0 (length f)) where
+module _ (f : List ℕ) (found : ℕ) (e : found ≡ head.lengthAfter limits 0 (length f)) where
   -- what the load leaves
   abbrev r : head.HeaderLoaded
-  r = head.loadHeader found f
+  r = head.loadHeader limits found f
 
   -- it is the one that the definition names
-  head-is : r ≡ headRead f
+  head-is : r ≡ headRead limits f
   unfolding headRead head.lengthAfter firstFault
-  head-is = ap (λ n. head.loadHeader n f) (e ∙ sym (last-check (head.lengthFault (length f))))
+  head-is = ap (λ n. head.loadHeader limits n f) (e ∙ sym (last-check (head.lengthFault limits (length f))))
 
   module _ (a : Loaded) (q : ofLoaded a ≡ r .answer) where
     -- after a header: its permids are in a lent list

@@ -11,12 +11,12 @@ use lib.ListN.{length, getD, take, length-take}
 use lib.Seq.{getD-take}
 use lib.IntN.{ℤ, pos, natAbs}
 use borrow.Author.Tests.{le-leb, eq-eqb}
-use Rattle.codes.specs.Limits.{varLimit, rootLimit}
+use Rattle.codes.specs.Limits.{limits, varLimit, rootLimit}
 use Rattle.codes.specs.Faults.{firstFault, unless}
 use Rattle.support.proofs.SupportAllowed.{permids-allowed}
 use Rattle.header_checks.proofs.WholeRules.{whole-rules}
 use Rattle.store.specs.Store.{Store}
-use Rattle.store.specs.Rules.{limits, Rules}
+use Rattle.store.specs.Rules.{Rules}
 use Rattle.store.specs.Keeps.{rules-keeps}
 use Rattle.store.specs.Growth.{EdgeOf}
 use Rattle.store.specs.Empty.{empty}
@@ -69,17 +69,17 @@ roots-pass σ (r ∷ l) p =
     rw (le-leb 1 (natAbs r) (e .some), le-leb (natAbs r) (σ .count) (e .there)) (roots-pass σ l (λ i h. p (suc i) (omega arith)))
 
 -- nodes are refused with numbers from 14 on
-nodes-from : {u : nodes.Setup} {σ : Store} {f : List ℕ} {at k line : ℕ} → NodesRefused u σ f at k line → 14 ≤ k
+nodes-from : {u : nodes.Setup} {σ : Store} {f : List ℕ} {at k line : ℕ} → NodesRefused limits u σ f at k line → 14 ≤ k
 nodes-from (crowded x) = omega arith
 nodes-from (early r a e) = omega arith
 nodes-from (text r a e t z i l) = ⊎-elim (λ w. omega (arith, w .0)) (λ w. omega (arith, w .0)) t
 nodes-from (binary r a e t) = ⊎-elim (λ w. omega arith) (λ w. omega (arith, w .0)) t
 nodes-from (unended r e z) = omega arith
 
-module _ (f : List ℕ) (h : Header) (read : headRead f .answer ≡ header h) where
+module _ (f : List ℕ) (h : Header) (read : headRead limits f .answer ≡ header h) where
   -- the level list, the load and the store that it starts from
   abbrev list : List ℕ
-  list = levelList (h .nvars) (headRead f .permids)
+  list = levelList (h .nvars) (headRead limits f .permids)
 
   abbrev c : Load
   c = loadAt f list
@@ -88,9 +88,9 @@ module _ (f : List ℕ) (h : Header) (read : headRead f .answer ≡ header h) wh
   σ = empty (h .nvars) slotsLent
 
   -- what the header says
-  says : Says h (headRead f .ids) (headRead f .permids)
+  says : Says h (headRead limits f .ids) (headRead limits f .permids)
   unfolding headRead
-  says = header-says (lengthFault (length f)) f h read
+  says = header-says (lengthFault limits (length f)) f h read
 
   -- the store keeps the rules
   store-rules : Rules limits σ
@@ -102,17 +102,17 @@ module _ (f : List ℕ) (h : Header) (read : headRead f .answer ≡ header h) wh
   lists-long = (refl, refl)
 
   -- so the load reads the same header
-  same-head : headerOf c σ ≡ headRead f
+  same-head : headerOf limits c σ ≡ headRead limits f
   unfolding headerOf headRead
-  same-head = ap (λ n. loadHeader n f) (length-left c σ (lists-long .0) (lists-long .1) (rules-keeps limits σ store-rules))
+  same-head = ap (λ n. loadHeader limits n f) (length-left limits c σ (lists-long .0) (lists-long .1) (rules-keeps limits σ store-rules))
 
   -- the level list fits
   list-fits : listFits (h .nsuppvars) (σ .levels) list ≡ true
   list-fits =
-      let l = list-ascending (h .nvars) (headRead f .permids) (says .permids-are) in
+      let l = list-ascending (h .nvars) (headRead limits f .permids) (says .permids-are) in
       rw (empty-levels (h .nvars) slotsLent)
       (list-allowed (h .nsuppvars) (h .nvars) list .1
-      (l .as-many ∙ says .permids-counted, permids-list-allowed (h .nvars) (headRead f .permids) (says .permids-are)))
+      (l .as-many ∙ says .permids-counted, permids-list-allowed (h .nvars) (headRead limits f .permids) (says .permids-are)))
 
   -- after the header only scratch may be refused
   between-one : (k : ℕ) → beforeNodes c σ h ≡ suc k → suc k ≡ 1
@@ -120,12 +120,13 @@ module _ (f : List ℕ) (h : Header) (read : headRead f .answer ≡ header h) wh
   between-one k e = scratch-left (leb (h .nnodes) slotsLent && leb (h .nnodes) slotsLent) k (rw list-fits at e)
 
   -- A refusal of the load is 1, for scratch, or one of the nodes.
-  pub load-refuses : (n line : ℕ) → loadOf c σ .answer ≡ refusal n line → (n ≡ 1) ⊎ (10 ≤ n)
+  pub load-refuses : (n line : ℕ) → loadOf limits c σ .answer ≡ refusal n line → (n ≡ 1) ⊎ (10 ≤ n)
   unfolding loadOf
   load-refuses n line q =
-      list-refuses (beforeNodes c σ h) refl (sym (ap (λ a. withHeader c σ a .answer) (ap (λ r. r .answer) same-head ∙ read)) ∙ q)
+      list-refuses (beforeNodes c σ h) refl (sym (ap (λ a. withHeader limits c σ a .answer) (ap (λ r. r .answer) same-head ∙ read)) ∙ q)
     where
-      nodes-refuse : (a : nodes.NodesAnswer) → nodesOf c σ h .answer ≡ a → withNodes c σ h (nodesOf c σ h) a .answer ≡ refusal n line
+      nodes-refuse : (a : nodes.NodesAnswer) → nodesOf limits c σ h .answer ≡ a
+          → withNodes limits c σ h (nodesOf limits c σ h) a .answer ≡ refusal n line
           → (n ≡ 1) ⊎ (10 ≤ n)
       nodes-refuse (nodes.nodes at) e q = no-header (sym q)
       nodes-refuse (nodes.refusal k at) e q =
@@ -133,15 +134,15 @@ module _ (f : List ℕ) (h : Header) (read : headRead f .answer ≡ header h) wh
           let w = refused-nodes _ σ f (h .next) _ store-rules (list-levels _ _ list list-fits) k at .0 e in
           inr (omega (arith, nodes-from w))
 
-      list-refuses : (k : ℕ) → beforeNodes c σ h ≡ k → withList c σ h k .answer ≡ refusal n line → (n ≡ 1) ⊎ (10 ≤ n)
-      list-refuses zero e q = nodes-refuse (nodesOf c σ h .answer) refl q
+      list-refuses : (k : ℕ) → beforeNodes c σ h ≡ k → withList limits c σ h k .answer ≡ refusal n line → (n ≡ 1) ⊎ (10 ≤ n)
+      list-refuses zero e q = nodes-refuse (nodesOf limits c σ h .answer) refl q
       list-refuses (suc k) e q = let s : suc k ≡ n = cc in inl (sym s ∙ between-one k e)
 
   -- an accepted load
-  module _ (g : Header) (q : loadOf c σ .answer ≡ header g) where
+  module _ (g : Header) (q : loadOf limits c σ .answer ≡ header g) where
     -- what it leaves
     abbrev r : Loaded
-    r = loadOf c σ
+    r = loadOf limits c σ
 
     abbrev roots : List ℤ
     roots = take (g .nroots) (r .roots)
@@ -151,17 +152,17 @@ module _ (f : List ℕ) (h : Header) (read : headRead f .answer ≡ header h) wh
 
     -- its header is the one that was read first
     same-header : g ≡ h
-    same-header = one-header (sym (answered-passes c σ g q .header-read) ∙ ap (λ r. r .answer) same-head ∙ read)
+    same-header = one-header (sym (answered-passes limits c σ g q .header-read) ∙ ap (λ r. r .answer) same-head ∙ read)
 
-    gains : Gains c σ r
-    gains = roots-answer c σ g q
+    gains : Gains limits c σ r
+    gains = roots-answer limits c σ g q
 
     -- there are as many roots as `.rootids` has
     roots-counted : length (rootsOf f) ≡ g .nroots
     unfolding headRead
     roots-counted =
-        let s = answer-sound (lengthFault (length f)) f h read .1 in
-        whole-rules f (tableOf f) .0 (s .whole) .roots-counted ∙ ap (λ x. x .nroots) (sym (s .is) ∙ sym same-header)
+        let s = answer-sound limits (lengthFault limits (length f)) f h read .1 in
+        whole-rules limits f (tableOf f) .0 (s .whole) .roots-counted ∙ ap (λ x. x .nroots) (sym (s .is) ∙ sym same-header)
 
     -- they are edges of the store
     root-edge : (i : ℕ) → i < length roots → EdgeOf (r .after) (getD roots i (pos 0))
@@ -194,7 +195,7 @@ module _ (f : List ℕ) (h : Header) (read : headRead f .answer ≡ header h) wh
 
     -- An export of what was loaded is refused with 1 or 5.
     pub export-refuses : (p : Lent) (slots numbers out k : ℕ)
-        → exportFault (r .after) roots order p slots numbers out ≡ suc k → (suc k ≡ 1) ⊎ (suc k ≡ 5)
+        → exportFault limits (r .after) roots order p slots numbers out ≡ suc k → (suc k ≡ 1) ⊎ (suc k ≡ 5)
     unfolding exportFault
     export-refuses p slots numbers out k e =
         let τ = r .after in

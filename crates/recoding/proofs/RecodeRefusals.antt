@@ -8,7 +8,7 @@ use Prim.Native.Nat.{ℕ, zero, suc, _≤_}
 use native.Mathlib.Omega.{arith}
 use lib.Dec.{ltb}
 use lib.ListN.{length}
-use Rattle.codes.specs.Limits.{inputLimit}
+use Rattle.codes.specs.Limits.{limits, inputLimit}
 use Rattle.header_lines.specs.Sweep.{SweepEnd, atNodes, refusedAt, linesOf, endOf}
 use Rattle.header_lines.proofs.HeaderEnd.{lines-numbers}
 use Rattle.header_checks.specs.Whole.{wholeFault}
@@ -26,21 +26,21 @@ use Rattle.recoding.proofs.RecodeLoads.{load-refuses, export-refuses}
 -- a refusal of the header by itself is one of the file's writer
 module _ (f : List ℕ) (n line : ℕ) where
   -- of the header as a whole
-  settled-low : (next lines m : ℕ) → wholeFault f (tableOf f) ≡ m → settled f (tableOf f) next lines m ≡ head.refusal n line → 10 ≤ n
+  settled-low : (next lines m : ℕ) → wholeFault limits f (tableOf f) ≡ m → settled f (tableOf f) next lines m ≡ head.refusal n line → 10 ≤ n
   settled-low next lines zero e q = no-header (sym q)
   settled-low next lines (suc m) e q =
       let s : suc m ≡ n = cc in
-      ⊎-elim (λ z. absurd (omega arith)) (λ w. omega (arith, w .0)) (whole-numbers f (tableOf f) (suc m) e)
+      ⊎-elim (λ z. absurd (omega arith)) (λ w. omega (arith, w .0)) (whole-numbers limits f (tableOf f) (suc m) e)
 
   -- of a line
-  judged-low : (e : SweepEnd) → endOf f (linesOf f) ≡ e → judgedHeader f e ≡ head.refusal n line → 10 ≤ n
-  judged-low (atNodes next lines) e q = settled-low next lines (wholeFault f (tableOf f)) refl q
+  judged-low : (e : SweepEnd) → endOf f (linesOf f) ≡ e → judgedHeader limits f e ≡ head.refusal n line → 10 ≤ n
+  judged-low (atNodes next lines) e q = settled-low next lines (wholeFault limits f (tableOf f)) refl q
   judged-low (refusedAt m at) e q =
       let s : m ≡ n = cc in
       ⊎-elim (λ w. omega (arith, w .0)) (λ w. omega (arith, w .0 .0)) (lines-numbers f (linesOf f) m at e)
 
   -- or 19, of the input's length
-  after-low : (k : ℕ) → ((k ≡ 0) ⊎ (k ≡ 19)) → after k f ≡ head.refusal n line → 10 ≤ n
+  after-low : (k : ℕ) → ((k ≡ 0) ⊎ (k ≡ 19)) → after limits k f ≡ head.refusal n line → 10 ≤ n
   unfolding readOf
   after-low zero w q = judged-low (endOf f (linesOf f)) refl q
   after-low (suc k) w q =
@@ -48,18 +48,18 @@ module _ (f : List ℕ) (n line : ℕ) where
       ⊎-elim (λ z. absurd (omega arith)) (λ z. omega arith) w
 
   -- the input's length is refused with 19 or not
-  length-19 : (lengthFault (length f) ≡ 0) ⊎ (lengthFault (length f) ≡ 19)
+  length-19 : (lengthFault limits (length f) ≡ 0) ⊎ (lengthFault limits (length f) ≡ 19)
   unfolding lengthFault
   length-19 = go (ltb inputLimit (length f)) refl
     where
-      go : (b : Bool) → ltb inputLimit (length f) ≡ b → (lengthFault (length f) ≡ 0) ⊎ (lengthFault (length f) ≡ 19)
+      go : (b : Bool) → ltb inputLimit (length f) ≡ b → (lengthFault limits (length f) ≡ 0) ⊎ (lengthFault limits (length f) ≡ 19)
       go true e = inr (rw (lengthFault, e))
       go false e = inl (rw (lengthFault, e))
 
   -- the header that is read first
-  head-low : headRead f .answer ≡ head.refusal n line → 10 ≤ n
+  head-low : headRead limits f .answer ≡ head.refusal n line → 10 ≤ n
   unfolding headRead head.loadHeader
-  head-low q = after-low (lengthFault (length f)) length-19 (sym (lists-answer f (after (lengthFault (length f)) f)) ∙ q)
+  head-low q = after-low (lengthFault limits (length f)) length-19 (sym (lists-answer f (after limits (lengthFault limits (length f)) f)) ∙ q)
 
 module _ (f : List ℕ) (lent n line : ℕ) (out : List ℕ) where
   -- the number of a refusal
@@ -67,41 +67,43 @@ module _ (f : List ℕ) (lent n line : ℕ) (out : List ℕ) where
   refused-number {k} {at} w = let a : refusal n line ≡ refusal k at = w .answer in cc
 
   -- an export refuses with the number of its fault
-  export-number : (x : Export) (τ : Store) → ExportingAgain x τ (refusal n line) out → (k : ℕ) × ((exportFaultOf x τ ≡ suc k) × (suc k ≡ n))
-  export-number x τ w = go (exportFaultOf x τ) refl (w .exports)
+  export-number : (x : Export) (τ : Store) → ExportingAgain limits x τ (refusal n line) out
+      → (k : ℕ) × ((exportFaultOf limits x τ ≡ suc k) × (suc k ≡ n))
+  export-number x τ w = go (exportFaultOf limits x τ) refl (w .exports)
     where
-      go : (k : ℕ) → exportFaultOf x τ ≡ k → promise.ExportsBy k (x .settings) τ (x .roots) (x .order) (x .names) (x .out) (w .exported) out
-          → (k : ℕ) × ((exportFaultOf x τ ≡ suc k) × (suc k ≡ n))
+      go : (k : ℕ) → exportFaultOf limits x τ ≡ k → promise.ExportsBy k (x .settings) τ (x .roots) (x .order) (x .names) (x .out) (w .exported) out
+          → (k : ℕ) × ((exportFaultOf limits x τ ≡ suc k) × (suc k ≡ n))
       go zero e v = let a : refusal n line ≡ written _ = w .answer ∙ ap ofRead (v .answer) in absurd (let z : _≡_ {A = ℕ} 0 1 = cc in omega arith)
       go (suc k) e v = let a : refusal n line ≡ refusal (suc k) 0 = w .answer ∙ ap ofRead (v .answer) in (k, (e, cc))
 
-  module _ (h : head.Header) (read : headRead f .answer ≡ head.header h) where
+  module _ (h : head.Header) (read : headRead limits f .answer ≡ head.header h) where
     -- by what the load answered
-    reload-number : (a : HeaderAnswer) → reloadOf f h .answer ≡ a → Reloads f (reloadOf f h) a lent (refusal n line) out → RecodeNumber n
+    reload-number : (a : HeaderAnswer) → reloadOf limits f h .answer ≡ a
+        → Reloads limits f (reloadOf limits f h) a lent (refusal n line) out → RecodeNumber n
     unfolding loadedAt
     reload-number (head.refusal k at) e w =
         let s = refused-number w in
         ⊎-elim (λ z. inl (sym s ∙ z)) (λ z. inr (inr (omega arith))) (load-refuses f h read k at e)
     reload-number (head.header g) e w =
-        let r = export-number (exportOf f g (reloadOf f h) lent) (reloadOf f h .after) w in
+        let r = export-number (exportOf f g (reloadOf limits f h) lent) (reloadOf limits f h .after) w in
         ⊎-elim (λ z. inl (sym (r .1 .1) ∙ z)) (λ z. inr (inl (sym (r .1 .1) ∙ z))) (export-refuses f h read g e _ _ _ _ (r .0) (r .1 .0))
 
   -- by what the header's reading answered
-  head-number : (a : HeaderAnswer) → headRead f .answer ≡ a → Heads f a lent (refusal n line) out → RecodeNumber n
+  head-number : (a : HeaderAnswer) → headRead limits f .answer ≡ a → Heads limits f a lent (refusal n line) out → RecodeNumber n
   head-number (head.refusal k at) e w = inr (inr (omega (arith, refused-number w, head-low f k at e)))
-  head-number (head.header h) e w = reload-number h e (reloadOf f h .answer) refl w
+  head-number (head.header h) e w = reload-number h e (reloadOf limits f h .answer) refl w
 
   -- by whether the input is too long
-  sized-number : (long : Bool) → Sized long f lent (refusal n line) out → RecodeNumber n
+  sized-number : (long : Bool) → Sized limits long f lent (refusal n line) out → RecodeNumber n
   sized-number true w = inr (inr (omega (arith, refused-number w)))
-  sized-number false w = head-number (headRead f .answer) refl w
+  sized-number false w = head-number (headRead limits f .answer) refl w
 
   -- A refusal of `recode` is 1, 5 or from 10 on.
-  pub recode-number : {a : Recoded} → a ≡ refusal n line → Recodes f lent a out → RecodeNumber n
-  recode-number e w = sized-number (ltb inputMost (length f)) (subst (λ a. Recodes f lent a out) e w)
+  pub recode-number : {a : Recoded} → a ≡ refusal n line → Recodes limits f lent a out → RecodeNumber n
+  recode-number e w = sized-number (ltb inputMost (length f)) (subst (λ a. Recodes limits f lent a out) e w)
 
   -- So the program never answers 2, 3, 4 or 6: its own level list, store, roots and variable order are never at fault.
-  pub recode-never : {a : Recoded} → a ≡ refusal n line → Recodes f lent a out → (n ≢ 2) × ((n ≢ 3) × ((n ≢ 4) × (n ≢ 6)))
+  pub recode-never : {a : Recoded} → a ≡ refusal n line → Recodes limits f lent a out → (n ≢ 2) × ((n ≢ 3) × ((n ≢ 4) × (n ≢ 6)))
   recode-never e w = go (recode-number e w)
     where
       go : RecodeNumber n → (n ≢ 2) × ((n ≢ 3) × ((n ≢ 4) × (n ≢ 6)))

@@ -6,7 +6,7 @@ use native.Mathlib.Omega.{arith}
 use lib.ListN.{length, take, replicate}
 use lib.IntN.{pos}
 use lib.Seq.{length-take-le}
-use Rattle.codes.specs.Limits.{varLimit, rootLimit}
+use Rattle.codes.specs.Limits.{limits, varLimit, rootLimit}
 use Rattle.header_values.proofs.Fronts.{front-is}
 use Rattle.store.specs.Store.{Store, store}
 use Rattle.store.specs.Empty.{empty}
@@ -46,10 +46,10 @@ module _ {A : Type 0} (n m : ℕ) (l : List A) (h : n ≤ m) (e : length l ≡ m
 module _ (f list : List ℕ) (levels : ℕ) where
   -- the load as the code makes it, and as the definition names it
   abbrev made : Loaded
-  made = loadOf (loadInto f list zeros) (fresh levels)
+  made = loadOf limits (loadInto f list zeros) (fresh levels)
 
   abbrev r : Loaded
-  r = loadedAt f list levels
+  r = loadedAt limits f list levels
 
   -- the lengths of the parts are those that the definition names
   lengths-are : lengthsOf zeros ≡ longLists
@@ -114,20 +114,20 @@ module _ (f list : List ℕ) (levels : ℕ) where
 
         -- The export of what the parts hold is that of the load.
         pub reloads : (y : Store) → y ≡ made .after → (out : ℕ) (b : Recoded) (bytes : List ℕ)
-            → ExportingAgain (exportFrom (take (h .nsuppvars) (x .ids)) (take (h .nsuppvars) (x .permids)) x out) y b bytes
-            → Reloads f r (r .answer) out b bytes
+            → ExportingAgain limits (exportFrom (take (h .nsuppvars) (x .ids)) (take (h .nsuppvars) (x .permids)) x out) y b bytes
+            → Reloads limits f r (r .answer) out b bytes
         reloads y s out b bytes e =
             let same =
             ap (λ i. exportFrom i (take (h .nsuppvars) (x .permids)) x out) ids-are
             ∙ ap (λ i. exportFrom (r .ids) i x out) permids-are
             ∙ ap (λ v. exportFrom (r .ids) (r .permids) v out) parts-are in
-            subst (λ t. Reloads f r t out b bytes) (sym read)
-            (subst (λ t. ExportingAgain (exportOf f (ofHeader h) r out) t b bytes) (s ∙ ap (λ l. l .after) made-is)
-            (subst (λ t. ExportingAgain t y b bytes) same e))
+            subst (λ t. Reloads limits f r t out b bytes) (sym read)
+            (subst (λ t. ExportingAgain limits (exportOf f (ofHeader h) r out) t b bytes) (s ∙ ap (λ l. l .after) made-is)
+            (subst (λ t. ExportingAgain limits t y b bytes) same e))
 
     -- after a refusal: it is answered, with zeros
     pub reloads-none : (n line : ℕ) → a ≡ loaded.Refused n line → (out : ℕ) (bytes : List ℕ) → bytes ≡ replicate out 0
-        → Reloads f r (r .answer) out (refusal n line) bytes
+        → Reloads limits f r (r .answer) out (refusal n line) bytes
     reloads-none n line k out bytes e =
         let read : r .answer ≡ head.refusal n line = ap (λ l. l .answer) (sym made-is) ∙ sym q ∙ ap ofLoaded k in
-        subst (λ t. Reloads f r t out (refusal n line) bytes) (sym read) (record { answer = refl; bytes = e })
+        subst (λ t. Reloads limits f r t out (refusal n line) bytes) (sym read) (record { answer = refl; bytes = e })

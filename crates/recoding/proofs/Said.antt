@@ -4,7 +4,7 @@ use mathlib.Core.List.{List}
 use Prim.Native.Nat.{ℕ, _≤_}
 use native.Mathlib.Omega.{arith}
 use lib.ListN.{length}
-use Rattle.codes.specs.Limits.{varLimit, rootLimit}
+use Rattle.codes.specs.Limits.{limits, varLimit, rootLimit}
 use Rattle.header_keys.specs.declared.Key.the-variants.{Ids, Permids}
 use Rattle.support.specs.Support.{IdsAllowed, PermidsAllowed}
 use Rattle.header_values.specs.Values.{u32sIn}
@@ -30,10 +30,10 @@ pub record Says (h : Header) (ids permids : List ℕ) : Type 0 where
   pub few-roots : h .nroots ≤ rootLimit
 
 -- what the file's own lists and numbers say where the header as a whole has no fault
-table-says : (f : List ℕ) (h : Header) → Sound f h → Says h (u32sIn f (tableOf f) Ids) (u32sIn f (tableOf f) Permids)
+table-says : (f : List ℕ) (h : Header) → Sound limits f h → Says h (u32sIn f (tableOf f) Ids) (u32sIn f (tableOf f) Permids)
 table-says f h s =
     let t = tableOf f in
-    let R = whole-rules f t .0 (s .whole) in
+    let R = whole-rules limits f t .0 (s .whole) in
     let S = faultless-settled f t (s .whole) in
     let ids = u32s-most f t Ids in
     let permids = u32s-most f t Permids in
@@ -52,23 +52,23 @@ table-says f h s =
 
 module _ (found : ℕ) (f : List ℕ) (h : Header) where
   -- the lists of an accepted header are the file's own
-  lists-say : (a : HeaderAnswer) → listsBy f a .answer ≡ header h → Sound f h → Says h (listsBy f a .ids) (listsBy f a .permids)
+  lists-say : (a : HeaderAnswer) → listsBy f a .answer ≡ header h → Sound limits f h → Says h (listsBy f a .ids) (listsBy f a .permids)
   lists-say (header g) q s = table-says f h s
   lists-say (refusal n line) q s = no-header q
 
   -- What an accepted header says.
-  pub header-says : loadHeader found f .answer ≡ header h → Says h (loadHeader found f .ids) (loadHeader found f .permids)
+  pub header-says : loadHeader limits found f .answer ≡ header h → Says h (loadHeader limits found f .ids) (loadHeader limits found f .permids)
   unfolding loadHeader
-  header-says q = lists-say (after found f) q (answer-sound found f h q .1)
+  header-says q = lists-say (after limits found f) q (answer-sound limits found f h q .1)
 
 module _ (c : calls.Load) (σ : Store) (h : Header) where
   -- a header that a load reads
-  read-says : calls.headerOf c σ .answer ≡ header h → Says h (calls.headerOf c σ .ids) (calls.headerOf c σ .permids)
+  read-says : calls.headerOf limits c σ .answer ≡ header h → Says h (calls.headerOf limits c σ .ids) (calls.headerOf limits c σ .permids)
   unfolding calls.headerOf
   read-says q = header-says _ (c .file) h q
 
   -- What the header of an accepted load says.
-  pub load-says : calls.loadOf c σ .answer ≡ header h → Says h (calls.loadOf c σ .ids) (calls.loadOf c σ .permids)
+  pub load-says : calls.loadOf limits c σ .answer ≡ header h → Says h (calls.loadOf limits c σ .ids) (calls.loadOf limits c σ .permids)
   load-says q =
-      let p = answered-passes c σ h q in
-      subst (λ r. Says h (r .ids) (r .permids)) (sym (passes-load c σ h p)) (read-says (p .header-read))
+      let p = answered-passes limits c σ h q in
+      subst (λ r. Says h (r .ids) (r .permids)) (sym (passes-load limits c σ h p)) (read-says (p .header-read))

@@ -6,7 +6,7 @@ use native.Mathlib.Omega.{arith}
 use lib.ListN.{length, take, replicate}
 use borrow.Author.Tests.{le-ltb, lt-ltb}
 use Rattle.codes.specs.Lent.{laid}
-use Rattle.codes.specs.Limits.{varLimit}
+use Rattle.codes.specs.Limits.{limits, varLimit}
 use Rattle.codes.proofs.Lent.{length-laid}
 use Rattle.seats.specs.Seats.{seatOf}
 use Rattle.header_values.proofs.Padded.{take-laid}
@@ -20,9 +20,9 @@ use Rattle.recoding.proofs.Said.{Says, header-says}
 
 -- an input that is too long: 19, and zeros
 pub recodes-long : (f : List ℕ) → inputMost < length f → (out : ℕ) (bytes : List ℕ) → bytes ≡ replicate out 0
-    → Recodes f out (refusal 19 0) bytes
+    → Recodes limits f out (refusal 19 0) bytes
 recodes-long f h out bytes e =
-    subst (λ b. Sized b f out (refusal 19 0) bytes) (sym (lt-ltb inputMost (length f) h)) (record { answer = refl; bytes = e })
+    subst (λ b. Sized limits b f out (refusal 19 0) bytes) (sym (lt-ltb inputMost (length f) h)) (record { answer = refl; bytes = e })
 
 -- of n levels no more than n are taken
 taken-few : (n p : ℕ) (permids : List ℕ) → length (takenFrom n p permids) ≤ n
@@ -55,28 +55,28 @@ same-refusal q = (cc, cc)
 -- what a plan with levels comes from: a header and its level list
 pub record Comes (f : List ℕ) (levels n : ℕ) (old dst : List ℕ) : Type 0 where
   pub from : head.Header
-  pub read : headRead f .answer ≡ head.header from
+  pub read : headRead limits f .answer ≡ head.header from
   pub count : levels ≡ from .nvars
-  pub entries : n ≡ length (levelList (from .nvars) (headRead f .permids))
-  pub there : dst ≡ laid (levelList (from .nvars) (headRead f .permids)) old
+  pub entries : n ≡ length (levelList (from .nvars) (headRead limits f .permids))
+  pub there : dst ≡ laid (levelList (from .nvars) (headRead limits f .permids)) old
 
 module _ (f : List ℕ) where
   -- the level list of the plan
   abbrev planned : List ℕ
-  planned = listBy (headRead f) (headRead f .answer)
+  planned = listBy (headRead limits f) (headRead limits f .answer)
 
   -- what the header says
-  head-says : (h : head.Header) → headRead f .answer ≡ head.header h → Says h (headRead f .ids) (headRead f .permids)
+  head-says : (h : head.Header) → headRead limits f .answer ≡ head.header h → Says h (headRead limits f .ids) (headRead limits f .permids)
   unfolding headRead
-  head-says h q = header-says (head.lengthFault (length f)) f h q
+  head-says h q = header-says (head.lengthFault limits (length f)) f h q
 
-  module _ (p : Plan) (q : p ≡ planBy (headRead f) (headRead f .answer)) where
+  module _ (p : Plan) (q : p ≡ planBy (headRead limits f) (headRead limits f .answer)) where
     module _ (levels n : ℕ) (k : p ≡ plan.Levels levels n) (old dst : List ℕ) (d : dst ≡ laid planned old) where
       -- a plan with levels comes from a header
       comes : Comes f levels n old dst
-      comes = go (headRead f .answer) refl (sym k ∙ q) d
+      comes = go (headRead limits f .answer) refl (sym k ∙ q) d
         where
-          go : (a : head.HeaderAnswer) → headRead f .answer ≡ a → plan.Levels levels n ≡ planBy (headRead f) a → dst ≡ laid (listBy (headRead f) a) old
+          go : (a : head.HeaderAnswer) → headRead limits f .answer ≡ a → plan.Levels levels n ≡ planBy (headRead limits f) a → dst ≡ laid (listBy (headRead limits f) a) old
               → Comes f levels n old dst
           go (head.header h) r e d = let w = same-levels e in record { from = h; read = r; count = w .0; entries = w .1; there = d }
           go (head.refusal m line) r e d = no-levels (sym e)
@@ -87,7 +87,7 @@ module _ (f : List ℕ) where
         short =
             let c = comes in
             let a = head-says (c .from) (c .read) .judged .few in
-            let b = list-few (c .from .nvars) (headRead f .permids) in
+            let b = list-few (c .from .nvars) (headRead limits f .permids) in
             omega (arith, long, c .entries)
 
         -- the list reaches as far as the level list
@@ -95,32 +95,33 @@ module _ (f : List ℕ) where
         list-reaches =
             let c = comes in
             let s = short in
-            let l = ap length (c .there) ∙ length-laid (levelList (c .from .nvars) (headRead f .permids)) old in
+            let l = ap length (c .there) ∙ length-laid (levelList (c .from .nvars) (headRead limits f .permids)) old in
             omega arith
 
         -- its front is the level list
-        list-is : take n dst ≡ levelList (comes .from .nvars) (headRead f .permids)
+        list-is : take n dst ≡ levelList (comes .from .nvars) (headRead limits f .permids)
         list-is =
-            let es = levelList (comes .from .nvars) (headRead f .permids) in
+            let es = levelList (comes .from .nvars) (headRead limits f .permids) in
             ap (λ m. take m dst) (comes .entries) ∙ ap (take (length es)) (comes .there)
             ∙ take-laid es old (subst (λ m. m ≤ length old) (comes .entries) short)
 
         -- What the load at these levels leaves is what the program leaves.
         pub recodes : length f ≤ inputMost → (out : ℕ) (a : Recoded) (bytes : List ℕ)
-            → Reloads f (loadedAt f (take n dst) levels) (loadedAt f (take n dst) levels .answer) out a bytes → Recodes f out a bytes
+            → Reloads limits f (loadedAt limits f (take n dst) levels) (loadedAt limits f (take n dst) levels .answer) out a bytes
+            → Recodes limits f out a bytes
         recodes h out a bytes e =
-            let es = levelList (comes .from .nvars) (headRead f .permids) in
-            subst (λ b. Sized b f out a bytes) (sym (le-ltb inputMost (length f) h))
-            (subst (λ t. Heads f t out a bytes) (sym (comes .read))
-            (subst (λ m. Reloads f (loadedAt f es m) (loadedAt f es m .answer) out a bytes) (comes .count)
-            (subst (λ l. Reloads f (loadedAt f l levels) (loadedAt f l levels .answer) out a bytes) list-is e)))
+            let es = levelList (comes .from .nvars) (headRead limits f .permids) in
+            subst (λ b. Sized limits b f out a bytes) (sym (le-ltb inputMost (length f) h))
+            (subst (λ t. Heads limits f t out a bytes) (sym (comes .read))
+            (subst (λ m. Reloads limits f (loadedAt limits f es m) (loadedAt limits f es m .answer) out a bytes) (comes .count)
+            (subst (λ l. Reloads limits f (loadedAt limits f l levels) (loadedAt limits f l levels .answer) out a bytes) list-is e)))
 
     -- a refusal of the header: it is answered, with zeros
     pub recodes-none : (n line : ℕ) → p ≡ plan.Refused n line → length f ≤ inputMost → (out : ℕ) (bytes : List ℕ)
-        → bytes ≡ replicate out 0 → Recodes f out (refusal n line) bytes
+        → bytes ≡ replicate out 0 → Recodes limits f out (refusal n line) bytes
     recodes-none n line k h out bytes z =
-        subst (λ b. Sized b f out (refusal n line) bytes) (sym (le-ltb inputMost (length f) h)) (go (headRead f .answer) (sym k ∙ q))
+        subst (λ b. Sized limits b f out (refusal n line) bytes) (sym (le-ltb inputMost (length f) h)) (go (headRead limits f .answer) (sym k ∙ q))
       where
-        go : (a : head.HeaderAnswer) → plan.Refused n line ≡ planBy (headRead f) a → Heads f a out (refusal n line) bytes
+        go : (a : head.HeaderAnswer) → plan.Refused n line ≡ planBy (headRead limits f) a → Heads limits f a out (refusal n line) bytes
         go (head.header g) e = no-levels e
         go (head.refusal m at) e = let w = same-refusal e in record { answer = rw (w .0, w .1); bytes = z }

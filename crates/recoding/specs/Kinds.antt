@@ -23,3 +23,7 @@ planBy r (head.refusal n line) = plan.Refused n line
 abbrev pub listBy : head.HeaderLoaded → head.HeaderAnswer → List ℕ
 listBy r (head.header h) = levelList (h .nvars) (r .permids)
 listBy r (head.refusal n line) = []
+
+-- by the answer of the load
+abbrev pub plannedList : head.HeaderLoaded → List ℕ
+plannedList r = listBy r (r .answer)

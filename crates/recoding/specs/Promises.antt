@@ -3,6 +3,7 @@ use Prim.Native.Nat.{ℕ}
 use mathlib.Core.List.{List}
 use lib.IntN.{ℤ}
 use lib.ListN.{length}
+use Rattle.codes.specs.Limits.{limits}
 use Rattle.codes.specs.Lent.{Part, old, new}
 use Rattle.store.specs.Lent.{oldStore}
 use Rattle.header.specs.declared.DumpHeader.{DumpHeader}
@@ -22,13 +23,13 @@ module _ (f : Part (List ℕ)) (h : DumpHeader) (levels count : ℕ) (level : Pa
 
   -- 'passes on variable names where all are present, root names and the `.dd` value, writes mode A, version 2.0'
   pub record WriteBackPromise (r : Recoded) : Type 0 where
-    pub file : ExportingAgain again (oldStore levels count level then els next heads) (ofRecoded r) (new out)
+    pub file : ExportingAgain limits again (oldStore levels count level then els next heads) (ofRecoded r) (new out)
 
 module _ (f list : Part (List ℕ)) (levels : ℕ) (out : Part (List ℕ)) where
   -- the file, loaded at the levels of the list into an empty store
   abbrev loaded : Loaded
-  loaded = loadedAt (old f) (old list) levels
+  loaded = loadedAt limits (old f) (old list) levels
 
   -- the text of what was loaded, or the load's refusal
   pub record ReloadPromise (r : Recoded) : Type 0 where
-    pub file : Reloads (old f) loaded (loaded .answer) (length (old out)) (ofRecoded r) (new out)
+    pub file : Reloads limits (old f) loaded (loaded .answer) (length (old out)) (ofRecoded r) (new out)

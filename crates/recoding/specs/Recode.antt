@@ -7,7 +7,7 @@ use lib.IntN.{ℤ}
 use lib.Dec.{ltb}
 use lib.ListN.{length, take, replicate}
 use Rattle.codes.specs.Answer.{Read, value, refused}
-use Rattle.codes.specs.Limits.{varLimit, rootLimit}
+use Rattle.codes.specs.Limits.{Limits, varLimit, rootLimit}
 use Rattle.codes.specs.declared.DDDMPVersion.the-variants.{«V2_0»}
 use Rattle.store.specs.Store.{Store}
 use Rattle.store.specs.Empty.{empty}
@@ -45,15 +45,15 @@ longLists = record {
 }
 
 -- the header, read first for the level count and the level list: '19 for the input's length, header'
-unfoldable pub headRead : List ℕ → head.HeaderLoaded
-headRead f = head.loadHeader (head.lengthFault (length f)) f
+unfoldable pub headRead : Limits → List ℕ → head.HeaderLoaded
+headRead m f = head.loadHeader m (head.lengthFault m (length f)) f
 
 -- a load at some levels, into an empty store of so many levels
 abbrev pub loadAt : List ℕ → List ℕ → Load
 loadAt f list = record { file = f; list = list; lent = longLists }
 
-unfoldable pub loadedAt : List ℕ → List ℕ → ℕ → Loaded
-loadedAt f list levels = loadOf (loadAt f list) (empty levels slotsLent)
+unfoldable pub loadedAt : Limits → List ℕ → List ℕ → ℕ → Loaded
+loadedAt m f list levels = loadOf m (loadAt f list) (empty levels slotsLent)
 
 -- is every name there? 'An empty name .. is start 0, length 0.'
 unfoldable pub allThere : List ℕ → Bool
@@ -95,30 +95,30 @@ pub record RefusesFile (n line lent : ℕ) (a : Recoded) (out : List ℕ) : Type
   pub bytes : out ≡ replicate lent 0
 
 -- what an export leaves: the order of lines inside a level is left open, as the export leaves it
-pub record ExportingAgain (x : Export) (σ : Store) (a : Recoded) (out : List ℕ) : Type 0 where
+pub record ExportingAgain (m : Limits) (x : Export) (σ : Store) (a : Recoded) (out : List ℕ) : Type 0 where
   pub exported : Exported
-  pub exports : Exports x σ exported out
+  pub exports : Exports m x σ exported out
   pub answer : a ≡ ofRead (ofExported exported)
 
 -- after the load
-abbrev pub Reloads : List ℕ → Loaded → head.HeaderAnswer → ℕ → Recoded → List ℕ → Type 0
-Reloads f r (head.refusal n line) lent a out = RefusesFile n line lent a out
-Reloads f r (head.header h) lent a out = ExportingAgain (exportOf f h r lent) (r .after) a out
+abbrev pub Reloads : Limits → List ℕ → Loaded → head.HeaderAnswer → ℕ → Recoded → List ℕ → Type 0
+Reloads m f r (head.refusal n line) lent a out = RefusesFile n line lent a out
+Reloads m f r (head.header h) lent a out = ExportingAgain m (exportOf f h r lent) (r .after) a out
 
 -- at the levels that the header names
-abbrev pub reloadOf : List ℕ → head.Header → Loaded
-reloadOf f h = loadedAt f (levelList (h .nvars) (headRead f .permids)) (h .nvars)
+abbrev pub reloadOf : Limits → List ℕ → head.Header → Loaded
+reloadOf m f h = loadedAt m f (levelList (h .nvars) (headRead m f .permids)) (h .nvars)
 
 -- after the header
-abbrev pub Heads : List ℕ → head.HeaderAnswer → ℕ → Recoded → List ℕ → Type 0
-Heads f (head.refusal n line) lent a out = RefusesFile n line lent a out
-Heads f (head.header h) lent a out = Reloads f (reloadOf f h) (reloadOf f h .answer) lent a out
+abbrev pub Heads : Limits → List ℕ → head.HeaderAnswer → ℕ → Recoded → List ℕ → Type 0
+Heads m f (head.refusal n line) lent a out = RefusesFile n line lent a out
+Heads m f (head.header h) lent a out = Reloads m f (reloadOf m f h) (reloadOf m f h .answer) lent a out
 
 -- 'else 19 line 0'
-abbrev pub Sized : Bool → List ℕ → ℕ → Recoded → List ℕ → Type 0
-Sized true f lent a out = RefusesFile 19 0 lent a out
-Sized false f lent a out = Heads f (headRead f .answer) lent a out
+abbrev pub Sized : Limits → Bool → List ℕ → ℕ → Recoded → List ℕ → Type 0
+Sized m true f lent a out = RefusesFile 19 0 lent a out
+Sized m false f lent a out = Heads m f (headRead m f .answer) lent a out
 
 -- What the program makes of an input, in an output of so many bytes.
-abbrev pub Recodes : List ℕ → ℕ → Recoded → List ℕ → Type 0
-Recodes f lent a out = Sized (ltb inputMost (length f)) f lent a out
+abbrev pub Recodes : Limits → List ℕ → ℕ → Recoded → List ℕ → Type 0
+Recodes m f lent a out = Sized m (ltb inputMost (length f)) f lent a out

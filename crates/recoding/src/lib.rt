@@ -5,10 +5,10 @@ ghost use mathlib.Core.Bool.{cond};
 ghost use Prim.Native.Nat.{_≤_};
 ghost use lib.ListN.{length};
 ghost use Rattle.codes.specs.Lent.{laid};
-ghost use Rattle.codes.specs.Limits.{varLimit};
+ghost use Rattle.codes.specs.Limits.{limits};
 ghost use Rattle.recode_levels.specs.Levels.{JudgedLevels};
 ghost use Rattle.recoding.specs.Recode.{headRead, allThere, Recodes};
-ghost use Rattle.recoding.specs.Kinds.{ofRecoded, planBy, listBy};
+ghost use Rattle.recoding.specs.Kinds.{ofRecoded, planBy, plannedList};
 ghost use Rattle.recoding.specs.Promises.{WriteBackPromise, ReloadPromise};
 use codes::limits;
 use codes::refusal;
@@ -39,8 +39,8 @@ pub const SLOTS: usize = 4096;
 
 // Reads the header for the level count and the level list, which is laid over the front of a list.
 fn plan_levels(f: &[u8], list: &mut [u16]) -> Plan
-    ensures { λ r. ⌜ r ≡ planBy (headRead (now (f .entry))) (headRead (now (f .entry)) .answer) ⌝ }
-    ensures { λ _. ⌜ now (list .exit) ≡ laid (listBy (headRead (now (f .entry))) (headRead (now (f .entry)) .answer)) (now (list .entry)) ⌝ }
+    ensures { λ r. ⌜ r ≡ planBy (headRead limits (now (f .entry))) (headRead limits (now (f .entry)) .answer) ⌝ }
+    ensures { λ _. ⌜ now (list .exit) ≡ laid (plannedList (headRead limits (now (f .entry)))) (now (list .entry)) ⌝ }
 {
     let mut ids = [0u32; limits::VAR_LIMIT];
     let mut order = [0u32; limits::VAR_LIMIT];
@@ -235,7 +235,7 @@ fn reload(f: &[u8], list: &[u16], levels: u16, out: &mut [u8]) -> Recoded
 
 // Reads a file and writes it again, as text of version 2.0.
 pub fn recode(f: &[u8], out: &mut [u8]) -> Recoded
-    ensures { λ r. ⌜ Recodes (now (f .entry)) (length (now (out .entry))) (ofRecoded r) (now (out .exit)) ⌝ }
+    ensures { λ r. ⌜ Recodes limits (now (f .entry)) (length (now (out .entry))) (ofRecoded r) (now (out .exit)) ⌝ }
 {
     if INPUT_MOST < f.len() {
         zeros::clear_bytes(out);

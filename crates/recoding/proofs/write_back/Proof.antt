@@ -2,6 +2,7 @@
 use mathlib.Core.Path.{_≡_, refl, sym, ap}
 use borrow.Author.Needs.{needs}
 use lib.ListN.{length}
+use Rattle.codes.specs.Limits.{limits}
 use Rattle.store.specs.Store.{Store, store}
 use Rattle.calls.specs.Calls.{Export}
 use Rattle.exporter.specs.Promise.{ofExported}
@@ -112,7 +113,7 @@ abbrev σ : tie.Start → Store
 
 -- what the export leaves, whatever its answer
 exports : (c : tie.After-export) (x : Recoded) → x ≡ ofRead (ofExported (c .export .result))
-    → ExportingAgain (named-export (start (counted (parts c)))) (σ (start (counted (parts c)))) x
+    → ExportingAgain limits (named-export (start (counted (parts c)))) (σ (start (counted (parts c)))) x
     (c .export .last .1 .1 .1 .1 .1 .1 .1 .1 .1 .1 .1 .1 .1 .1 .1 .1 .1 .0)
 exports c x q =
     let p = parts c in

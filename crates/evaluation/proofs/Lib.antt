@@ -1,4 +1,3 @@
 pub mod Walk
-pub mod Stretch
 pub mod Evaluating
 pub mod SettingBytes

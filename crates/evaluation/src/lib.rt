@@ -1,15 +1,15 @@
 // Evaluation: what an edge answers at a setting (in the field's words an assignment).
 ghost use mathlib.Core.Path.{_≡_};
-ghost use mathlib.Core.Bool.{_&&_, cond};
-ghost use Prim.Native.Nat.{_≤_};
+ghost use mathlib.Core.Bool.{_&&_, xor};
+ghost use Prim.Native.Nat.{_<_};
 ghost use lib.Dec.{leb, eqb};
 ghost use lib.ListN.{length};
-ghost use lib.IntN.{pos, negℤ, natAbs};
+ghost use lib.IntN.{natAbs};
 ghost use Rattle.edges.specs.Edge.{IsEdge};
 ghost use Rattle.store.specs.Store.{slots};
 ghost use Rattle.store.specs.Meaning.{settingOf, node, answer};
 ghost use Rattle.evaluation.specs.Evaluation.{onlyBits};
-ghost use Rattle.evaluation.specs.Evaluated.{child, Walks, LeadsDown};
+ghost use Rattle.evaluation.specs.Evaluated.{Walks, slotsBehind, settingBehind};
 ghost use Rattle.evaluation.specs.Promises.{EvaluationPromise};
 use codes::refusal;
 use edges::Edge;
@@ -21,9 +21,6 @@ pub enum Evaluation {
     Refused(u8),
 }
 
-// So many levels are walked between two calls: a call for each level would take more time, and stack for each.
-const STRETCH: u32 = 64;
-
 // The node of an edge. A walk asks at each level, and meets nothing but edges: a test for the least number would be lost time.
 fn node_of(e: Edge) -> Index
     requires { ⌜ IsEdge e ⌝ }
@@ -32,66 +29,61 @@ fn node_of(e: Edge) -> Index
     if e < 0 { (-e) as Index } else { e as Index }
 }
 
-// The edge to a node, with or without a minus.
-fn signed(minus: bool, n: Index) -> Edge
-    requires { ⌜ IsEdge (pos n) ⌝ }
-    ensures { λ r. ⌜ r ≡ cond minus (negℤ (pos n)) (pos n) ⌝ }
+// Is a level yes?
+fn is_yes(setting: &[u8], l: u16) -> bool
+    requires { ⌜ l < length (now setting) ⌝ }
+    ensures { λ r. ⌜ r ≡ settingOf (now (setting .entry)) l ⌝ }
 {
-    if minus { -(n as Edge) } else { n as Edge }
+    setting[l as usize] == 1
 }
 
-// The edge that a node's answer comes from.
-fn child_at(level: &[u16], then: &[Edge], els: &[Edge], setting: &[u8], n: Index) -> Edge
-    requires { ⌜ 2 ≤ n ⌝ }
-    requires { ⌜ Walks (now level) (now then) (now els) (now setting) n ⌝ }
-    ensures { λ r. ⌜ r ≡ child (slots (now (level .entry)) (now (then .entry)) (now (els .entry))) (settingOf (now (setting .entry))) n ⌝ }
+// An edge's answer is its node's, turned over under a minus. This and the next function call each other, the node number falling. Each takes
+// along whether the minuses so far are odd in number, so that nothing is left to do after a call, and each list behind a reference: a slice
+// that is handed on is copied to the stack. So the two are compiled to one loop, with no stack for a level.
+fn eval_edge(
+    level: &&[u16],
+    then: &&[Edge],
+    els: &&[Edge],
+    setting: &&[u8],
+    odd: bool,
+    e: Edge,
+) -> bool
+    requires { ⌜ Walks (now (now level)) (now (now then)) (now (now els)) (now (now setting)) (natAbs e) ⌝ }
+    ensures { λ r. ⌜ r ≡ xor odd (answer (slotsBehind level then els) (settingBehind setting) e) ⌝ }
 {
-    let i = n as usize - 1;
-    let l = level[i] as usize;
-    if setting[l] == 1 { then[i] } else { els[i] }
+    let minus = edges::is_minus(e);
+    eval_node(level, then, els, setting, odd != minus, node_of(e))
 }
 
-// The edge that a stretch of the walk leads to from node n: it answers as the node does. The walk carries a node's number, and apart from it
-// whether the minuses so far are odd in number.
-fn descend(level: &[u16], then: &[Edge], els: &[Edge], setting: &[u8], n: Index) -> Edge
-    requires { ⌜ 2 ≤ n ⌝ }
-    requires { ⌜ Walks (now level) (now then) (now els) (now setting) n ⌝ }
-    ensures { λ r. ⌜ LeadsDown (slots (now (level .entry)) (now (then .entry)) (now (els .entry))) (settingOf (now (setting .entry))) n r ⌝ }
+// Node 1 is yes. Another node's answer is that of its then edge where its level is yes, else of its else edge.
+fn eval_node(
+    level: &&[u16],
+    then: &&[Edge],
+    els: &&[Edge],
+    setting: &&[u8],
+    odd: bool,
+    n: Index,
+) -> bool
+    requires { ⌜ Walks (now (now level)) (now (now then)) (now (now els)) (now (now setting)) n ⌝ }
+    ensures { λ r. ⌜ r ≡ xor odd (node (slotsBehind level then els) (settingBehind setting) n) ⌝ }
 {
-    let mut at = n;
-    let mut odd = false;
-    let mut k: u32 = 0;
-    while k < STRETCH {
-        if at <= 1 {
-            return signed(odd, at);
-        }
-        let e = child_at(level, then, els, setting, at);
-        odd = odd != edges::is_minus(e);
-        at = node_of(e);
-        k += 1;
+    if n <= 1 {
+        return !odd;
     }
-    signed(odd, at)
+    let i = n as usize - 1;
+    if is_yes(*setting, level[i]) {
+        eval_edge(level, then, els, setting, odd, then[i])
+    } else {
+        eval_edge(level, then, els, setting, odd, els[i])
+    }
 }
 
-// An edge's answer is its node's, turned over under a minus.
-pub fn eval_edge(level: &[u16], then: &[Edge], els: &[Edge], setting: &[u8], e: Edge) -> bool
+// A root's answer: the walk begins with no minus.
+fn eval_root(level: &[u16], then: &[Edge], els: &[Edge], setting: &[u8], e: Edge) -> bool
     requires { ⌜ Walks (now level) (now then) (now els) (now setting) (natAbs e) ⌝ }
     ensures { λ r. ⌜ r ≡ answer (slots (now (level .entry)) (now (then .entry)) (now (els .entry))) (settingOf (now (setting .entry))) e ⌝ }
 {
-    let a = eval_node(level, then, els, setting, edges::magnitude(e));
-    if edges::is_minus(e) { !a } else { a }
-}
-
-// A node's answer is that of the edge that the walk leads to; node 1 is yes.
-pub fn eval_node(level: &[u16], then: &[Edge], els: &[Edge], setting: &[u8], n: Index) -> bool
-    requires { ⌜ Walks (now level) (now then) (now els) (now setting) n ⌝ }
-    ensures { λ r. ⌜ r ≡ node (slots (now (level .entry)) (now (then .entry)) (now (els .entry))) (settingOf (now (setting .entry))) n ⌝ }
-{
-    if n <= 1 {
-        return true;
-    }
-    let e = descend(level, then, els, setting, n);
-    eval_edge(level, then, els, setting, e)
+    eval_edge(&level, &then, &els, &setting, false, e)
 }
 
 // Is each byte 00 or 01?
@@ -149,5 +141,5 @@ pub fn evaluate(
     if !is_setting(levels, setting) {
         return Evaluation::Refused(refusal::BAD_ROOT_OR_SETTING);
     }
-    Evaluation::Answer(eval_edge(level, then, els, setting, root))
+    Evaluation::Answer(eval_root(level, then, els, setting, root))
 }

@@ -6,7 +6,7 @@ use Rattle.evaluation.proofs.evaluate.Statement.{statement}
 use Rattle.evaluation.proofs.evaluate.Tie as tie
 
 -- places of the course, each a few steps back from a later one
-abbrev at-is-setting : tie.After-eval-edge → tie.After-is-setting
+abbrev at-is-setting : tie.After-eval-root → tie.After-is-setting
 at-is-setting p = p .before .before
 
 abbrev at-else1 : tie.After-is-setting → tie.Else1
@@ -50,8 +50,8 @@ returns-3 c = record {
       (c .if3 .taken);
 }
 
-eval-edge-requires : tie.Need-eval-edge-requires
-eval-edge-requires c κs =
+eval-root-requires : tie.Need-eval-root-requires
+eval-root-requires c κs =
     walks
     _
     _
@@ -78,8 +78,8 @@ returns-4 c = record {
       (at-is-setting c .before .if2 .left)
       (at-is-setting c .is-setting .ensures)
       (c .before .if3 .left)
-      (c .eval-edge .result)
-      (c .eval-edge .ensures);
+      (c .eval-root .result)
+      (c .eval-root .ensures);
 }
 
 pub evaluate-spec : {M : Type 1} → statement M
@@ -92,5 +92,5 @@ evaluate-spec =
     returns-2
     is-setting-requires
     returns-3
-    eval-edge-requires
+    eval-root-requires
     returns-4)

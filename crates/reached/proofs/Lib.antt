@@ -1,8 +1,10 @@
+pub mod Children
 pub mod Entries
 pub mod EntrySeats
 pub mod Few
 pub mod Grown
 pub mod Laid
+pub mod Left
 pub mod Marks
 pub mod Meeting
 pub mod Members
@@ -10,3 +12,4 @@ pub mod NodeWalk
 pub mod RootWalk
 pub mod Run
 pub mod WalkExamples
+pub mod Way

@@ -11,9 +11,14 @@ use Rattle.codes.proofs.Lent.{laid-none, length-laid}
 use Rattle.store.specs.Store.{Store}
 use Rattle.reached.specs.Walk.{meet, meetAll, Seen, Meets, ListedNodes, Walks}
 use Rattle.reached.proofs.Marks.{marks-none}
+use Rattle.reached.proofs.Laid.{take-laid}
 use Rattle.reached.proofs.Run.{meet-longer}
 use Rattle.reached.proofs.Meeting.{met-distinct, met-known, met-few}
-use Rattle.reached.proofs.NodeWalk.{listed-over, listed-front, meets}
+use Rattle.reached.proofs.NodeWalk.{listed-over, below-in}
+
+-- listed nodes are the list's front, where there is room for them
+listed-front : {nodes old met marks : List ℕ} {r : ℕ} → ListedNodes nodes old r met marks → length nodes ≤ length old → take r met ≡ nodes
+listed-front {nodes} {old} a h = rw (a .many, a .lies) (take-laid nodes old h)
 
 -- the nodes of the first i roots lie there
 pub record RootsMet (σ : Store) (roots : List ℤ) (old met marks : List ℕ) (at i : ℕ) : Type 0 where
@@ -75,7 +80,13 @@ module _ {σ : Store} {roots : List ℤ} {old met marks : List ℕ} {at i : ℕ}
           let b = w .below in
           let p = w .roots-there i h in
           let l = roots-length in
-          meets b (omega arith) (omega arith) (omega (arith, s .listed .many, few-met)) (rw front seen) (omega arith)
+          record {
+            below = below-in b (length met) (length marks) (omega arith) (omega arith);
+            some = rw e (p .0);
+            there = rw e (p .1);
+            within = omega (arith, s .listed .many, few-met);
+            seen = rw front seen;
+          }
 
       -- and then its nodes lie there too
       pub roots-more : {r : ℕ} {met' marks' : List ℕ} → ListedNodes (meet σ (take at met) k) met r met' marks' → RootsMet σ roots old met' marks' r (i + 1)

@@ -117,6 +117,28 @@ module _ (σ : Store) (f : ℕ) (met : List ℕ) (n : ℕ) where
   unfolding meetBy
   by-inner h e = rw (h, meetBy, ne-eqb n 1 e)
 
+module _ (σ : Store) where
+  -- what was met stays met
+  by-kept : (f : ℕ) (met : List ℕ) (n x : ℕ) → isIn x met ≡ true → isIn x (meetBy f σ met n) ≡ true
+  unfolding meetBy
+  by-kept zero met n x h = h
+  by-kept (suc f) met n x h = go (by-kept f) (case met n)
+    where
+      go : ((m : List ℕ) (k y : ℕ) → isIn y m ≡ true → isIn y (meetBy f σ m k) ≡ true) → Case met n → isIn x (meetBy (suc f) σ met n) ≡ true
+      go under (old p) = rw (by-old σ f met n p) h
+      go under (last p e) = rw (by-last σ f met n p e) (before-in x n met h)
+      go under (inner p e) = rw (by-inner σ f met n p e) (under _ _ x (under _ _ x (before-in x n met h)))
+
+  pub meet-kept : (met : List ℕ) (n x : ℕ) → isIn x met ≡ true → isIn x (meet σ met n) ≡ true
+  unfolding meet
+  meet-kept met n x h = by-kept n met n x h
+
+  -- a node that was met before is passed over
+  pub meet-old : (met : List ℕ) (n : ℕ) → isIn n met ≡ true → meet σ met n ≡ met
+  unfolding meet meetBy
+  meet-old met zero h = refl
+  meet-old met (suc f) h = by-old σ f met (suc f) h
+
 -- Where the children of the nodes up to a count are lower numbers, never 0.
 module _ (σ : Store) (count : ℕ) (descends : (n : ℕ) → 2 ≤ n → n ≤ count → Descends σ n) where
   -- as many steps as a node's number are enough: more of them change nothing
@@ -171,10 +193,6 @@ module _ (σ : Store) (count : ℕ) (descends : (n : ℕ) → 2 ≤ n → n ≤ 
     meet-step : meet σ met n ≡ meetBy (suc n) σ met n
     unfolding meet
     meet-step = enough n (suc n) met n s t (le-refl n) (omega arith)
-
-    -- a node that was met before is passed over
-    pub meet-old : isIn n met ≡ true → meet σ met n ≡ met
-    meet-old h = meet-step ∙ by-old σ n met n h
 
     -- the terminal is met
     pub meet-last : isIn n met ≡ false → n ≡ 1 → meet σ met n ≡ met ++ (n ∷ [])

@@ -1,16 +1,21 @@
 -- What a walk promises.
 use Prim.Native.Nat.{ℕ}
+use mathlib.Core.Path.{_≡_}
 use mathlib.Core.List.{List, []}
 use lib.ListN.{length, replicate, take}
 use lib.IntN.{ℤ}
 use Rattle.store.specs.Store.{Store, store}
 use Rattle.codes.specs.Lent.{Part, old, new}
-use Rattle.reached.specs.Walk.{meet, meetAll, ListedNodes}
+use Rattle.reached.specs.Walk.{meet, meetAll, childrenOf, firstUnmarked, ListedNodes}
 
 module _ (then els : Part (List ℤ)) where
   -- a walk reads no more of a store than its then and else
   abbrev links : Store
   links = store 0 0 [] (old then) (old els) [] []
+
+  -- the first child that has no mark
+  abbrev pub NextChildPromise : Part (List ℕ) → ℕ → ℕ → Type 0
+  NextChildPromise marks n r = r ≡ firstUnmarked (old marks) (childrenOf links n)
 
   -- the node and those under it that weren't listed are, after the first `at`; all that are listed are marked
   abbrev pub MeetPromise : ℕ → Part (List ℕ) → Part (List ℕ) → ℕ → ℕ → Type 0

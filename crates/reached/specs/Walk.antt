@@ -1,5 +1,5 @@
 -- A walk from the roots: roots in their order, a node before its children, all under then before all under else.
-use Prim.Native.Nat.{ℕ, zero, suc, _+_, _≤_, _<_}
+use Prim.Native.Nat.{ℕ, zero, suc, _+_, _-_, _≤_, _<_}
 use mathlib.Core.Path.{_≡_}
 use mathlib.Core.Bool.{Bool, true, false, cond, not}
 use mathlib.Core.List.{List, [], _∷_, _++_}
@@ -41,9 +41,18 @@ meetAll σ met (r ∷ rs) = meetAll σ (meet σ met (natAbs r)) rs
 abbrev pub linked : Store → Store
 linked σ = store 0 0 [] (σ .then) (σ .els) [] []
 
--- a list that marks the numbers of another
+-- a list that marks the numbers of another: 0 is no mark
 abbrev pub Marks : List ℕ → List ℕ → Type 0
-Marks met marks = (i : ℕ) → i < length marks → getD marks i 0 ≡ cond (isIn (i + 1) met) 1 0
+Marks met marks = (i : ℕ) → i < length marks → isIn (i + 1) met ≡ not (eqb (getD marks i 0) 0)
+
+-- the nodes that a node's edges lead to, then before else; the terminal has no edges
+unfoldable pub childrenOf : Store → ℕ → List ℕ
+childrenOf σ n = cond (eqb n 1) [] (natAbs (thenAt σ n) ∷ natAbs (elseAt σ n) ∷ [])
+
+-- the first number of a list that has no mark, 0 for none
+unfoldable pub firstUnmarked : List ℕ → List ℕ → ℕ
+firstUnmarked marks [] = 0
+firstUnmarked marks (n ∷ ns) = cond (eqb (getD marks (n - 1) 0) 0) n (firstUnmarked marks ns)
 
 -- what a walk leans on: children that are lower numbers, never 0; roots among the nodes; and room for each node
 pub record Descends (σ : Store) (n : ℕ) : Type 0 where
@@ -51,6 +60,14 @@ pub record Descends (σ : Store) (n : ℕ) : Type 0 where
   pub then-low : natAbs (thenAt σ n) < n
   pub else-some : 1 ≤ natAbs (elseAt σ n)
   pub else-low : natAbs (elseAt σ n) < n
+
+-- what a look at the children of node n leans on
+pub record Looks (σ : Store) (marks n : ℕ) : Type 0 where
+  pub some : 1 ≤ n
+  pub then-there : n ≤ length (σ .then)
+  pub else-there : n ≤ length (σ .els)
+  pub mark-there : n ≤ marks
+  pub descends : 2 ≤ n → Descends σ n
 
 pub record Below (σ : Store) (met marks : ℕ) : Type 0 where
   pub count : ℕ

@@ -5,8 +5,8 @@ ghost use Prim.Native.Nat.{_-_, _≤_};
 ghost use lib.ListN.{length, getD, replicate};
 ghost use lib.IntN.{pos, natAbs};
 ghost use Rattle.store.specs.Store.{store};
-ghost use Rattle.reached.specs.Walk.{Meets, Walks};
-ghost use Rattle.reached.specs.Promises.{MeetPromise, MeetAllPromise};
+ghost use Rattle.reached.specs.Walk.{Looks, Meets, Walks};
+ghost use Rattle.reached.specs.Promises.{NextChildPromise, MeetPromise, MeetAllPromise};
 use edges::Edge;
 use edges::Index;
 
@@ -18,30 +18,60 @@ fn under(links: &[Edge], n: Index) -> Index
     edges::magnitude(links[n as usize - 1])
 }
 
+// The first child of a node that isn't marked, 0 for none: the terminal has no children.
+fn next_child(then: &[Edge], els: &[Edge], marks: &[Index], n: Index) -> Index
+    requires { ⌜ Looks (store 0 0 [] (now then) (now els) [] []) (length (now marks)) n ⌝ }
+    ensures { λ r. ⌜ NextChildPromise then els marks n r ⌝ }
+{
+    if n == 1 {
+        return 0;
+    }
+    let t = under(then, n);
+    if marks[t as usize - 1] == 0 {
+        return t;
+    }
+    let e = under(els, n);
+    if marks[e as usize - 1] == 0 {
+        return e;
+    }
+    0
+}
+
 // Meets a node, and then all under its then, and then all under its else, but for those that are marked: the numbers of the others go into
-// `met`, from a position on, and are marked. Its depth is bounded by the levels.
+// `met`, from a position on. The mark of each is the node that it was met from, the way back; the first one's is its own number.
 fn meet(
     then: &[Edge],
     els: &[Edge],
-    n: Index,
+    first: Index,
     met: &mut [Index],
     marks: &mut [Index],
     at: usize,
 ) -> usize
-    requires { ⌜ Meets (store 0 0 [] (now then) (now els) [] []) (now met) (now marks) at n ⌝ }
-    ensures { λ r. ⌜ MeetPromise then els n met marks at r ⌝ }
+    requires { ⌜ Meets (store 0 0 [] (now then) (now els) [] []) (now met) (now marks) at first ⌝ }
+    ensures { λ r. ⌜ MeetPromise then els first met marks at r ⌝ }
 {
-    let i = n as usize - 1;
-    if marks[i] != 0 {
+    if marks[first as usize - 1] != 0 {
         return at;
     }
-    marks[i] = 1;
-    met[at] = n;
-    if n == 1 {
-        return at + 1;
+    marks[first as usize - 1] = first;
+    met[at] = first;
+    let mut next = at + 1;
+    let mut n = first;
+    loop {
+        let child = next_child(then, els, marks, n);
+        if child != 0 {
+            marks[child as usize - 1] = n;
+            met[next] = child;
+            next += 1;
+            n = child;
+        } else {
+            let parent = marks[n as usize - 1];
+            if parent == n {
+                return next;
+            }
+            n = parent;
+        }
     }
-    let next = meet(then, els, under(then, n), met, marks, at + 1);
-    meet(then, els, under(els, n), met, marks, next)
 }
 
 // Meets the roots in their order.

@@ -22,7 +22,7 @@ meetNodes σ met [] = met
 meetNodes σ met (n ∷ ns) = meetNodes σ (meet σ met n) ns
 
 -- a node that was met before adds nothing, wherever it stands
-pub nodes-old : (σ : Store) (met : List ℕ) (x : ℕ) (a b : List ℕ) → isIn x met ≡ true → meetNodes σ met (a ++ (x ∷ b)) ≡ meetNodes σ met (a ++ b)
+nodes-old : (σ : Store) (met : List ℕ) (x : ℕ) (a b : List ℕ) → isIn x met ≡ true → meetNodes σ met (a ++ (x ∷ b)) ≡ meetNodes σ met (a ++ b)
 unfolding meetNodes
 nodes-old σ met x [] b h = ap (λ m. meetNodes σ m b) (meet-old σ met x h)
 nodes-old σ met x (n ∷ a) b h = nodes-old σ (meet σ met n) x a b (meet-kept σ met n x h)

@@ -5,6 +5,7 @@ pub mod Few
 pub mod Grown
 pub mod Laid
 pub mod Left
+pub mod Listed
 pub mod Marks
 pub mod Meeting
 pub mod Members

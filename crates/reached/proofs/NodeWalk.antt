@@ -1,36 +1,27 @@
 -- Walks as the code goes them: the nodes met so far are the first entries of a lent list, each is marked, and the marks are the way back.
 use mathlib.Core.Path.{_≡_, refl, sym, ap, _∙_}
-use mathlib.Core.Bool.{true, false}
 use mathlib.Core.List.{List, [], _∷_, _++_}
 use Prim.Native.Nat.{ℕ, _+_, _-_, _≤_, _<_}
 use native.Mathlib.Omega.{arith}
 use native.Mathlib.Nat.{le-refl}
-use native.Mathlib.Numerals.{add-one}
-use lib.ListN.{length, getD, take, set, length-append, length-set}
-use lib.Seq.{length-take-le, take-set-le, take-suc-set, getD-set-same}
+use lib.ListN.{length, getD, take, set, length-set}
+use lib.Seq.{length-take-le, take-set-le, getD-set-same}
 use Rattle.codes.specs.Limits.{nodeLimit}
-use Rattle.codes.specs.Lent.{laid}
-use Rattle.codes.proofs.Lent.{length-laid, laid-more}
+use Rattle.codes.proofs.Lent.{length-laid}
 use Rattle.store.specs.Store.{Store}
-use Rattle.seats.specs.Ordered.{distinct}
-use Rattle.reached.specs.Walk.{isIn, meet, childrenOf, firstUnmarked, Looks, Below, Meets, ListedNodes}
-use Rattle.reached.proofs.Members.{Among, Each, each-more, once-more}
+use Rattle.reached.specs.Walk.{meet, childrenOf, firstUnmarked, Looks, Below, Meets, ListedNodes}
+use Rattle.reached.proofs.Members.{Among, Each}
 use Rattle.reached.proofs.Children.{Lower, children-low}
-use Rattle.reached.proofs.Few.{few}
-use Rattle.reached.proofs.Marks.{marks-in, marks-out, marks-more}
-use Rattle.reached.proofs.Laid.{laid-front, laid-over}
+use Rattle.reached.proofs.Marks.{marks-in}
+use Rattle.reached.proofs.Laid.{laid-front}
 use Rattle.reached.proofs.Run.{meet-old}
 use Rattle.reached.proofs.Left.{meetNodes, First, nodes-new, nodes-marked, nodes-first}
 use Rattle.reached.proofs.Way.{Way, ends, back, way-among, way-end, way-step, way-kept}
-
--- nodes that are listed after others, over which they lie
-pub listed-over : {nodes more old met met' marks marks' : List ℕ} {r r' : ℕ} → ListedNodes nodes old r met marks → length nodes ≤ length more
-    → ListedNodes more met r' met' marks' → ListedNodes more old r' met' marks'
-listed-over {nodes} {more} {old} a h b =
-    record { many = b .many; lies = b .lies ∙ ap (laid more) (a .lies) ∙ laid-over nodes more old h; marked = b .marked }
+use Rattle.reached.proofs.Listed.{Held, listed-over, listed-self, held-new, held-few, held-more}
 
 -- what a walk leans on, in lists of other lengths that have the room
-abbrev pub below-in : {σ : Store} {room many : ℕ} (b : Below σ room many) (room' many' : ℕ) → b .count ≤ room' → b .count ≤ many' → Below σ room' many'
+abbrev pub below-in : {σ : Store} {room many : ℕ} (b : Below σ room many) (room' many' : ℕ) → b .count ≤ room' → b .count ≤ many'
+    → Below σ room' many'
 below-in b room' many' h i =
     record {
       count = b .count;
@@ -47,9 +38,7 @@ pub record Walking (σ : Store) (all old : List ℕ) (many start : ℕ) (met mar
   pub below : Below σ (length old) many
   pub long : length marks ≡ many
   pub nodes : List ℕ
-  pub listed : ListedNodes nodes old at met marks
-  pub known : Each (Among (below .count)) nodes
-  pub once : distinct nodes ≡ true
+  pub held : Held (below .count) nodes old at met marks
   pub grown : start ≤ at
   pub rest : List ℕ
   pub way : Way σ (below .count) marks n rest
@@ -58,7 +47,7 @@ pub record Walking (σ : Store) (all old : List ℕ) (many start : ℕ) (met mar
 module _ {σ : Store} {all old : List ℕ} {many start : ℕ} {met marks : List ℕ} {at n : ℕ} (w : Walking σ all old many start met marks at n) where
   -- the list keeps its length
   pub walk-length : length met ≡ length old
-  walk-length = ap length (w .listed .lies) ∙ length-laid (w .nodes) old
+  walk-length = ap length (w .held .listed .lies) ∙ length-laid (w .nodes) old
 
   -- the node is one of the store's
   here : Among (w .below .count) n
@@ -97,12 +86,12 @@ module _ {σ : Store} {all old : List ℕ} {many start : ℕ} {met marks : List 
     passed-by : meetNodes σ (w .nodes) (w .rest) ≡ all
     passed-by =
         let b = w .below in
-        sym (nodes-marked σ (b .count) (b .descends) (w .nodes) marks (w .listed .marked) marks-reach _ (w .rest) lower-among (sym e ∙ z)) ∙ w .left
+        sym (nodes-marked σ (b .count) (b .descends) (w .nodes) marks (w .held .listed .marked) marks-reach _ (w .rest) lower-among (sym e ∙ z)) ∙ w .left
 
     -- that is nothing at its end
     pub walk-ends : getD marks (n - 1) 0 ≡ n → ListedNodes all old at met marks
     unfolding meetNodes
-    walk-ends q = rw (← (ap (meetNodes σ (w .nodes)) (sym (way-end (w .way) q)) ∙ passed-by)) (w .listed)
+    walk-ends q = rw (← (ap (meetNodes σ (w .nodes)) (sym (way-end (w .way) q)) ∙ passed-by)) (w .held .listed)
 
     module _ (q : getD marks (n - 1) 0 ≡ n → ⊥) where
       -- else it goes up ..
@@ -117,9 +106,7 @@ module _ {σ : Store} {all old : List ℕ} {many start : ℕ} {met marks : List 
             below = w .below;
             long = w .long;
             nodes = w .nodes;
-            listed = w .listed;
-            known = w .known;
-            once = w .once;
+            held = w .held;
             grown = w .grown;
             rest = s .more;
             way = s .on;
@@ -128,10 +115,10 @@ module _ {σ : Store} {all old : List ℕ} {many start : ℕ} {met marks : List 
 
   -- Where one of them isn't marked, it goes down to the first such.
   module _ {c : ℕ} (e : c ≡ firstUnmarked marks (childrenOf σ n)) (z : c ≡ 0 → ⊥) where
-    first : First σ (w .below .count) (w .below .descends) (w .nodes) marks (w .listed .marked) marks-reach (childrenOf σ n) (w .rest) c
+    first : First σ (w .below .count) (w .below .descends) (w .nodes) marks (w .held .listed .marked) marks-reach (childrenOf σ n) (w .rest) c
     first =
         let b = w .below in
-        nodes-first σ (b .count) (b .descends) (w .nodes) marks (w .listed .marked) marks-reach (childrenOf σ n) (w .rest) c lower-among e z
+        nodes-first σ (b .count) (b .descends) (w .nodes) marks (w .held .listed .marked) marks-reach (childrenOf σ n) (w .rest) c lower-among e z
 
     child : Lower n c
     child = lower c (first .one)
@@ -143,38 +130,18 @@ module _ {σ : Store} {all old : List ℕ} {many start : ℕ} {met marks : List 
     pub walk-mark : c ≤ length marks
     walk-mark = omega (arith, child-among, marks-reach)
 
-    -- it wasn't met before
-    new : isIn c (w .nodes) ≡ false
-    new = marks-out (w .nodes) marks c (w .listed .marked) (child .0) walk-mark (first .free)
-
-    more-known : Each (Among (w .below .count)) (w .nodes ++ (c ∷ []))
-    more-known = each-more (Among (w .below .count)) c (w .nodes) child-among (w .known)
-
-    more-once : distinct (w .nodes ++ (c ∷ [])) ≡ true
-    more-once = once-more c (w .nodes) new (w .once)
-
-    more-long : length (w .nodes ++ (c ∷ [])) ≡ at + 1
-    more-long = length-append (w .nodes) (c ∷ []) ∙ ap (λ k. k + 1) (sym (w .listed .many))
-
     -- there is room for it
     pub walk-room : (at < length old) × (at < nodeLimit)
-    walk-room = let b = w .below in let f = few (b .count) _ more-known more-once in (omega (arith, more-long), omega (arith, more-long))
+    walk-room = let b = w .below in let f = held-few (w .held) child-among marks-reach (first .free) in (omega arith, omega arith)
 
+    -- it is stored, and its mark is the node that it is met from
     pub walk-down : Walking σ all old many start (set met at c) (set marks (c - 1) n) (at + 1) c
     walk-down =
-        let b = w .below in
-        let l = w .listed in
         record {
-          below = b;
+          below = w .below;
           long = length-set marks (c - 1) n ∙ w .long;
           nodes = w .nodes ++ (c ∷ []);
-          listed = record {
-            many = sym more-long;
-            lies = rw (l .lies, l .many) (laid-more (w .nodes) old c);
-            marked = marks-more (w .nodes) marks c (l .marked) (child .0) walk-mark n (here .0);
-          };
-          known = more-known;
-          once = more-once;
+          held = held-more (w .held) child-among marks-reach (first .free) n (here .0);
           grown = omega (arith, w .grown);
           rest = childrenOf σ n ++ w .rest;
           way =
@@ -185,48 +152,34 @@ module _ {σ : Store} {all old : List ℕ} {many start : ℕ} {met marks : List 
 
 -- A walk on to node n.
 module _ {σ : Store} {met marks : List ℕ} {at n : ℕ} (m : Meets σ met marks at n) where
-  -- the node can have a mark
-  marks-long : n ≤ length marks
-  marks-long = let b = m .below in omega (arith, m .there)
+  here-among : Among (m .below .count) n
+  here-among = (m .some, m .there)
 
-  -- there are as many nodes as the position says
-  seen-long : length (take at met) ≡ at
-  seen-long = length-take-le at met (m .within)
+  marks-long : m .below .count ≤ length marks
+  marks-long = m .below .marks-long
+
+  -- the nodes met so far
+  before : Held (m .below .count) (take at met) met at met marks
+  before =
+      record {
+        known = m .seen .known;
+        once = m .seen .once;
+        listed = record { many = sym (length-take-le at met (m .within)); lies = sym (laid-front at met); marked = m .seen .marked };
+      }
 
   -- a node with a mark is passed over
   pub passed : (getD marks (n - 1) 0 ≡ 0 → ⊥) → ListedNodes (meet σ (take at met) n) met at met marks
   passed z =
-      rw (meet-old σ (take at met) n (marks-in (take at met) marks n (m .seen .marked) (m .some) marks-long z))
-      (record { many = sym seen-long; lies = sym (laid-front at met); marked = m .seen .marked })
+      let h = marks-in (take at met) marks n (m .seen .marked) (m .some) (omega (arith, m .there, marks-long)) z in
+      rw (meet-old σ (take at met) n h) (before .listed)
 
   -- A node without a mark is stored and marked.
   module _ (z : getD marks (n - 1) 0 ≡ 0) where
-    -- it wasn't met before
-    unmet : isIn n (take at met) ≡ false
-    unmet = marks-out (take at met) marks n (m .seen .marked) (m .some) marks-long z
-
-    -- it is one of the nodes met so far now
-    stored-known : Each (Among (m .below .count)) (take at met ++ (n ∷ []))
-    stored-known = each-more (Among (m .below .count)) n (take at met) (m .some, m .there) (m .seen .known)
-
-    stored-once : distinct (take at met ++ (n ∷ [])) ≡ true
-    stored-once = once-more n (take at met) unmet (m .seen .once)
-
-    -- of which there is one more
-    stored-long : length (take at met ++ (n ∷ [])) ≡ at + 1
-    stored-long = length-append (take at met) (n ∷ []) ∙ ap (λ k. k + 1) seen-long
-
-    -- so there is room for it
     pub stored-room : at < length met
-    stored-room = let b = m .below in omega (arith, stored-long, few (b .count) _ stored-known stored-once)
+    stored-room = let b = m .below in omega (arith, held-few before here-among marks-long z)
 
-    stored : ListedNodes (take at met ++ (n ∷ [])) met (at + 1) (set met at n) (set marks (n - 1) n)
-    stored =
-        record {
-          many = sym stored-long;
-          lies = rw (laid-front at met, seen-long) at (laid-more (take at met) met n);
-          marked = marks-more (take at met) marks n (m .seen .marked) (m .some) marks-long n (m .some);
-        }
+    stored : Held (m .below .count) (take at met ++ (n ∷ [])) met (at + 1) (set met at n) (set marks (n - 1) n)
+    stored = held-more before here-among marks-long z n (m .some)
 
     -- the walk begins with it ..
     pub walk-starts : Walking σ (meet σ (take at (set met at n)) n) (set met at n) (length (set marks (n - 1) n)) (at + 1)
@@ -234,31 +187,22 @@ module _ {σ : Store} {met marks : List ℕ} {at n : ℕ} (m : Meets σ met mark
     unfolding meetNodes
     walk-starts =
         let b = m .below in
-        let a : Among (b .count) n = (m .some, m .there) in
         record {
           below = below-in b _ _ (omega (arith, length-set met at n)) (omega (arith, length-set marks (n - 1) n));
           long = refl;
           nodes = take at met ++ (n ∷ []);
-          listed = record {
-            many = sym stored-long;
-            lies =
-                sym (laid-front (at + 1) (set met at n))
-                ∙ ap (λ l. laid l (set met at n)) (rw add-one (take-suc-set met at n stored-room));
-            marked = stored .marked;
-          };
-          known = stored-known;
-          once = stored-once;
+          held = record { known = stored .known; once = stored .once; listed = listed-self (stored .listed) };
           grown = le-refl (at + 1);
           rest = [];
-          way = ends a (getD-set-same marks (n - 1) n 0 (omega (arith, m .some, marks-long)));
+          way = ends here-among (getD-set-same marks (n - 1) n 0 (omega (arith, here-among, marks-long)));
           left =
-              sym (nodes-new σ (b .count) (b .descends) (take at met) [] n a unmet)
+              sym (nodes-new σ (b .count) (b .descends) (take at met) [] n here-among (held-new before here-among marks-long z))
               ∙ ap (λ l. meet σ l n) (sym (take-set-le at met at n (le-refl at)));
         }
 
     -- .. and has met what was to be met where it ends
-    pub walk-met : {r : ℕ} {met' marks' : List ℕ} → at + 1 ≤ r → ListedNodes (meet σ (take at (set met at n)) n) (set met at n) r met' marks'
-        → ListedNodes (meet σ (take at met) n) met r met' marks'
+    pub walk-met : {r : ℕ} {met' marks' : List ℕ} → at + 1 ≤ r
+        → ListedNodes (meet σ (take at (set met at n)) n) (set met at n) r met' marks' → ListedNodes (meet σ (take at met) n) met r met' marks'
     walk-met h l =
         let k = rw (take-set-le at met at n (le-refl at)) at l in
-        listed-over stored (omega (arith, stored-long, k .many)) k
+        listed-over (stored .listed) (omega (arith, stored .listed .many, k .many)) k

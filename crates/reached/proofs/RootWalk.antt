@@ -14,7 +14,8 @@ use Rattle.reached.proofs.Marks.{marks-none}
 use Rattle.reached.proofs.Laid.{take-laid}
 use Rattle.reached.proofs.Run.{meet-longer}
 use Rattle.reached.proofs.Meeting.{met-distinct, met-known, met-few}
-use Rattle.reached.proofs.NodeWalk.{listed-over, below-in}
+use Rattle.reached.proofs.Listed.{listed-over}
+use Rattle.reached.proofs.NodeWalk.{below-in}
 
 -- listed nodes are the list's front, where there is room for them
 listed-front : {nodes old met marks : List ℕ} {r : ℕ} → ListedNodes nodes old r met marks → length nodes ≤ length old → take r met ≡ nodes

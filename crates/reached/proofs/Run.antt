@@ -181,7 +181,7 @@ module _ (σ : Store) (count : ℕ) (descends : (n : ℕ) → 2 ≤ n → n ≤ 
 
   module _ (met : List ℕ) (n : ℕ) (s : 1 ≤ n) (t : n ≤ count) where
     -- what is met after a node is a walk to it
-    pub meet-run : {all : List ℕ} (rest : List ℕ) → Run σ all (meet σ met n) rest → Run σ all met (n ∷ rest)
+    meet-run : {all : List ℕ} (rest : List ℕ) → Run σ all (meet σ met n) rest → Run σ all met (n ∷ rest)
     unfolding meet
     meet-run rest r = by-run n met rest n s t (le-refl n) r
 

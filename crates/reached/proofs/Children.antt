@@ -38,32 +38,32 @@ children-low σ count descends n a = go (ℕ-discrete n 1)
 
 -- A child of node n can have a mark.
 module _ {σ : Store} {many n : ℕ} (l : Looks σ many n) (e : n ≡ 1 → ⊥) {k : ℕ} where
-  pub then-there : k ≡ natAbs (thenAt σ n) → Among many k
-  then-there q = let d = l .descends (omega (arith, l .some, e)) in let m = l .mark-there in (omega arith, omega arith)
+  pub then-reach : k ≡ natAbs (thenAt σ n) → Among many k
+  then-reach q = let d = l .descends (omega (arith, l .some, e)) in let m = l .mark-there in (omega arith, omega arith)
 
-  pub else-there : k ≡ natAbs (elseAt σ n) → Among many k
-  else-there q = let d = l .descends (omega (arith, l .some, e)) in let m = l .mark-there in (omega arith, omega arith)
+  pub else-reach : k ≡ natAbs (elseAt σ n) → Among many k
+  else-reach q = let d = l .descends (omega (arith, l .some, e)) in let m = l .mark-there in (omega arith, omega arith)
 
 -- The children of node n, and their marks.
 module _ (σ : Store) (marks : List ℕ) (n : ℕ) where
   -- the terminal has none
-  pub first-last : n ≡ 1 → 0 ≡ firstUnmarked marks (childrenOf σ n)
+  pub child-last : n ≡ 1 → 0 ≡ firstUnmarked marks (childrenOf σ n)
   unfolding firstUnmarked
-  first-last e = rw (children-last σ n e)
+  child-last e = rw (children-last σ n e)
 
   -- Any other node has a then.
   module _ (e : n ≡ 1 → ⊥) {t : ℕ} (p : t ≡ natAbs (thenAt σ n)) where
-    -- it is the first where it has none
-    pub first-then : getD marks (t - 1) 0 ≡ 0 → t ≡ firstUnmarked marks (childrenOf σ n)
+    -- it is the first where it has no mark
+    pub child-then : getD marks (t - 1) 0 ≡ 0 → t ≡ firstUnmarked marks (childrenOf σ n)
     unfolding firstUnmarked
-    first-then z = rw (children-inner σ n e, ← p, eq-eqb _ 0 z)
+    child-then z = rw (children-inner σ n e, ← p, eq-eqb _ 0 z)
 
-    -- Else the else comes.
+    -- Where it has one the else comes.
     module _ (z : getD marks (t - 1) 0 ≡ 0 → ⊥) {k : ℕ} (q : k ≡ natAbs (elseAt σ n)) where
-      pub first-else : getD marks (k - 1) 0 ≡ 0 → k ≡ firstUnmarked marks (childrenOf σ n)
+      pub child-else : getD marks (k - 1) 0 ≡ 0 → k ≡ firstUnmarked marks (childrenOf σ n)
       unfolding firstUnmarked
-      first-else y = rw (children-inner σ n e, ← p, ← q, ne-eqb _ 0 z, eq-eqb _ 0 y)
+      child-else y = rw (children-inner σ n e, ← p, ← q, ne-eqb _ 0 z, eq-eqb _ 0 y)
 
-      pub first-none : (getD marks (k - 1) 0 ≡ 0 → ⊥) → 0 ≡ firstUnmarked marks (childrenOf σ n)
+      pub child-none : (getD marks (k - 1) 0 ≡ 0 → ⊥) → 0 ≡ firstUnmarked marks (childrenOf σ n)
       unfolding firstUnmarked
-      first-none y = rw (children-inner σ n e, ← p, ← q, ne-eqb _ 0 z, ne-eqb _ 0 y)
+      child-none y = rw (children-inner σ n e, ← p, ← q, ne-eqb _ 0 z, ne-eqb _ 0 y)

@@ -27,13 +27,13 @@ listed-self {nodes} {old} a =
     record { many = a .many; lies = a .lies ∙ sym (ap (laid nodes) (a .lies) ∙ laid-over nodes nodes old (le-refl _)); marked = a .marked }
 
 -- listed nodes that are the store's, none twice
-pub record Held (count : ℕ) (nodes old : List ℕ) (at : ℕ) (met marks : List ℕ) : Type 0 where
+pub record NodesHeld (count : ℕ) (nodes old : List ℕ) (at : ℕ) (met marks : List ℕ) : Type 0 where
   pub known : Each (Among count) nodes
   pub once : distinct nodes ≡ true
   pub listed : ListedNodes nodes old at met marks
 
 -- One that has no mark comes to them.
-module _ {count : ℕ} {nodes old : List ℕ} {at : ℕ} {met marks : List ℕ} (h : Held count nodes old at met marks)
+module _ {count : ℕ} {nodes old : List ℕ} {at : ℕ} {met marks : List ℕ} (h : NodesHeld count nodes old at met marks)
     {n : ℕ} (a : Among count n) (long : count ≤ length marks) (z : getD marks (n - 1) 0 ≡ 0) where
   reach : n ≤ length marks
   reach = omega (arith, a .1)
@@ -56,8 +56,8 @@ module _ {count : ℕ} {nodes old : List ℕ} {at : ℕ} {met marks : List ℕ} 
   held-few = omega (arith, more-long, few count _ more-known more-once)
 
   -- it is stored after them, with any mark
-  pub held-more : (x : ℕ) → 1 ≤ x → Held count (nodes ++ (n ∷ [])) old (at + 1) (set met at n) (set marks (n - 1) x)
-  held-more x o =
+  pub held-one-more : (x : ℕ) → 1 ≤ x → NodesHeld count (nodes ++ (n ∷ [])) old (at + 1) (set met at n) (set marks (n - 1) x)
+  held-one-more x o =
       let l = h .listed in
       record {
         known = more-known;

@@ -17,7 +17,7 @@ use Rattle.reached.proofs.Laid.{laid-front}
 use Rattle.reached.proofs.Run.{meet-old}
 use Rattle.reached.proofs.Left.{meetNodes, First, nodes-new, nodes-marked, nodes-first}
 use Rattle.reached.proofs.Way.{Way, ends, back, way-among, way-end, way-step, way-kept}
-use Rattle.reached.proofs.Listed.{Held, listed-over, listed-self, held-new, held-few, held-more}
+use Rattle.reached.proofs.Listed.{NodesHeld, listed-over, listed-self, held-new, held-few, held-one-more}
 
 -- what a walk leans on, in lists of other lengths that have the room
 abbrev pub below-in : {σ : Store} {room many : ℕ} (b : Below σ room many) (room' many' : ℕ) → b .count ≤ room' → b .count ≤ many'
@@ -38,7 +38,7 @@ pub record Walking (σ : Store) (all old : List ℕ) (many start : ℕ) (met mar
   pub below : Below σ (length old) many
   pub long : length marks ≡ many
   pub nodes : List ℕ
-  pub held : Held (below .count) nodes old at met marks
+  pub held : NodesHeld (below .count) nodes old at met marks
   pub grown : start ≤ at
   pub rest : List ℕ
   pub way : Way σ (below .count) marks n rest
@@ -99,8 +99,8 @@ module _ {σ : Store} {all old : List ℕ} {many start : ℕ} {met marks : List 
       walk-higher = way-step (w .way) q .higher
 
       -- .. to the node that this one was met from
-      pub walk-back : Walking σ all old many start met marks at (getD marks (n - 1) 0)
-      walk-back =
+      pub walk-up : Walking σ all old many start met marks at (getD marks (n - 1) 0)
+      walk-up =
           let s = way-step (w .way) q in
           record {
             below = w .below;
@@ -141,7 +141,7 @@ module _ {σ : Store} {all old : List ℕ} {many start : ℕ} {met marks : List 
           below = w .below;
           long = length-set marks (c - 1) n ∙ w .long;
           nodes = w .nodes ++ (c ∷ []);
-          held = held-more (w .held) child-among marks-reach (first .free) n (here .0);
+          held = held-one-more (w .held) child-among marks-reach (first .free) n (here .0);
           grown = omega (arith, w .grown);
           rest = childrenOf σ n ++ w .rest;
           way =
@@ -159,7 +159,7 @@ module _ {σ : Store} {met marks : List ℕ} {at n : ℕ} (m : Meets σ met mark
   marks-long = m .below .marks-long
 
   -- the nodes met so far
-  before : Held (m .below .count) (take at met) met at met marks
+  before : NodesHeld (m .below .count) (take at met) met at met marks
   before =
       record {
         known = m .seen .known;
@@ -178,8 +178,8 @@ module _ {σ : Store} {met marks : List ℕ} {at n : ℕ} (m : Meets σ met mark
     pub stored-room : at < length met
     stored-room = let b = m .below in omega (arith, held-few before here-among marks-long z)
 
-    stored : Held (m .below .count) (take at met ++ (n ∷ [])) met (at + 1) (set met at n) (set marks (n - 1) n)
-    stored = held-more before here-among marks-long z n (m .some)
+    stored : NodesHeld (m .below .count) (take at met ++ (n ∷ [])) met (at + 1) (set met at n) (set marks (n - 1) n)
+    stored = held-one-more before here-among marks-long z n (m .some)
 
     -- the walk begins with it ..
     pub walk-starts : Walking σ (meet σ (take at (set met at n)) n) (set met at n) (length (set marks (n - 1) n)) (at + 1)

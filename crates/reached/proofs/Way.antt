@@ -18,7 +18,7 @@ pub data Way (σ : Store) (count : ℕ) (marks : List ℕ) : ℕ → List ℕ �
       → Way σ count marks n (childrenOf σ p ++ rest)
 
 -- one step of it, to a higher number
-pub record Step (σ : Store) (count : ℕ) (marks : List ℕ) (n : ℕ) (rest : List ℕ) : Type 0 where
+pub record WayUp (σ : Store) (count : ℕ) (marks : List ℕ) (n : ℕ) (rest : List ℕ) : Type 0 where
   pub more : List ℕ
   pub higher : n < getD marks (n - 1) 0
   pub on : Way σ count marks (getD marks (n - 1) 0) more
@@ -36,7 +36,7 @@ module _ {σ : Store} {count : ℕ} {marks : List ℕ} where
   way-end (back a h e w) q = absurd (omega arith)
 
   -- anywhere else it leads on
-  pub way-step : {n : ℕ} {rest : List ℕ} → Way σ count marks n rest → (getD marks (n - 1) 0 ≡ n → ⊥) → Step σ count marks n rest
+  pub way-step : {n : ℕ} {rest : List ℕ} → Way σ count marks n rest → (getD marks (n - 1) 0 ≡ n → ⊥) → WayUp σ count marks n rest
   way-step (ends a e) q = absurd (q e)
   way-step (back {rest = more} a h e w) q = record { more = more; higher = rw e h; on = rw e w; next = rw e }
 

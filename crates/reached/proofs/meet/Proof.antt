@@ -21,7 +21,7 @@ use Rattle.reached.proofs.NodeWalk.{
   walk-looks,
   walk-ends,
   walk-higher,
-  walk-back,
+  walk-up,
   walk-mark,
   walk-room,
   walk-down,
@@ -139,12 +139,12 @@ loop-less-2 c =
     let b = c .before .before in
     let w = at-loop (b .before) .loop .inv in
     let e = b .before .next-child .ensures in
-    omega (arith, walk-higher w e (b .if2 .left) (c .if3 .left), walk-small (walk-back w e (b .if2 .left) (c .if3 .left)))
+    omega (arith, walk-higher w e (b .if2 .left) (c .if3 .left), walk-small (walk-up w e (b .if2 .left) (c .if3 .left)))
 
 loop-again-2 : tie.Need-loop-again-2 Inv-loop μ-loop
 loop-again-2 c =
     let b = c .before .before in
-    walk-back (at-loop (b .before) .loop .inv) (b .before .next-child .ensures) (b .if2 .left) (c .if3 .left)
+    walk-up (at-loop (b .before) .loop .inv) (b .before .next-child .ensures) (b .if2 .left) (c .if3 .left)
 
 pub meet-spec : {M : Type 1} → statement M
 meet-spec =

@@ -2,7 +2,7 @@
 use Prim.Native.Nat.{_-_}
 use native.Mathlib.Omega.{arith}
 use borrow.Author.Needs.{needs}
-use Rattle.reached.proofs.Children.{then-there, else-there, first-last, first-then, first-else, first-none}
+use Rattle.reached.proofs.Children.{then-reach, else-reach, child-last, child-then, child-else, child-none}
 use Rattle.reached.proofs.next_child.Statement.{statement}
 use Rattle.reached.proofs.next_child.Tie as tie
 
@@ -14,7 +14,7 @@ abbrev at-under : tie.After-under2 → tie.After-under
 at-under p = p .before .before .before
 
 returns : tie.Need-returns
-returns c = first-last _ _ _ (c .if1 .taken)
+returns c = child-last _ _ _ (c .if1 .taken)
 
 under-requires : tie.Need-under-requires
 under-requires c κs = search needs
@@ -23,17 +23,17 @@ cast-if2 : tie.Need-cast-if2
 cast-if2 c = search needs
 
 sub-if2 : tie.Need-sub-if2
-sub-if2 c = then-there (at-start c .pre) (c .before .if1 .left) (c .under .ensures) .0
+sub-if2 c = then-reach (at-start c .pre) (c .before .if1 .left) (c .under .ensures) .0
 
 mul-if2 : tie.Need-mul-if2
 mul-if2 c = search needs
 
 shared-slice-read-if2 : tie.Need-shared-slice-read-if2
 shared-slice-read-if2 c =
-    omega (arith, then-there (at-start (c .before) .pre) (c .before .before .if1 .left) (c .before .under .ensures))
+    omega (arith, then-reach (at-start (c .before) .pre) (c .before .before .if1 .left) (c .before .under .ensures))
 
 returns-2 : tie.Need-returns-2
-returns-2 c = let u = c .before .before in first-then _ _ _ (u .before .if1 .left) (u .under .ensures) (c .if2 .taken)
+returns-2 c = let u = c .before .before in child-then _ _ _ (u .before .if1 .left) (u .under .ensures) (c .if2 .taken)
 
 under-requires-2 : tie.Need-under-requires-2
 under-requires-2 c κs = search needs
@@ -44,7 +44,7 @@ cast-if3 c = search needs
 sub-if3 : tie.Need-sub-if3
 sub-if3 c =
     let u = at-under c in
-    else-there (at-start u .pre) (u .before .if1 .left) (c .under2 .ensures) .0
+    else-reach (at-start u .pre) (u .before .if1 .left) (c .under2 .ensures) .0
 
 mul-if3 : tie.Need-mul-if3
 mul-if3 c = search needs
@@ -52,19 +52,19 @@ mul-if3 c = search needs
 shared-slice-read-if3 : tie.Need-shared-slice-read-if3
 shared-slice-read-if3 c =
     let u = at-under (c .before) in
-    omega (arith, else-there (at-start u .pre) (u .before .if1 .left) (c .before .under2 .ensures))
+    omega (arith, else-reach (at-start u .pre) (u .before .if1 .left) (c .before .under2 .ensures))
 
 returns-3 : tie.Need-returns-3
 returns-3 c =
     let v = c .before .before in
     let u = at-under v in
-    first-else _ _ _ (u .before .if1 .left) (u .under .ensures) (v .before .if2 .left) (v .under2 .ensures) (c .if3 .taken)
+    child-else _ _ _ (u .before .if1 .left) (u .under .ensures) (v .before .if2 .left) (v .under2 .ensures) (c .if3 .taken)
 
 returns-4 : tie.Need-returns-4
 returns-4 c =
     let v = c .before .before in
     let u = at-under v in
-    first-none _ _ _ (u .before .if1 .left) (u .under .ensures) (v .before .if2 .left) (v .under2 .ensures) (c .if3 .left)
+    child-none _ _ _ (u .before .if1 .left) (u .under .ensures) (v .before .if2 .left) (v .under2 .ensures) (c .if3 .left)
 
 pub next-child-spec : {M : Type 1} → statement M
 next-child-spec =

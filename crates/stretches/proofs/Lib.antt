@@ -1,0 +1,5 @@
+pub mod Steps
+pub mod Passed
+pub mod Copying
+pub mod Stretched
+pub mod Heads

@@ -1,0 +1,147 @@
+-- `chain_alone` meets its contract: no node that was passed is like an older one.
+use mathlib.Core.Path.{_≡_, refl, sym, _∙_}
+use Prim.Native.Nat.{_+_, _*_, _≤_, _<_}
+use native.Mathlib.Omega.{arith}
+use borrow.Author.Needs.{needs}
+use borrow.Author.Tests.{not-true, not-false}
+use mathlib.Core.List.{_++_}
+use lib.ListN.{length, drop}
+use lib.Seq.{length-take-le, length-front}
+use Rattle.store.specs.Store.{Store, slots}
+use Rattle.store.specs.Keeps.{says-yes, says-no}
+use Rattle.stretches.specs.Chained.{linkedSlots, Chained, Copied, LikeNoOlder}
+use Rattle.stretches.proofs.Passed.{Passed, passed-start, passed-end, passed-here}
+use Rattle.stretches.proofs.Stretched.{stretch-sound, stretch-passed, stretch-chained, stretch-lower}
+use Rattle.stretches.proofs.chain_alone.Statement.{statement}
+use Rattle.stretches.proofs.chain_alone.Tie as tie
+
+abbrev Inv-loop : tie.InvT-loop
+Inv-loop count level then els next n levels₀ thens₀ elses₀ index₀ at₀ levels thens elses index at =
+    let σ = linkedSlots count level then els next in Passed σ n (LikeNoOlder σ) at × (length index ≡ length index₀)
+
+abbrev μ-loop : tie.MeasureT-loop
+μ-loop count level then els next n levels₀ thens₀ elses₀ index₀ at₀ levels thens elses index at = at
+
+-- places of the course
+abbrev at-copied : tie.After-stretch-alone-arg6 Inv-loop μ-loop → tie.After-copy-stretch Inv-loop μ-loop
+at-copied c = c .before .before .before .before .before .before .before
+
+abbrev in-turn : tie.After-copy-stretch Inv-loop μ-loop → tie.In-loop Inv-loop μ-loop
+in-turn c = c .before .before .before .before
+
+abbrev at-start : tie.In-loop Inv-loop μ-loop → tie.Start Inv-loop μ-loop
+at-start c = c .before .before .before .before .before
+
+-- the store of the chain, and the little one
+abbrev σ : tie.Start Inv-loop μ-loop → Store
+σ s = linkedSlots (s .args .count) (s .args .level .now) (s .args .then .now) (s .args .els .now) (s .args .next .now)
+
+abbrev τ : tie.After-copy-stretch Inv-loop μ-loop → Store
+τ c = slots (c .copy-stretch .last .1 .1 .1 .1 .1 .1 .0) (c .copy-stretch .last .1 .1 .1 .1 .1 .1 .1 .0) (c .copy-stretch .last .1 .1 .1 .1 .1 .1 .1 .1 .0)
+
+-- what the copying says, and what is known where it starts
+copied : (c : tie.After-copy-stretch Inv-loop μ-loop) → Copied (σ (at-start (in-turn c))) (in-turn c .before .loop .at) (τ c) (c .copy-stretch .result .last) (c .copy-stretch .result .rest)
+copied c = c .copy-stretch .ensures .1
+
+chained : (c : tie.In-loop Inv-loop μ-loop) → Chained (σ (at-start c)) (c .before .loop .at)
+chained c = c .before .loop .inv .0 .chained
+
+-- in a turn the walk stands at a node
+met : (c : tie.In-loop Inv-loop μ-loop) → 0 < c .before .loop .at
+met c = omega (arith, c .loop-test .taken)
+
+-- the index has the entries that the stretch needs
+room : (c : tie.After-copy-stretch Inv-loop μ-loop) → 3 * c .copy-stretch .result .last + 2 ≤ length (in-turn c .before .loop .index)
+room c = omega (arith, c .copy-stretch .ensures .0 .1, in-turn c .before .loop .inv .1, at-start (in-turn c) .pre .1)
+
+-- the little lists have slots for it
+long : (c : tie.After-copy-stretch Inv-loop μ-loop)
+    → let n = c .copy-stretch .result .last in (n ≤ length (τ c .level)) × ((n ≤ length (τ c .then)) × (n ≤ length (τ c .els)))
+long c =
+    let h = c .copy-stretch .ensures .0 .1 in
+    let x : length (τ c .level) ≡ 513 = c .copy-stretch .kept .1 .1 .1 .1 .1 .1 .0 ∙ c .before .before .before .copy-stretch-arg .given .0 .1 in
+    let y : length (τ c .then) ≡ 513 = c .copy-stretch .kept .1 .1 .1 .1 .1 .1 .1 .0 ∙ c .before .before .copy-stretch-arg2 .given .0 .1 in
+    let z : length (τ c .els) ≡ 513 = c .copy-stretch .kept .1 .1 .1 .1 .1 .1 .1 .1 .0 ∙ c .before .copy-stretch-arg3 .given .0 .1 in
+    (omega arith, (omega arith, omega arith))
+
+-- the index keeps its length
+kept : (c : tie.After-slice-known2 Inv-loop μ-loop)
+    → length (c .before .before .stretch-alone .last .0 ++ drop (3 * c .before .before .before .before .before .before .before .before .before .before .copy-stretch .result .last + 2) (c .before .before .before .before .before .before .before .before .before .before .before .before .before .before .before .loop .index)) ≡ length (c .before .before .before .before .before .before .before .before .before .before .before .before .before .before .before .before .before .before .before .args .index .now)
+kept c = length-front (c .before .before .before .before .before .before .before .before .before .before .before .before .before .before .before .loop .index) (c .before .before .stretch-alone .last .0) (3 * c .before .before .before .before .before .before .before .before .before .before .copy-stretch .result .last + 2) (c .before .before .stretch-alone .kept .0) ∙ c .before .before .before .before .before .before .before .before .before .before .before .before .before .before .before .loop .inv .1
+
+loop-holds : tie.Need-loop-holds Inv-loop μ-loop
+loop-holds c = let s = c .before .before .before in (passed-start (σ s) _ (LikeNoOlder (σ s)) (s .pre .0), refl)
+
+copy-stretch-requires : tie.Need-copy-stretch-requires Inv-loop μ-loop
+copy-stretch-requires c κs = ((c .before .before .copy-stretch-arg .given .0 .1, c .before .copy-stretch-arg2 .given .0 .1, c .copy-stretch-arg3 .given .0 .1), (c .before .before .before .before .loop .inv .0 .chained, met (c .before .before .before)))
+
+cast-long : tie.Need-cast-long Inv-loop μ-loop
+cast-long c = search needs
+
+mul-long : tie.Need-mul-long Inv-loop μ-loop
+mul-long c = search needs
+
+add-long : tie.Need-add-long Inv-loop μ-loop
+add-long c = search needs
+
+slice-relend-prefix-part : tie.Need-slice-relend-prefix-part Inv-loop μ-loop
+slice-relend-prefix-part c = room c
+
+slice-aggregate-part : tie.Need-slice-aggregate-part Inv-loop μ-loop
+slice-aggregate-part c = sym (length-take-le _ _ (room (c .before)))
+
+stretch-alone-requires : tie.Need-stretch-alone-requires Inv-loop μ-loop
+stretch-alone-requires c κs =
+    let k = at-copied c in
+    let e = k .copy-stretch .ensures .0 in
+    ((e .0, e .1, length-take-le _ _ (room k)), (long k, stretch-chained _ _ (chained (in-turn k)) (τ k) _ _ (copied k) (e .0)))
+
+same-length : tie.Need-same-length Inv-loop μ-loop
+same-length c = kept (c .before)
+
+returns : tie.Need-returns Inv-loop μ-loop
+returns c =
+    let k = c .before .before .before .before .before .before .before .before .before .before .before in
+    let s = at-start (in-turn k) in
+    let W = in-turn k .before .loop .inv .0 in
+    says-no (λ A. c .before .before .before .stretch-alone .ensures .no (not-true _ (c .if1 .taken))
+    (stretch-sound (σ s) _ (chained (in-turn k)) (τ k) _ _ (copied k) (k .copy-stretch .ensures .0 .0) (passed-here (σ s) _ (LikeNoOlder (σ s)) _ W (met (in-turn k)) A)))
+
+loop-less : tie.Need-loop-less Inv-loop μ-loop
+loop-less c =
+    let k = c .before .before .before .before .before .before .before .before .before .before .before in
+    stretch-lower _ _ (chained (in-turn k)) (τ k) _ _ (copied k) (k .copy-stretch .ensures .0 .0) (met (in-turn k))
+
+loop-again : tie.Need-loop-again Inv-loop μ-loop
+loop-again c =
+    let k = c .before .before .before .before .before .before .before .before .before .before .before in
+    let s = at-start (in-turn k) in
+    let d = c .before .before .before .stretch-alone .ensures .yes (not-false _ (c .if1 .left)) in
+    (stretch-passed (σ s) _ (chained (in-turn k)) (τ k) _ _ (copied k) (k .copy-stretch .ensures .0 .0) (d .0) (d .1) _ (in-turn k .before .loop .inv .0) (met (in-turn k)), kept (c .before))
+
+same-length-2 : tie.Need-same-length-2 Inv-loop μ-loop
+same-length-2 c = c .before .loop .inv .1
+
+returns-2 : tie.Need-returns-2 Inv-loop μ-loop
+returns-2 c = let s = c .before .before .before .before .before in says-yes (passed-end (σ s) _ (LikeNoOlder (σ s)) _ (c .before .loop .inv .0) (c .loop-test .left))
+
+pub chain-alone-spec : {M : Type 1} → statement M
+chain-alone-spec =
+    tie.close
+    (tie.spec
+    Inv-loop
+    μ-loop
+    loop-holds
+    copy-stretch-requires
+    cast-long
+    mul-long
+    add-long
+    slice-relend-prefix-part
+    slice-aggregate-part
+    stretch-alone-requires
+    same-length
+    returns
+    loop-less
+    loop-again
+    same-length-2
+    returns-2)

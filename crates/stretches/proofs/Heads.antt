@@ -8,7 +8,7 @@ use lib.ListN.{length, getD}
 use lib.IntN.{ℤ}
 use Rattle.store.specs.Store.{Store, store, slots}
 use Rattle.store.specs.Rules.{bucket, Chains}
-use Rattle.store.proofs.Chain.{newest, Linked, chains-linked, bucket-small, newest-le, newest-own, newest-gap}
+use Rattle.store.proofs.Chain.{newest, chains-linked, bucket-small, newest-le, newest-own, newest-gap}
 use Rattle.unique_table.specs.Index.{AllAlone}
 use Rattle.stretches.specs.Chained.{linkedSlots, Chained, LikeNoOlder, ChainAlone}
 use Rattle.stretches.proofs.Steps.{slots-fall}
@@ -33,12 +33,12 @@ newest-is σ b n q = rw q (record {
     not-above m p h e (no d) = omega arith
 
 -- the chains of the buckets below b are judged
-abbrev pub Judged : Store → ℕ → Type 0
-Judged σ b = (x : ℕ) → 2 ≤ x → x ≤ σ .count → bucket σ x < b → LikeNoOlder σ x
+abbrev pub BucketsAlone : Store → ℕ → Type 0
+BucketsAlone σ b = (x : ℕ) → 2 ≤ x → x ≤ σ .count → bucket σ x < b → LikeNoOlder σ x
 
 module _ (σ : Store) (b : ℕ) where
-  pub judged-more : Judged σ b → (n : ℕ) → Newest σ b n → ChainAlone σ n → Judged σ (b + 1)
-  judged-more J n N A x p h l = go (ℕ-discrete (bucket σ x) b)
+  pub buckets-more : BucketsAlone σ b → (n : ℕ) → Newest σ b n → ChainAlone σ n → BucketsAlone σ (b + 1)
+  buckets-more J n N A x p h l = go (ℕ-discrete (bucket σ x) b)
     where
       go : Dec (bucket σ x ≡ b) → LikeNoOlder σ x
       go (yes q) = let k = N .all x p h q in A x p k (q ∙ sym (N .mine (omega arith)))
@@ -66,9 +66,10 @@ module _ (count : ℕ) (level : List ℕ) (then els : List ℤ) (next heads : Li
   }
 
 module _ (count : ℕ) (level : List ℕ) (then els : List ℤ) (next : List ℕ) where
-  pub judged-all : (b : ℕ) → 256 ≤ b → Judged (linkedSlots count level then els next) b → AllAlone (slots level then els) count
-  judged-all b h J n p k m q l a =
-      J n p k (omega (arith, bucket-small (linkedSlots count level then els next) n)) m q l (record { level = a .level; then = a .then; els = a .els })
+  pub buckets-all : (b : ℕ) → 256 ≤ b → BucketsAlone (linkedSlots count level then els next) b → AllAlone (slots level then els) count
+  buckets-all b h J n p k m q l a =
+      J n p k (omega (arith, bucket-small (linkedSlots count level then els next) n)) m q l
+      (record { level = a .level; then = a .then; els = a .els })
 
   pub all-chain : (n : ℕ) → n ≤ count → AllAlone (slots level then els) count → ChainAlone (linkedSlots count level then els next) n
   all-chain n k A x p h e m q l a = A x p (omega arith) m q l (record { level = a .level; then = a .then; els = a .els })

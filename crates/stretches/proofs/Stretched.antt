@@ -1,20 +1,20 @@
 -- What is found of a stretch, and what it says of the chain: two nodes alike, both in a stretch or one in it and one after it, are nodes of
 -- the chain; and where there are none, no node of the stretch is like an older one.
-use mathlib.Core.Path.{_≡_, refl, sym, ap, _∙_}
-use Prim.Native.Nat.{ℕ, zero, suc, _+_, _-_, _≤_, _<_}
+use mathlib.Core.Path.{_≡_, sym, ap, _∙_}
+use Prim.Native.Nat.{ℕ, _+_, _-_, _≤_, _<_}
 use native.Mathlib.Omega.{arith}
 use native.Mathlib.Decide.{ℕ-discrete, decLt}
 use mathlib.Core.Bool.{Bool}
 use mathlib.Core.List.{List}
 use lib.ListN.{length, getD, replicate, length-replicate}
-use Rattle.store.specs.Store.{Store, store, slots, levelAt, thenAt, elseAt, nextAt, headAt}
+use Rattle.store.specs.Store.{Store, levelAt, thenAt, elseAt}
 use Rattle.store.specs.Rules.{AlikeNodes, bucket}
 use Rattle.store.specs.Keeps.{Decides}
 use Rattle.store.proofs.Find.{holds-true, true-holds}
 use Rattle.unique_table.specs.Index.{Indexed, Sought, AllAlone}
-use Rattle.stretches.specs.Chained.{Chained, met, SameNode, Copied, EachOn, LikeNone, LikeNoOlder, NoneLike, ChainAlone}
+use Rattle.stretches.specs.Chained.{Chained, metAfter, SameNode, Copied, LikeNone, LikeNoOlder, NoneLike, ChainAlone}
 use Rattle.stretches.proofs.Steps.{met-is, met-chained, met-lower, met-under, met-all}
-use Rattle.stretches.proofs.Passed.{Passed, passed-on, passed-here}
+use Rattle.stretches.proofs.Passed.{PassedBy, passed-on}
 
 -- an index that was cleared
 pub zeros-again : (xs ys : List ℕ) → xs ≡ replicate (length ys) 0 → (xs ≡ replicate (length xs) 0) × (length xs ≡ length ys)
@@ -68,22 +68,24 @@ alike-bucket σ m n a = rw (a .level, a .then, a .els)
 
 module _ (σ : Store) (n : ℕ) (C : Chained σ n) (τ : Store) (c rest : ℕ) (K : Copied σ n τ c rest) (two : 2 ≤ c) where
   -- node p of the stretch, and the node that it is a copy of
-  copy-of : (p : ℕ) → 2 ≤ p → p ≤ c → SameNode σ (met σ n (p - 2)) τ p
+  copy-of : (p : ℕ) → 2 ≤ p → p ≤ c → SameNode σ (metAfter σ n (p - 2)) τ p
   copy-of p a b = let o : p - 2 + 2 ≡ p = omega arith in rw o at (K .same (p - 2) (omega arith))
 
-  copied-node : (p : ℕ) → 2 ≤ p → p ≤ c → 0 < met σ n (p - 2)
+  copied-node : (p : ℕ) → 2 ≤ p → p ≤ c → 0 < metAfter σ n (p - 2)
   copied-node p a b = K .nodes (p - 2) (omega arith)
 
   -- where no node of the chain is like an older one, nothing is found
   pub stretch-sound : ChainAlone σ n → AllAlone τ c × NoneLike σ rest τ c
   stretch-sound A = (apart, older)
     where
-      here : (p : ℕ) → 2 ≤ p → p ≤ c → LikeNoOlder σ (met σ n (p - 2))
-      here p a b = let z = copied-node p a b in A (met σ n (p - 2)) (met-is σ n C (p - 2) .node z) (met-under σ n C (p - 2)) (met-is σ n C (p - 2) .mine z)
+      here : (p : ℕ) → 2 ≤ p → p ≤ c → LikeNoOlder σ (metAfter σ n (p - 2))
+      here p a b =
+          let z = copied-node p a b in
+          A (metAfter σ n (p - 2)) (met-is σ n C (p - 2) .node z) (met-under σ n C (p - 2)) (met-is σ n C (p - 2) .mine z)
 
       apart : AllAlone τ c
       apart q a b p u l w =
-          here p u (omega arith) (met σ n (q - 2)) (met-is σ n C (q - 2) .node (copied-node q a b))
+          here p u (omega arith) (metAfter σ n (q - 2)) (met-is σ n C (q - 2) .node (copied-node q a b))
           (met-lower σ n C (p - 2) (q - 2) (omega arith) (copied-node p u (omega arith)))
           (alike-nodes σ τ _ _ q p (copy-of q a b) (copy-of p u (omega arith)) (turned-round τ p q w))
 
@@ -94,35 +96,38 @@ module _ (σ : Store) (n : ℕ) (C : Chained σ n) (τ : Store) (c rest : ℕ) (
 
   -- where nothing is found, no node of the stretch is like an older one
   module _ (A : AllAlone τ c) (N : NoneLike σ rest τ c) where
-    stretch-node : (i : ℕ) → i < c - 1 → LikeNoOlder σ (met σ n i)
+    stretch-node : (i : ℕ) → i < c - 1 → LikeNoOlder σ (metAfter σ n i)
     stretch-node i l m a g w = go (decLt rest m)
       where
-        z : 0 < met σ n i
+        z : 0 < metAfter σ n i
         z = K .nodes i (omega arith)
 
         e : bucket σ m ≡ bucket σ n
-        e = alike-bucket σ m (met σ n i) w ∙ met-is σ n C i .mine z
+        e = alike-bucket σ m (metAfter σ n i) w ∙ met-is σ n C i .mine z
 
         go : Dec (rest < m) → ⊥
         go (yes d) =
             let M = met-all σ n C (c - 1) (λ j h. K .nodes j (omega arith)) m a (rw (K .stands) at d) (omega (arith, met-under σ n C i)) e in
             later (M .step) (M .before) (M .is) (decLt i (M .step))
           where
-            later : (j : ℕ) → j < c - 1 → met σ n j ≡ m → Dec (i < j) → ⊥
+            later : (j : ℕ) → j < c - 1 → metAfter σ n j ≡ m → Dec (i < j) → ⊥
             later j h q (yes x) =
                 A (j + 2) (omega arith) (omega arith) (i + 2) (omega arith) (omega arith)
-                (alike-copies σ τ (met σ n i) (met σ n j) _ _ (K .same i (omega arith)) (K .same j (omega arith)) (turned-round σ _ _ (rw q w)))
+                (alike-copies σ τ (metAfter σ n i) (metAfter σ n j) _ _ (K .same i (omega arith)) (K .same j (omega arith))
+                (turned-round σ _ _ (rw q w)))
             later j h q (no x) = before (ℕ-discrete i j)
               where
                 before : Dec (i ≡ j) → ⊥
-                before (yes y) = omega (arith, ap (met σ n) y)
+                before (yes y) = omega (arith, ap (metAfter σ n) y)
                 before (no y) = omega (arith, met-lower σ n C j i (omega arith) (K .nodes j (omega arith)))
-        go (no d) = N m a (omega arith) (e ∙ sym (rest-mine (omega arith))) (i + 2) (omega arith) (omega arith) (alike-same σ τ m _ _ (K .same i (omega arith)) w)
+        go (no d) =
+            N m a (omega arith) (e ∙ sym (rest-mine (omega arith))) (i + 2) (omega arith) (omega arith)
+            (alike-same σ τ m _ _ (K .same i (omega arith)) w)
           where
             rest-mine : 0 < rest → bucket σ rest ≡ bucket σ n
             rest-mine h = rw (K .stands) (met-is σ n C (c - 1) .mine (rw (K .stands) at h))
 
-    pub stretch-passed : (s : ℕ) → Passed σ s (LikeNoOlder σ) n → 0 < n → Passed σ s (LikeNoOlder σ) rest
+    pub stretch-passed : (s : ℕ) → PassedBy σ s (LikeNoOlder σ) n → 0 < n → PassedBy σ s (LikeNoOlder σ) rest
     stretch-passed s W g = rw (K .stands) (passed-on σ s (LikeNoOlder σ) n W (c - 1) (λ i l. K .nodes i (omega arith)) stretch-node g)
 
   -- the walk goes on, lower
@@ -130,5 +135,5 @@ module _ (σ : Store) (n : ℕ) (C : Chained σ n) (τ : Store) (c rest : ℕ) (
   stretch-chained = rw (K .stands) (met-chained σ n C (c - 1))
 
   pub stretch-lower : 0 < n → rest < n
-  unfolding met
+  unfolding metAfter
   stretch-lower g = omega (arith, K .stands, met-lower σ n C 0 (c - 1) (omega arith) g)

@@ -10,6 +10,14 @@ use Rattle.codes.specs.Lent.{Part, old}
 use Rattle.store.specs.Store.{Store, store, levelAt, thenAt, elseAt, nextAt}
 use Rattle.store.specs.Rules.{AlikeNodes, bucket}
 
+-- A stretch has up to 512 nodes. Its little store has a slot more, since nodes count from 2; and its index has three entries for each slot
+-- and two for 0.
+abbrev pub stretchSlots : ℕ
+stretchSlots = 513
+
+abbrev pub stretchEntries : ℕ
+stretchEntries = 1541
+
 -- a store by its nodes and their links: where its chains start is left out
 abbrev pub linkedSlots : ℕ → List ℕ → List ℤ → List ℤ → List ℕ → Store
 linkedSlots count level then els next = store 0 count level then els next []
@@ -22,7 +30,7 @@ abbrev pub linkedOld : ℕ → Part (List ℕ) → Part (List ℤ) → Part (Lis
 linkedOld count level then els next = linkedSlots count (old level) (old then) (old els) (old next)
 
 -- After a node comes the next older node of its bucket, or 0.
-pub record Falls (σ : Store) : Type 0 where
+pub record Descends (σ : Store) : Type 0 where
   pub lower : (n : ℕ) → 2 ≤ n → n ≤ σ .count → nextAt σ n < n
   pub node : (n : ℕ) → 2 ≤ n → n ≤ σ .count → 0 < nextAt σ n → 2 ≤ nextAt σ n
   pub mine : (n : ℕ) → 2 ≤ n → n ≤ σ .count → 0 < nextAt σ n → bucket σ (nextAt σ n) ≡ bucket σ n
@@ -34,18 +42,18 @@ pub record Chained (σ : Store) (n : ℕ) : Type 0 where
   pub then-long : σ .count ≤ length (σ .then)
   pub els-long : σ .count ≤ length (σ .els)
   pub next-long : σ .count ≤ length (σ .next)
-  pub falls : Falls σ
+  pub falls : Descends σ
   pub high : n ≤ σ .count
   pub node : 0 < n → 2 ≤ n
 
 -- the number that is met so many steps after n: 0 ends the chain
-unfoldable pub after : Store → ℕ → ℕ
-after σ zero = 0
-after σ (suc n) = nextAt σ (suc n)
+unfoldable pub nodeAfter : Store → ℕ → ℕ
+nodeAfter σ zero = 0
+nodeAfter σ (suc n) = nextAt σ (suc n)
 
-unfoldable pub met : Store → ℕ → ℕ → ℕ
-met σ n zero = n
-met σ n (suc i) = after σ (met σ n i)
+unfoldable pub metAfter : Store → ℕ → ℕ → ℕ
+metAfter σ n zero = n
+metAfter σ n (suc i) = nodeAfter σ (metAfter σ n i)
 
 -- node p of the store τ holds what node m of σ holds
 pub record SameNode (σ : Store) (m : ℕ) (τ : Store) (p : ℕ) : Type 0 where
@@ -55,9 +63,9 @@ pub record SameNode (σ : Store) (m : ℕ) (τ : Store) (p : ℕ) : Type 0 where
 
 -- A stretch: nodes 2 to c of τ are the first nodes of the chain from n on, newest first, and `rest` comes after them.
 pub record Copied (σ : Store) (n : ℕ) (τ : Store) (c rest : ℕ) : Type 0 where
-  pub nodes : (i : ℕ) → i + 1 < c → 0 < met σ n i
-  pub same : (i : ℕ) → i + 1 < c → SameNode σ (met σ n i) τ (i + 2)
-  pub stands : rest ≡ met σ n (c - 1)
+  pub nodes : (i : ℕ) → i + 1 < c → 0 < metAfter σ n i
+  pub same : (i : ℕ) → i + 1 < c → SameNode σ (metAfter σ n i) τ (i + 2)
+  pub stands : rest ≡ metAfter σ n (c - 1)
 
 -- every node of the chain from n on
 abbrev pub EachOn : Store → ℕ → (ℕ → Type 0) → Type 0

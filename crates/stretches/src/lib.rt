@@ -10,12 +10,11 @@ ghost use Rattle.store.specs.Store.{slots};
 ghost use Rattle.store.specs.Rules.{Chains};
 ghost use Rattle.store.specs.Keeps.{Decides};
 ghost use Rattle.unique_table.specs.Index.{Indexed, AllAlone};
-ghost use Rattle.stretches.specs.Chained.{linkedNow, linkedOld, Chained, Copied, NoneLike, ChainAlone};
+ghost use Rattle.stretches.specs.Chained.{stretchSlots, stretchEntries, linkedNow, linkedOld, Chained, Copied, NoneLike, ChainAlone};
 use edges::Edge;
 use edges::Index;
 
-// A stretch has up to 512 nodes. Its little store has a slot more, since nodes count from 2; and its index has three entries for each slot
-// and two for 0.
+// A stretch has up to 512 nodes: see specs/Chained.
 const SLOTS: usize = 513;
 
 const ENTRIES: usize = 1541;
@@ -38,9 +37,9 @@ fn copy_stretch(
     thens: &mut [Edge],
     elses: &mut [Edge],
 ) -> Stretch
-    requires { ⌜ (length (now levels) ≡ 513) × (length (now thens) ≡ 513) × (length (now elses) ≡ 513) ⌝ }
+    requires { ⌜ (length (now levels) ≡ stretchSlots) × (length (now thens) ≡ stretchSlots) × (length (now elses) ≡ stretchSlots) ⌝ }
     requires { ⌜ Chained (linkedNow count level then els next) n × (1 ≤ n) ⌝ }
-    ensures { λ r. ⌜ (2 ≤ r .last) × (r .last ≤ 513) ⌝ }
+    ensures { λ r. ⌜ (2 ≤ r .last) × (r .last ≤ stretchSlots) ⌝ }
     ensures { λ r. ⌜ Copied (linkedOld count level then els next) n (slots (new levels) (new thens) (new elses)) (r .last) (r .rest) ⌝ }
 {
     let mut c: usize = 1;
@@ -110,7 +109,7 @@ fn stretch_alone(
     next: &[Index],
     rest: Index,
 ) -> bool
-    requires { ⌜ (2 ≤ last) × (last ≤ 513) × (length (now index) ≡ 3 * last + 2) ⌝ }
+    requires { ⌜ (2 ≤ last) × (last ≤ stretchSlots) × (length (now index) ≡ 3 * last + 2) ⌝ }
     requires { ⌜ (last ≤ length (now levels)) × ((last ≤ length (now thens)) × (last ≤ length (now elses))) ⌝ }
     requires { ⌜ Chained (linkedNow count level then els next) rest ⌝ }
     ensures { λ r. ⌜ Decides r (AllAlone (slots (old levels) (old thens) (old elses)) last
@@ -153,7 +152,7 @@ fn chain_alone(
     elses: &mut [Edge; SLOTS],
     index: &mut [Index],
 ) -> bool
-    requires { ⌜ Chained (linkedNow count level then els next) n × (length (now index) ≡ 1541) ⌝ }
+    requires { ⌜ Chained (linkedNow count level then els next) n × (length (now index) ≡ stretchEntries) ⌝ }
     ensures { λ r. ⌜ Decides r (ChainAlone (linkedOld count level then els next) n) ⌝ }
 {
     let mut at = n;

@@ -1,14 +1,14 @@
 -- `copy_stretch` meets its contract: the slots below c hold the nodes that were met.
 use mathlib.Core.Path.{_≡_, refl, sym, _∙_}
 use mathlib.Core.Logic.{⊎-elim}
-use Prim.Native.Nat.{_-_, _≤_, _<_}
+use Prim.Native.Nat.{_-_, _<_}
 use native.Mathlib.Omega.{arith}
 use borrow.Author.Needs.{needs}
 use borrow.Author.Tests.{ltb-true, ltb-false}
 use Rattle.edges.specs.Width.{edgeWidth}
 use mir.ValLaws.{toZ-ofZ}
 use Rattle.store.specs.Store.{Store, thenAt, elseAt}
-use Rattle.stretches.specs.Chained.{linkedSlots}
+use Rattle.stretches.specs.Chained.{stretchSlots, linkedSlots}
 use Rattle.stretches.proofs.Copying.{Copying, copying-start, copying-more, copying-two}
 use Rattle.stretches.proofs.copy_stretch.Statement.{statement}
 use Rattle.stretches.proofs.copy_stretch.Tie as tie
@@ -18,19 +18,19 @@ Inv-loop count level then els next n levels₀ thens₀ elses₀ c₀ at₀ leve
     Copying (linkedSlots count level then els next) n levels thens elses c at
 
 abbrev μ-loop : tie.MeasureT-loop
-μ-loop count level then els next n levels₀ thens₀ elses₀ c₀ at₀ levels thens elses c at = 513 - c
+μ-loop count level then els next n levels₀ thens₀ elses₀ c₀ at₀ levels thens elses c at = stretchSlots - c
 
 -- the store of the chain
 abbrev σ : tie.Start Inv-loop μ-loop → Store
 σ s = linkedSlots (s .args .count) (s .args .level .now) (s .args .then .now) (s .args .els .now) (s .args .next .now)
 
 -- in a turn there is a slot
-room : (c : tie.Then1 Inv-loop μ-loop) → c .before .before .loop .c < 513
-room c = ltb-true (c .before .before .loop .c) 513 (c .if1 .taken)
+room : (c : tie.Then1 Inv-loop μ-loop) → c .before .before .loop .c < stretchSlots
+room c = ltb-true (c .before .before .loop .c) stretchSlots (c .if1 .taken)
 
 -- the loop is left at the end of the chain, or where the slots are filled
-left : (c : tie.Left-loop Inv-loop μ-loop) → c .before .loop .c < 513 → c .before .loop .at ≡ 0
-left c h = ⊎-elim (λ w. absurd (omega (arith, ltb-false (c .before .loop .c) 513 (w .1 .left)))) (λ w. w .left) (c .loop-test .came)
+left : (c : tie.Left-loop Inv-loop μ-loop) → c .before .loop .c < stretchSlots → c .before .loop .at ≡ 0
+left c h = ⊎-elim (λ w. absurd (omega (arith, ltb-false (c .before .loop .c) stretchSlots (w .1 .left)))) (λ w. w .left) (c .loop-test .came)
 
 loop-holds : tie.Need-loop-holds Inv-loop μ-loop
 loop-holds c = copying-start (σ c) _ (c .pre .1 .0) _ _ _ (c .pre .0 .0) (c .pre .0 .1) (c .pre .0 .2)

@@ -51,7 +51,8 @@ module _ (σ : Store) (l : ℕ) (t e : ℤ) where
     pub walking-more : Linked σ → (x : Bool) → x ≡ holds σ l t e n → x ≡ false → Walking σ l t e (nextAt σ n)
     walking-more L x r f =
         let k = s .high in
-        walking-newest (n - 1) _ (next-newest σ L n (s .node h) k (bucketOf l t e) (s .mine h)) (omega arith) (λ i g p c a. go i g p c a (ℕ-discrete i n))
+        walking-newest (n - 1) _ (next-newest σ L n (s .node h) k (bucketOf l t e) (s .mine h)) (omega arith)
+        (λ i g p c a. go i g p c a (ℕ-discrete i n))
       where
         go : (i : ℕ) → n - 1 < i → 2 ≤ i → i ≤ σ .count → Holds σ i l t e → Dec (i ≡ n) → ⊥
         go i g p c a (yes q) = true≢false (sym (true-holds σ l t e i a) ∙ ap (holds σ l t e) q ∙ sym r ∙ f)

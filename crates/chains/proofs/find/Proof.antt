@@ -21,15 +21,24 @@ Inv-loop levels count level then els next heads l t e a b low k n₀ n =
 abbrev μ-loop : tie.MeasureT-loop
 μ-loop levels count level then els next heads l t e a b low k n₀ n = n
 
+-- places of the course
+abbrev at-bucket : tie.At-loop Inv-loop μ-loop → tie.After-bucket Inv-loop μ-loop
+at-bucket c = c .before .before
+
+abbrev at-start : tie.After-bucket Inv-loop μ-loop → tie.Start Inv-loop μ-loop
+at-start c = c .before .before .before .before .before .before .before
+
 -- the store, and what is known of it
 abbrev σ : tie.Start Inv-loop μ-loop → Store
-σ s = store (s .args .levels) (s .args .count) (s .args .level .now) (s .args .then .now) (s .args .els .now) (s .args .next .now) (s .args .heads .now)
+σ s =
+    store (s .args .levels) (s .args .count) (s .args .level .now) (s .args .then .now) (s .args .els .now) (s .args .next .now) (s .args .heads .now)
 
 linked : (s : tie.Start Inv-loop μ-loop) → Linked (σ s)
 linked s = chains-linked (σ s) (s .pre .chains)
 
 -- the answer, said of the edges themselves
-of-edges : (s : tie.Start Inv-loop μ-loop) (n : ℕ) → n ≡ find (σ s) (s .args .l) (toZ edgeWidth (ofZ edgeWidth (s .args .t))) (toZ edgeWidth (ofZ edgeWidth (s .args .e)))
+of-edges : (s : tie.Start Inv-loop μ-loop) (n : ℕ)
+    → n ≡ find (σ s) (s .args .l) (toZ edgeWidth (ofZ edgeWidth (s .args .t))) (toZ edgeWidth (ofZ edgeWidth (s .args .e)))
     → n ≡ find (σ s) (s .args .l) (s .args .t) (s .args .e)
 of-edges s n h = rw (toZ-ofZ edgeWidth (s .args .t) (s .fits .t), toZ-ofZ edgeWidth (s .args .e) (s .fits .e)) at h
 
@@ -53,26 +62,23 @@ mul-n : tie.Need-mul-n Inv-loop μ-loop
 mul-n c = omega (arith, bucket-under _ _ _ _ (c .bucket .ensures))
 
 shared-slice-read-n : tie.Need-shared-slice-read-n Inv-loop μ-loop
-shared-slice-read-n c =
-    let s = c .before .before .before .before .before .before .before .before in
-    omega (arith, bucket-under _ _ _ _ (c .before .bucket .ensures), s .pre .sizes .heads-long)
+shared-slice-read-n c = omega (arith, bucket-under _ _ _ _ (c .before .bucket .ensures), at-start (c .before) .pre .sizes .heads-long)
 
 loop-holds : tie.Need-loop-holds Inv-loop μ-loop
-loop-holds c =
-    let s = c .before .before .before .before .before .before .before .before in
-    walking-start (σ s) _ _ _ (linked s) _ (c .before .bucket .ensures)
+loop-holds c = let s = at-start (c .before) in walking-start (σ s) _ _ _ (linked s) _ (c .before .bucket .ensures)
 
 holds-at-requires : tie.Need-holds-at-requires Inv-loop μ-loop
 holds-at-requires c κs =
-    let z = c .before .before .before .before .before .before .before .before .before .before .pre .sizes in
+    let z = at-start (at-bucket (c .before)) .pre .sizes in
     let h = met c in
     let k = c .before .loop .inv .high in
     (h, (omega arith, (omega arith, omega arith)))
 
 returns : tie.Need-returns Inv-loop μ-loop
 returns c =
-    let s = c .before .before .before .before .before .before .before .before .before .before .before .before in
-    of-edges s _ (walking-hit (σ s) _ _ _ _ (c .before .before .before .loop .inv) (met (c .before .before)) (s .pre .nodes) _ (c .before .holds-at .ensures) (c .if1 .taken))
+    let t = c .before .before in
+    let s = at-start (at-bucket (t .before)) in
+    of-edges s _ (walking-hit (σ s) _ _ _ _ (t .before .loop .inv) (met t) (s .pre .nodes) _ (c .before .holds-at .ensures) (c .if1 .taken))
 
 sub-i : tie.Need-sub-i Inv-loop μ-loop
 sub-i c = search needs
@@ -85,25 +91,30 @@ mul-n-2 c = search needs
 
 shared-slice-read-n-2 : tie.Need-shared-slice-read-n-2 Inv-loop μ-loop
 shared-slice-read-n-2 c =
-    let z = c .before .before .before .before .before .before .before .before .before .before .before .before .before .pre .sizes in
-    let h = met (c .before .before .before) in
-    let k = c .before .before .before .before .loop .inv .high in
+    let t = c .before .before .before in
+    let z = at-start (at-bucket (t .before)) .pre .sizes in
+    let h = met t in
+    let k = t .before .loop .inv .high in
     omega arith
 
 loop-less : tie.Need-loop-less Inv-loop μ-loop
 loop-less c =
-    let s = c .before .before .before .before .before .before .before .before .before .before .before .before .before in
-    walking-less (σ s) _ _ _ _ (c .before .before .before .before .loop .inv) (met (c .before .before .before)) (linked s)
+    let t = c .before .before .before in
+    let s = at-start (at-bucket (t .before)) in
+    walking-less (σ s) _ _ _ _ (t .before .loop .inv) (met t) (linked s)
 
 loop-again : tie.Need-loop-again Inv-loop μ-loop
 loop-again c =
-    let s = c .before .before .before .before .before .before .before .before .before .before .before .before .before in
-    walking-more (σ s) _ _ _ _ (c .before .before .before .before .loop .inv) (met (c .before .before .before)) (linked s) _ (c .before .before .holds-at .ensures) (c .before .if1 .left)
+    let t = c .before .before .before in
+    let s = at-start (at-bucket (t .before)) in
+    walking-more (σ s) _ _ _ _ (t .before .loop .inv) (met t) (linked s) _ (c .before .before .holds-at .ensures) (c .before .if1 .left)
 
 returns-2 : tie.Need-returns-2 Inv-loop μ-loop
 returns-2 c =
-    let s = c .before .before .before .before .before .before .before .before .before .before in
-    of-edges s _ (walking-end (σ s) _ _ _ _ _ _ _ (c .before .loop .inv) (s .pre .nodes) (c .before .before .before .before .before .before .magnitude .ensures) (c .before .before .before .before .before .magnitude2 .ensures) (c .before .before .before .before .larger .ensures) (c .loop-test .left))
+    let b = at-bucket (c .before) in
+    let s = at-start b in
+    of-edges s _ (walking-end (σ s) _ _ _ _ _ _ _ (c .before .loop .inv) (s .pre .nodes) (b .before .before .before .magnitude .ensures)
+    (b .before .before .magnitude2 .ensures) (b .before .larger .ensures) (c .loop-test .left))
 
 pub find-spec : {M : Type 1} → statement M
 find-spec =

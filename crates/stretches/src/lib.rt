@@ -1,5 +1,6 @@
 // No two nodes alike, without a large index: two nodes that are alike lie in one chain, so each chain is judged by itself, in stretches. The
-// nodes of a stretch are copied into a little store and put into a small index, in which each older node of the chain is sought.
+// nodes of a stretch are copied into a little store and put into a small index, in which each older node of the chain is sought. So a chain
+// is gone through once for each 512 of its nodes.
 ghost use mathlib.Core.Path.{_≡_};
 ghost use Prim.Native.Nat.{_+_, _*_, _≤_, _<_};
 ghost use lib.ListN.{length};
@@ -20,9 +21,9 @@ const SLOTS: usize = 513;
 const ENTRIES: usize = 1541;
 
 // The number of the little store's last node, and the node of the chain after it, or 0.
-pub struct Stretch {
-    pub last: Index,
-    pub rest: Index,
+struct Stretch {
+    last: Index,
+    rest: Index,
 }
 
 // The nodes of a chain from n on, as many as there are slots, copied into the slots of a little store from the second on.

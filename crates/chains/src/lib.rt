@@ -4,29 +4,11 @@ ghost use Prim.Native.Nat.{ℕ, _≤_};
 ghost use lib.ListN.{length};
 ghost use Rattle.store.specs.Lent.{storeNow, oldStore};
 ghost use Rattle.store.specs.Store.{slots};
-ghost use Rattle.store.specs.Rules.{Rules, limits};
+ghost use Rattle.codes.specs.Limits.{limits};
+ghost use Rattle.store.specs.Rules.{Rules};
 ghost use Rattle.store.specs.Make as nodes;
 use edges::Edge;
 use edges::Index;
-
-// Does node n have this level, then and else? That is a matter of three lists only.
-fn holds_at(level: &[u16], then: &[Edge], els: &[Edge], l: u16, t: Edge, e: Edge, n: Index) -> bool
-    requires { ⌜ (1 ≤ n) × ((n ≤ length (now level)) × ((n ≤ length (now then)) × (n ≤ length (now els)))) ⌝ }
-    ensures { λ r. ⌜ r ≡ nodes.holds (slots (now (level .entry)) (now (then .entry)) (now (els .entry))) l t e n ⌝ }
-{
-    let i = (n - 1) as usize;
-    if level[i] == l {
-        let x = then[i];
-        if edges::same(x, t) {
-            let y = els[i];
-            edges::same(y, e)
-        } else {
-            false
-        }
-    } else {
-        false
-    }
-}
 
 // The larger of two numbers: every number that reaches both reaches it.
 fn larger(a: Index, b: Index) -> Index
@@ -58,7 +40,7 @@ pub fn find(
     let k = edges::bucket(l, t, e);
     let mut n = heads[k];
     while low < n {
-        if holds_at(level, then, els, l, t, e, n) {
+        if unique_table::holds_at(level, then, els, l, t, e, n) {
             return n;
         }
         let i = (n - 1) as usize;

@@ -1,3 +1,4 @@
 pub mod Staged
 pub mod Readable
 pub mod Loading
+mod Searched

@@ -38,18 +38,21 @@ module _ (f list : Part (List ℕ)) (levels : ℕ) (count : Part ℕ) (level : P
   abbrev pub loaded : calls.Loaded
   loaded = loadOf limits (loadInto (old f) (old list) oldParts) (oldStore levels (old count) level then els next heads)
 
-  pub record LoadPromise (r : Loaded) : Type 0 where
+  pub record LoadPromise (work : Part (List ℕ)) (r : Loaded) : Type 0 where
     -- 'A refusal is a number and a line.'
     pub answer : ofLoaded r ≡ loaded .answer
     -- 'On any refusal .. the store is unchanged'
     pub store : newStore levels (new count) level then els next heads ≡ loaded .after
     -- 'On any refusal outputs are all zeros ..; on success unused output is zero. Scratch ends as zeros.'
     pub lists : newParts ≡ partsOf (lengthsOf oldParts) loaded
+    pub work-left : new work ≡ replicate (length (old work)) 0
 
 pub record EvaluatePromise (levels count : ℕ) (level : Part (List ℕ)) (then els : Part (List ℤ)) (next heads : Part (List ℕ)) (root : ℤ)
-    (setting : Part (List ℕ)) (r : Evaluation) : Type 0 where
+    (setting work : Part (List ℕ)) (r : Evaluation) : Type 0 where
   -- 'Evaluation gives 3, 4.'
   pub answer : ofEvaluation r ≡ evaluateOf limits root (old setting) (oldStore levels count level then els next heads)
+  -- 'Scratch ends as zeros.'
+  pub work-left : new work ≡ replicate (length (old work)) 0
 
 module _ (s : Settings) (levels count : ℕ) (level : Part (List ℕ)) (then els : Part (List ℤ)) (next heads : Part (List ℕ)) (roots : Part (List ℤ))
     (order bytes starts lens rootstarts rootlens slots numbers out : Part (List ℕ)) where
@@ -60,7 +63,7 @@ module _ (s : Settings) (levels count : ℕ) (level : Part (List ℕ)) (then els
       (length (old numbers)) (length (old out))
 
 pub record ExportPromise (settings : ExportSettings) (levels count : ℕ) (level : Part (List ℕ)) (then els : Part (List ℤ))
-    (next heads : Part (List ℕ)) (roots : Part (List ℤ)) (order bytes starts lens rootstarts rootlens slots numbers out : Part (List ℕ))
+    (next heads : Part (List ℕ)) (roots : Part (List ℤ)) (order bytes starts lens rootstarts rootlens slots numbers out work : Part (List ℕ))
     (r : Exported) : Type 0 where
   -- 'Export gives 1, 3, 4, 6, 5'; 'order inside a level is left open'
   pub file : Exports limits
@@ -69,3 +72,4 @@ pub record ExportPromise (settings : ExportSettings) (levels count : ℕ) (level
   -- 'Scratch ends as zeros.'
   pub slots-left : new slots ≡ replicate (length (old slots)) 0
   pub numbers-left : new numbers ≡ replicate (length (old numbers)) 0
+  pub work-left : new work ≡ replicate (length (old work)) 0

@@ -1,4 +1,5 @@
-// The public calls: load, evaluate and export, on one store.
+// The public calls: load, evaluate and export, on one store. Each is lent `work`, of any length: where it is long enough, nodes are found by an
+// index in it, else along their chains. No answer depends on it, and it ends as zeros.
 ghost use Rattle.dddmp.specs.Promises.{LoadPromise, EvaluatePromise, ExportPromise};
 use edges::Edge;
 use edges::Index;
@@ -32,9 +33,10 @@ pub fn load(
     rootlens: &mut [u32],
     edges: &mut [Edge],
     seats: &mut [u16],
+    work: &mut [Index],
 ) -> Loaded
     ensures { λ r. ⌜ LoadPromise f list levels count level then els next heads
-        ids order permids auxids names lens roots rootnames rootlens edges seats r ⌝ }
+        ids order permids auxids names lens roots rootnames rootlens edges seats work r ⌝ }
 {
     let lists = stages::lists_fault(
         ids.len(),
@@ -47,7 +49,7 @@ pub fn load(
         rootnames.len(),
         rootlens.len(),
     );
-    let found = stages::store_fault(lists, levels, *count, level, then, els, next, heads);
+    let found = stages::store_fault(lists, levels, *count, level, then, els, next, heads, work);
     let before = stages::length_fault(found, f.len());
     let read = DumpHeader::load(
         f,
@@ -78,6 +80,7 @@ pub fn load(
         roots,
         edges,
         seats,
+        work,
     );
     last_stages::finish(
         answer,
@@ -104,10 +107,22 @@ pub fn evaluate(
     heads: &[Index],
     root: Edge,
     setting: &[u8],
+    work: &mut [Index],
 ) -> Evaluation
-    ensures { λ r. ⌜ EvaluatePromise levels count level then els next heads root setting r ⌝ }
+    ensures { λ r. ⌜ EvaluatePromise levels count level then els next heads root setting work r ⌝ }
 {
-    evaluation::evaluate(levels, count, level, then, els, next, heads, root, setting)
+    evaluation::evaluate(
+        levels,
+        count,
+        level,
+        then,
+        els,
+        next,
+        heads,
+        root,
+        setting,
+        work,
+    )
 }
 
 // Exports the diagrams of roots of the store into `out`. `order` has each variable's level; `bytes` holds the names, `starts` and `lens`
@@ -131,9 +146,10 @@ pub fn export(
     slots: &mut [Index],
     numbers: &mut [Index],
     out: &mut [u8],
+    work: &mut [Index],
 ) -> Exported
     ensures { λ r. ⌜ ExportPromise settings levels count level then els next heads
-        roots order bytes starts lens rootstarts rootlens slots numbers out r ⌝ }
+        roots order bytes starts lens rootstarts rootlens slots numbers out work r ⌝ }
 {
     settings.export(
         levels,
@@ -153,5 +169,6 @@ pub fn export(
         slots,
         numbers,
         out,
+        work,
     )
 }

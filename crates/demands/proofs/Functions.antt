@@ -30,7 +30,7 @@ use Rattle.firmware.proofs.zt_export.Kinds as zt-export-kinds
 abbrev part : {X : Type 0} → RefT X → RefT X → Part X
 part e x = record { entry = e; exit = x }
 
-module _ (κs : Lfts 19) (a : Dens κs load-kinds.ps) (r : Loaded) (s : AtExit (endedOf 19 load-kinds.ps load-kinds.r) κs) where
+module _ (κs : Lfts 20) (a : Dens κs load-kinds.ps) (r : Loaded) (s : AtExit (endedOf 20 load-kinds.ps load-kinds.r) κs) where
   pub load-promises : load.Post κs a r s
       → LoadPromise
       (part (a .0) (s .0))
@@ -53,10 +53,11 @@ module _ (κs : Lfts 19) (a : Dens κs load-kinds.ps) (r : Loaded) (s : AtExit (
       (part (a .1 .1 .1 .1 .1 .1 .1 .1 .1 .1 .1 .1 .1 .1 .1 .1 .1 .0) (s .1 .1 .1 .1 .1 .1 .1 .1 .1 .1 .1 .1 .1 .1 .1 .1 .1 .0))
       (part (a .1 .1 .1 .1 .1 .1 .1 .1 .1 .1 .1 .1 .1 .1 .1 .1 .1 .1 .0) (s .1 .1 .1 .1 .1 .1 .1 .1 .1 .1 .1 .1 .1 .1 .1 .1 .1 .1 .0))
       (part (a .1 .1 .1 .1 .1 .1 .1 .1 .1 .1 .1 .1 .1 .1 .1 .1 .1 .1 .1 .0) (s .1 .1 .1 .1 .1 .1 .1 .1 .1 .1 .1 .1 .1 .1 .1 .1 .1 .1 .1 .0))
+      (part (a .1 .1 .1 .1 .1 .1 .1 .1 .1 .1 .1 .1 .1 .1 .1 .1 .1 .1 .1 .1 .0) (s .1 .1 .1 .1 .1 .1 .1 .1 .1 .1 .1 .1 .1 .1 .1 .1 .1 .1 .1 .1 .0))
       r
   load-promises p = p
 
-module _ (κs : Lfts 6) (a : Dens κs evaluate-kinds.ps) (r : Evaluation) (s : AtExit (endedOf 6 evaluate-kinds.ps evaluate-kinds.r) κs) where
+module _ (κs : Lfts 7) (a : Dens κs evaluate-kinds.ps) (r : Evaluation) (s : AtExit (endedOf 7 evaluate-kinds.ps evaluate-kinds.r) κs) where
   pub evaluate-promises : evaluate.Post κs a r s
       → EvaluatePromise
       (a .0)
@@ -68,10 +69,11 @@ module _ (κs : Lfts 6) (a : Dens κs evaluate-kinds.ps) (r : Evaluation) (s : A
       (part (a .1 .1 .1 .1 .1 .1 .0) (s .1 .1 .1 .1 .1 .1 .0))
       (a .1 .1 .1 .1 .1 .1 .1 .0)
       (part (a .1 .1 .1 .1 .1 .1 .1 .1 .0) (s .1 .1 .1 .1 .1 .1 .1 .1 .0))
+      (part (a .1 .1 .1 .1 .1 .1 .1 .1 .1 .0) (s .1 .1 .1 .1 .1 .1 .1 .1 .1 .0))
       r
   evaluate-promises p = p
 
-module _ (κs : Lfts 15) (a : Dens κs export-kinds.ps) (r : Exported) (s : AtExit (endedOf 15 export-kinds.ps export-kinds.r) κs) where
+module _ (κs : Lfts 16) (a : Dens κs export-kinds.ps) (r : Exported) (s : AtExit (endedOf 16 export-kinds.ps export-kinds.r) κs) where
   pub export-promises : export.Post κs a r s
       → ExportPromise
       (a .0)
@@ -92,10 +94,11 @@ module _ (κs : Lfts 15) (a : Dens κs export-kinds.ps) (r : Exported) (s : AtEx
       (part (a .1 .1 .1 .1 .1 .1 .1 .1 .1 .1 .1 .1 .1 .1 .1 .0) (s .1 .1 .1 .1 .1 .1 .1 .1 .1 .1 .1 .1 .1 .1 .1 .0))
       (part (a .1 .1 .1 .1 .1 .1 .1 .1 .1 .1 .1 .1 .1 .1 .1 .1 .0) (s .1 .1 .1 .1 .1 .1 .1 .1 .1 .1 .1 .1 .1 .1 .1 .1 .0))
       (part (a .1 .1 .1 .1 .1 .1 .1 .1 .1 .1 .1 .1 .1 .1 .1 .1 .1 .0) (s .1 .1 .1 .1 .1 .1 .1 .1 .1 .1 .1 .1 .1 .1 .1 .1 .1 .0))
+      (part (a .1 .1 .1 .1 .1 .1 .1 .1 .1 .1 .1 .1 .1 .1 .1 .1 .1 .1 .0) (s .1 .1 .1 .1 .1 .1 .1 .1 .1 .1 .1 .1 .1 .1 .1 .1 .1 .1 .0))
       r
   export-promises p = p
 
-module _ (κs : Lfts 19) (a : Dens κs zt-load-kinds.ps) (r : LoadAnswer) (s : AtExit (endedOf 19 zt-load-kinds.ps zt-load-kinds.r) κs) where
+module _ (κs : Lfts 20) (a : Dens κs zt-load-kinds.ps) (r : LoadAnswer) (s : AtExit (endedOf 20 zt-load-kinds.ps zt-load-kinds.r) κs) where
   pub zt-load-promises : zt-load.Post κs a r s
       → ZtLoadPromise
       (part (a .0) (s .0))
@@ -118,10 +121,11 @@ module _ (κs : Lfts 19) (a : Dens κs zt-load-kinds.ps) (r : LoadAnswer) (s : A
       (part (a .1 .1 .1 .1 .1 .1 .1 .1 .1 .1 .1 .1 .1 .1 .1 .1 .1 .0) (s .1 .1 .1 .1 .1 .1 .1 .1 .1 .1 .1 .1 .1 .1 .1 .1 .1 .0))
       (part (a .1 .1 .1 .1 .1 .1 .1 .1 .1 .1 .1 .1 .1 .1 .1 .1 .1 .1 .0) (s .1 .1 .1 .1 .1 .1 .1 .1 .1 .1 .1 .1 .1 .1 .1 .1 .1 .1 .0))
       (part (a .1 .1 .1 .1 .1 .1 .1 .1 .1 .1 .1 .1 .1 .1 .1 .1 .1 .1 .1 .0) (s .1 .1 .1 .1 .1 .1 .1 .1 .1 .1 .1 .1 .1 .1 .1 .1 .1 .1 .1 .0))
+      (part (a .1 .1 .1 .1 .1 .1 .1 .1 .1 .1 .1 .1 .1 .1 .1 .1 .1 .1 .1 .1 .0) (s .1 .1 .1 .1 .1 .1 .1 .1 .1 .1 .1 .1 .1 .1 .1 .1 .1 .1 .1 .1 .0))
       r
   zt-load-promises p = p
 
-module _ (κs : Lfts 6) (a : Dens κs zt-evaluate-kinds.ps) (r : EvaluateAnswer) (s : AtExit (endedOf 6 zt-evaluate-kinds.ps zt-evaluate-kinds.r) κs) where
+module _ (κs : Lfts 7) (a : Dens κs zt-evaluate-kinds.ps) (r : EvaluateAnswer) (s : AtExit (endedOf 7 zt-evaluate-kinds.ps zt-evaluate-kinds.r) κs) where
   pub zt-evaluate-promises : zt-evaluate.Post κs a r s
       → ZtEvaluatePromise
       (a .0)
@@ -133,10 +137,11 @@ module _ (κs : Lfts 6) (a : Dens κs zt-evaluate-kinds.ps) (r : EvaluateAnswer)
       (part (a .1 .1 .1 .1 .1 .1 .0) (s .1 .1 .1 .1 .1 .1 .0))
       (a .1 .1 .1 .1 .1 .1 .1 .0)
       (part (a .1 .1 .1 .1 .1 .1 .1 .1 .0) (s .1 .1 .1 .1 .1 .1 .1 .1 .0))
+      (part (a .1 .1 .1 .1 .1 .1 .1 .1 .1 .0) (s .1 .1 .1 .1 .1 .1 .1 .1 .1 .0))
       r
   zt-evaluate-promises p = p
 
-module _ (κs : Lfts 15) (a : Dens κs zt-export-kinds.ps) (r : ExportAnswer) (s : AtExit (endedOf 15 zt-export-kinds.ps zt-export-kinds.r) κs) where
+module _ (κs : Lfts 16) (a : Dens κs zt-export-kinds.ps) (r : ExportAnswer) (s : AtExit (endedOf 16 zt-export-kinds.ps zt-export-kinds.r) κs) where
   pub zt-export-promises : zt-export.Post κs a r s
       → ZtExportPromise
       (a .0)
@@ -160,5 +165,6 @@ module _ (κs : Lfts 15) (a : Dens κs zt-export-kinds.ps) (r : ExportAnswer) (s
       (part (a .1 .1 .1 .1 .1 .1 .1 .1 .1 .1 .1 .1 .1 .1 .1 .1 .1 .1 .0) (s .1 .1 .1 .1 .1 .1 .1 .1 .1 .1 .1 .1 .1 .1 .1 .1 .1 .1 .0))
       (part (a .1 .1 .1 .1 .1 .1 .1 .1 .1 .1 .1 .1 .1 .1 .1 .1 .1 .1 .1 .0) (s .1 .1 .1 .1 .1 .1 .1 .1 .1 .1 .1 .1 .1 .1 .1 .1 .1 .1 .1 .0))
       (part (a .1 .1 .1 .1 .1 .1 .1 .1 .1 .1 .1 .1 .1 .1 .1 .1 .1 .1 .1 .1 .0) (s .1 .1 .1 .1 .1 .1 .1 .1 .1 .1 .1 .1 .1 .1 .1 .1 .1 .1 .1 .1 .0))
+      (part (a .1 .1 .1 .1 .1 .1 .1 .1 .1 .1 .1 .1 .1 .1 .1 .1 .1 .1 .1 .1 .1 .0) (s .1 .1 .1 .1 .1 .1 .1 .1 .1 .1 .1 .1 .1 .1 .1 .1 .1 .1 .1 .1 .1 .0))
       r
   zt-export-promises p = p

@@ -1,5 +1,6 @@
 -- One law for each public call: what its function promises is what `Leaves` says of the call, so that the demands speak of the functions. A
--- list that is added to a call is a parameter of its promise, and so can't be forgotten here.
+-- list that is added to a call is a parameter of its promise, and so can't be forgotten here. `Leaves` doesn't speak of the work: no answer
+-- depends on it, and that it ends as zeros each promise says itself.
 use Prim.Native.Nat.{ℕ}
 use mathlib.Core.Path.{refl, sym, subst}
 use mathlib.Core.Bool.{Bool}
@@ -35,7 +36,7 @@ use Rattle.calls.specs.Outcome.{Tells, Verdict, Outcome, outcome, verdictOf, ve
 -- `dddmp::load`
 module _ (f list : Part (List ℕ)) (levels : ℕ) (count : Part ℕ) (level : Part (List ℕ)) (then els : Part (List ℤ))
     (next heads ids order permids auxids names lens : Part (List ℕ)) (roots : Part (List ℤ)) (rootnames rootlens : Part (List ℕ))
-    (edges : Part (List ℤ)) (seats : Part (List ℕ)) where
+    (edges : Part (List ℤ)) (seats work : Part (List ℕ)) where
   -- the call, and the store and the lists as it starts and as it leaves them
   abbrev this : Call
   this =
@@ -57,7 +58,7 @@ module _ (f list : Part (List ℕ)) (levels : ℕ) (count : Part ℕ) (level : P
   left v q = outcome v after (outputsOf q) (scratchOf q)
 
   pub load-leaves : {r : Loaded}
-      → LoadPromise f list levels count level then els next heads ids order permids auxids names lens roots rootnames rootlens edges seats r
+      → LoadPromise f list levels count level then els next heads ids order permids auxids names lens roots rootnames rootlens edges seats work r
       → Leaves limits this before (left (verdictOf (ofLoaded r)) lists)
   load-leaves {r} p =
       subst (λ q. Leaves limits this before (left (verdictOf (ofLoaded r)) q)) (sym (p .lists)) (rw (p .answer, p .store) (loads _ _))
@@ -72,7 +73,7 @@ module _ (f list : Part (List ℕ)) (levels : ℕ) (count : Part ℕ) (level : P
       loaded f list levels count level then els next heads ids order permids auxids names lens roots rootnames rootlens edges seats .answer
 
   pub zt-load-leaves : {r : LoadAnswer}
-      → ZtLoadPromise f list levels count level then els next heads ids order permids auxids names lens roots rootnames rootlens edges seats r
+      → ZtLoadPromise f list levels count level then els next heads ids order permids auxids names lens roots rootnames rootlens edges seats work r
       → Leaves limits this before (left (verdictOf answered) lists) × Tells (r .refusal) (r .line) (verdictOf answered)
   zt-load-leaves p = (
     subst (λ q. Leaves limits this before (left (verdictOf answered) q)) (sym (p .lists)) (rw (p .store) (loads _ _)),
@@ -81,8 +82,8 @@ module _ (f list : Part (List ℕ)) (levels : ℕ) (count : Part ℕ) (level : P
 
 -- `dddmp::evaluate`
 module _ (levels count : ℕ) (level : Part (List ℕ)) (then els : Part (List ℤ)) (next heads : Part (List ℕ)) (root : ℤ)
-    (setting : Part (List ℕ)) where
-  pub evaluate-leaves : {r : Evaluation} → EvaluatePromise levels count level then els next heads root setting r
+    (setting work : Part (List ℕ)) where
+  pub evaluate-leaves : {r : Evaluation} → EvaluatePromise levels count level then els next heads root setting work r
       → Leaves limits
       (evaluate root (old setting))
       (oldStore levels count level then els next heads)
@@ -94,7 +95,7 @@ module _ (levels count : ℕ) (level : Part (List ℕ)) (then els : Part (List �
   zt-evaluated (value b) = (refl, refl)
   zt-evaluated (refused n) = (refl, refl)
 
-  pub zt-evaluate-leaves : {r : EvaluateAnswer} → ZtEvaluatePromise levels count level then els next heads root setting r
+  pub zt-evaluate-leaves : {r : EvaluateAnswer} → ZtEvaluatePromise levels count level then els next heads root setting work r
       → Leaves limits
       (evaluate root (old setting))
       (oldStore levels count level then els next heads)
@@ -106,8 +107,8 @@ module _ (levels count : ℕ) (level : Part (List ℕ)) (then els : Part (List �
 
 -- `dddmp::export`
 module _ (settings : ExportSettings) (levels count : ℕ) (level : Part (List ℕ)) (then els : Part (List ℤ)) (next heads : Part (List ℕ)) (roots : Part (List ℤ))
-    (order bytes starts lens rootstarts rootlens slots numbers out : Part (List ℕ)) where
-  pub export-leaves : {r : Exported} → ExportPromise settings levels count level then els next heads roots order bytes starts lens rootstarts rootlens slots numbers out r
+    (order bytes starts lens rootstarts rootlens slots numbers out work : Part (List ℕ)) where
+  pub export-leaves : {r : Exported} → ExportPromise settings levels count level then els next heads roots order bytes starts lens rootstarts rootlens slots numbers out work r
       → Leaves limits
       (export (exporting (ofSettings settings) levels count level then els next heads roots order bytes starts lens rootstarts rootlens slots numbers out))
       (oldStore levels count level then els next heads)
@@ -120,12 +121,12 @@ module _ (settings : ExportSettings) (levels count : ℕ) (level : Part (List �
 
 -- `zt_export`
 module _ (version text ddstart ddlen : ℕ) (levels count : ℕ) (level : Part (List ℕ)) (then els : Part (List ℤ)) (next heads : Part (List ℕ)) (roots : Part (List ℤ))
-    (order bytes starts lens rootstarts rootlens slots numbers out : Part (List ℕ)) where
+    (order bytes starts lens rootstarts rootlens slots numbers out work : Part (List ℕ)) where
   zt-exported : (a : Read ℕ) → Tells (C.ofLength a .refusal) (C.ofLength a .line) (verdictRead a)
   zt-exported (value n) = (refl, refl)
   zt-exported (refused k) = (refl, refl)
 
-  pub zt-export-leaves : {r : ExportAnswer} → (p : ZtExportPromise version text ddstart ddlen levels count level then els next heads roots order bytes starts lens rootstarts rootlens slots numbers out r)
+  pub zt-export-leaves : {r : ExportAnswer} → (p : ZtExportPromise version text ddstart ddlen levels count level then els next heads roots order bytes starts lens rootstarts rootlens slots numbers out work r)
       → Leaves limits
       (export (exporting (settingsOf version text ddstart ddlen) levels count level then els next heads roots order bytes starts lens rootstarts rootlens slots numbers out))
       (oldStore levels count level then els next heads)

@@ -118,7 +118,7 @@ fn is_setting(levels: u16, setting: &[u8]) -> bool
     false
 }
 
-// What an edge answers at a setting.
+// What an edge answers at a setting. `work` is for the check of the store: of any length, and zeros afterwards.
 pub fn evaluate(
     levels: u16,
     count: Index,
@@ -129,10 +129,13 @@ pub fn evaluate(
     heads: &[Index],
     root: Edge,
     setting: &[u8],
+    work: &mut [Index],
 ) -> Evaluation
-    ensures { λ r. ⌜ EvaluationPromise levels count level then els next heads root setting r ⌝ }
+    ensures { λ r. ⌜ EvaluationPromise levels count level then els next heads root setting work r ⌝ }
 {
-    if !rules::keeps_rules(levels, count, level, then, els, next, heads) {
+    let kept = rules::keeps_rules(levels, count, level, then, els, next, heads, count, work);
+    zeros::clear_marks(work);
+    if !kept {
         return Evaluation::Refused(refusal::BROKEN_STORE);
     }
     if !is_root(count, root) {

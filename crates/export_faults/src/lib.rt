@@ -79,7 +79,8 @@ fn names_fit(
     export_names::diagram_fits(bytes, dd.start, dd.len)
 }
 
-// The refusal of an export, 0 of none; then `vars`, a list of zeros, is filled with each level's variable, counted from 1.
+// The refusal of an export, 0 of none; then `vars`, a list of zeros, is filled with each level's variable, counted from 1. `work` is for
+// the check of the store, and isn't cleared after it.
 pub fn export_fault(
     levels: u16,
     count: Index,
@@ -100,6 +101,7 @@ pub fn export_fault(
     numbers: usize,
     out: usize,
     vars: &mut [u16],
+    work: &mut [Index],
 ) -> u8
     requires { ⌜ now vars ≡ replicate varLimit 0 ⌝ }
     ensures { λ r. ⌜ FaultPromise levels count level then els next heads roots order bytes starts lens rootstarts rootlens dd slots numbers out vars r ⌝ }
@@ -117,7 +119,7 @@ pub fn export_fault(
     ) {
         return refusal::TOO_SHORT;
     }
-    if !rules::keeps_rules(levels, count, level, then, els, next, heads) {
+    if !rules::keeps_rules(levels, count, level, then, els, next, heads, count, work) {
         return refusal::BROKEN_STORE;
     }
     if !roots_fit(count, roots) {

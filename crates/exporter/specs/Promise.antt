@@ -53,9 +53,10 @@ module _ (self : ExportSettings) (levels count : ℕ) (level : Part (List ℕ)) 
   abbrev fault : ℕ
   fault = exportFault limits lentStore (old roots) (old order) lentNames (length (old slots)) (length (old numbers)) (length (old out))
 
-  pub record ExporterPromise (r : Exported) : Type 0 where
+  pub record ExporterPromise (work : Part (List ℕ)) (r : Exported) : Type 0 where
     -- 'Export gives 1, 3, 4, 6, 5'; 'on success unused output is zero'
     pub file : ExportsBy fault (ofSettings self) lentStore (old roots) (old order) lentNames (length (old out)) r (new out)
     -- 'Scratch ends as zeros.'
     pub slots-left : new slots ≡ replicate (length (old slots)) 0
     pub numbers-left : new numbers ≡ replicate (length (old numbers)) 0
+    pub work-left : new work ≡ replicate (length (old work)) 0

@@ -96,7 +96,8 @@ impl ExportSettings {
     }
 
     // Exports the diagrams of the roots into `out`. `order` has each variable's level; `bytes` holds the names, `starts` and `lens` the
-    // places of the variables', `rootstarts` and `rootlens` of the roots'. `slots` and `numbers` are marks, one for each node.
+    // places of the variables', `rootstarts` and `rootlens` of the roots'. `slots` and `numbers` are marks, one for each node; `work` is for the check of
+    // the store.
     pub fn export(
         self,
         levels: u16,
@@ -116,9 +117,10 @@ impl ExportSettings {
         slots: &mut [Index],
         numbers: &mut [Index],
         out: &mut [u8],
+        work: &mut [Index],
     ) -> Exported
         ensures { λ r. ⌜ ExporterPromise self levels count level then els next heads roots order
-            bytes starts lens rootstarts rootlens slots numbers out r ⌝ }
+            bytes starts lens rootstarts rootlens slots numbers out work r ⌝ }
     {
         let dd = self.dd;
         let version = self.version;
@@ -146,7 +148,9 @@ impl ExportSettings {
             numbers.len(),
             out.len(),
             &mut vars,
+            work,
         );
+        zeros::clear_marks(work);
         if refused != 0 {
             return Exported::Refused(refused);
         }

@@ -33,21 +33,24 @@ module _ (file list : Part (List ℕ)) (levels : ℕ) (count : Part ℕ) (level 
   loaded =
       dddmp.loaded file list levels count level then els next heads ids order permids auxids names lens roots rootnames rootlens edges seats
 
-  pub record ZtLoadPromise (r : LoadAnswer) : Type 0 where
+  pub record ZtLoadPromise (work : Part (List ℕ)) (r : LoadAnswer) : Type 0 where
     -- 'A refusal is a number and a line.'
     pub answer : r ≡ ofLoadAnswer (loaded .answer)
     -- 'On any refusal .. the store is unchanged'
     pub store : newStore levels (new count) level then els next heads ≡ loaded .after
     -- 'On any refusal outputs are all zeros ..; on success unused output is zero. Scratch ends as zeros.'
     pub lists : newParts ≡ partsOf (lengthsOf oldParts) loaded
+    pub work-left : new work ≡ replicate (length (old work)) 0
 
 pub record ZtEvaluatePromise (levels count : ℕ) (level : Part (List ℕ)) (then els : Part (List ℤ)) (next heads : Part (List ℕ)) (root : ℤ)
-    (setting : Part (List ℕ)) (r : EvaluateAnswer) : Type 0 where
+    (setting work : Part (List ℕ)) (r : EvaluateAnswer) : Type 0 where
   -- 'Evaluation gives 3, 4.'
   pub answer : r ≡ ofEvaluated (evaluateOf limits root (old setting) (oldStore levels count level then els next heads))
+  -- 'Scratch ends as zeros.'
+  pub work-left : new work ≡ replicate (length (old work)) 0
 
 pub record ZtExportPromise (version text ddstart ddlen levels count : ℕ) (level : Part (List ℕ)) (then els : Part (List ℤ))
-    (next heads : Part (List ℕ)) (roots : Part (List ℤ)) (order bytes starts lens rootstarts rootlens slots numbers out : Part (List ℕ))
+    (next heads : Part (List ℕ)) (roots : Part (List ℤ)) (order bytes starts lens rootstarts rootlens slots numbers out work : Part (List ℕ))
     (r : ExportAnswer) : Type 0 where
   -- 'Export gives 1, 3, 4, 6, 5'; 'version 3.0 and text are each a byte that isn't 0'
   pub file : ExportingForC
@@ -57,3 +60,4 @@ pub record ZtExportPromise (version text ddstart ddlen levels count : ℕ) (leve
   -- 'Scratch ends as zeros.'
   pub slots-left : new slots ≡ replicate (length (old slots)) 0
   pub numbers-left : new numbers ≡ replicate (length (old numbers)) 0
+  pub work-left : new work ≡ replicate (length (old work)) 0

@@ -29,9 +29,10 @@ pub extern "C" fn zt_load(
     rootlens: &mut [u32],
     edges: &mut [Edge],
     seats: &mut [u16],
+    work: &mut [Index],
 ) -> LoadAnswer
     ensures { λ r. ⌜ ZtLoadPromise file list levels count level then els next heads ids order permids auxids names lens roots rootnames rootlens
-        edges seats r ⌝ }
+        edges seats work r ⌝ }
 {
     c_answers::load_answer(dddmp::load(
         file,
@@ -54,6 +55,7 @@ pub extern "C" fn zt_load(
         rootlens,
         edges,
         seats,
+        work,
     ))
 }
 
@@ -69,8 +71,9 @@ pub extern "C" fn zt_evaluate(
     heads: &[Index],
     root: Edge,
     setting: &[u8],
+    work: &mut [Index],
 ) -> EvaluateAnswer
-    ensures { λ r. ⌜ ZtEvaluatePromise levels count level then els next heads root setting r ⌝ }
+    ensures { λ r. ⌜ ZtEvaluatePromise levels count level then els next heads root setting work r ⌝ }
 {
     c_answers::evaluate_answer(dddmp::evaluate(
         levels,
@@ -82,6 +85,7 @@ pub extern "C" fn zt_evaluate(
         heads,
         root,
         setting,
+        work,
     ))
 }
 
@@ -109,9 +113,10 @@ pub extern "C" fn zt_export(
     slots: &mut [Index],
     numbers: &mut [Index],
     out: &mut [u8],
+    work: &mut [Index],
 ) -> ExportAnswer
     ensures { λ r. ⌜ ZtExportPromise version text ddstart ddlen levels count level then els next heads roots order bytes starts lens rootstarts rootlens
-        slots numbers out r ⌝ }
+        slots numbers out work r ⌝ }
 {
     let settings = c_answers::settings_of(version, text, ddstart, ddlen);
     c_answers::export_answer(dddmp::export(
@@ -133,5 +138,6 @@ pub extern "C" fn zt_export(
         slots,
         numbers,
         out,
+        work,
     ))
 }

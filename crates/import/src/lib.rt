@@ -6,7 +6,7 @@ use import_steps::Imported;
 use import_steps::Setup;
 
 // Reads the nodes of a file from a position on into the store, and puts the edges of the roots in place of their numbers. On a refusal the
-// store is the one handed in, and the roots are zeros. The scratch, `edges` and `seats`, ends as zeros.
+// store is the one handed in, and the roots are zeros. The scratch, `edges`, `seats` and `work`, ends as zeros.
 pub fn import(
     f: &[u8],
     from: usize,
@@ -22,9 +22,10 @@ pub fn import(
     edges: &mut [Edge],
     seats: &mut [u16],
     roots: &mut [Edge],
+    work: &mut [Index],
 ) -> Imported
-    requires { ⌜ ImportAsks setup list levels count level then els next heads edges seats ⌝ }
-    ensures { λ r. ⌜ ImportPromise f from setup list levels count level then els next heads edges seats roots r ⌝ }
+    requires { ⌜ ImportAsks setup list levels count level then els next heads edges seats work ⌝ }
+    ensures { λ r. ⌜ ImportPromise f from setup list levels count level then els next heads edges seats roots work r ⌝ }
 {
     let before = *count;
     let read = import_lines::import_lines(
@@ -41,6 +42,7 @@ pub fn import(
         heads,
         edges,
         seats,
+        work,
     );
     let answer = import_steps::with_end(f, read);
     let ok = import_steps::is_read(answer);
@@ -50,5 +52,6 @@ pub fn import(
     nodes::take_back(levels, count, level, then, els, next, heads, to);
     zeros::clear_edges(edges);
     zeros::clear_seats(seats);
+    zeros::clear_marks(work);
     answer
 }

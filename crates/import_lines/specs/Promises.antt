@@ -10,6 +10,8 @@ use Rattle.codes.specs.Limits.{limits}
 use Rattle.store.specs.Rules.{Rules}
 use Rattle.codes.specs.Lent.{Part, old, new}
 use Rattle.store.specs.Lent.{storeNow, oldStore, newStore}
+use Rattle.unique_table.specs.Index.{Finds, widthFor}
+use Rattle.slots.specs.Most.{mostNodes}
 use Rattle.insertion.specs.Known.{KnownNodes}
 use Rattle.import_steps.specs.declared.Imported.{Imported}
 use Rattle.import_steps.specs.declared.Setup.{Setup}
@@ -23,13 +25,14 @@ module _ (setup : Setup) (list : RefT (List ℕ)) (levels : ℕ) (count : RefT �
   abbrev σ : Store
   σ = storeNow levels (now count) level then els next heads
 
-  -- a store that keeps its rules, levels of it, and limits that were judged before
-  pub record ImportAsks : Type 0 where
+  -- a store that keeps its rules, levels of it, limits that were judged before, and work that finds the store's nodes
+  pub record ImportAsks (work : RefT (List ℕ)) : Type 0 where
     pub rules : Rules limits σ
     pub levels-fit : LevelsOf σ (now list)
     pub bounds : Bounded (ofSetup setup (now list) levels) (length (now edges)) (length (now seats))
+    pub finds : Finds (widthFor (mostNodes (length (now level))) (length (now work))) σ (now count) (now work)
 
-  -- besides, an index that knows the store's nodes
+  -- the same with an index that knows the store's nodes and has room for more
   pub record LinesAsks (index : RefT (List ℕ)) (width : ℕ) : Type 0 where
     pub rules : Rules limits σ
     pub levels-fit : LevelsOf σ (now list)
@@ -55,9 +58,10 @@ module _ (f : Part (List ℕ)) (from : ℕ) (setup : Setup) (list : Part (List �
     pub laid : Laid (builtFrom limits by before (old f) from .answer) (new edges)
 
   -- 'On any refusal outputs are all zeros and the store is unchanged; .. Scratch ends as zeros.'
-  pub record ImportPromise (seats : Part (List ℕ)) (roots : Part (List ℤ)) (r : Imported) : Type 0 where
+  pub record ImportPromise (seats : Part (List ℕ)) (roots : Part (List ℤ)) (work : Part (List ℕ)) (r : Imported) : Type 0 where
     pub answer : ofImported r ≡ importOf limits by before (old f) from (old roots) .answer
     pub store : after ≡ importOf limits by before (old f) from (old roots) .after
     pub roots-left : new roots ≡ importOf limits by before (old f) from (old roots) .roots
     pub edges-left : new edges ≡ replicate (length (old edges)) (pos 0)
     pub seats-left : new seats ≡ replicate (length (old seats)) 0
+    pub work-left : new work ≡ replicate (length (old work)) 0

@@ -92,7 +92,7 @@ fn read_lines(
     Imported::Nodes(at)
 }
 
-// The same with an index of the store's nodes, which is made here: a small one where the store has few slots, since it is cleared each time.
+// The same with the work that is lent: where it is long enough, the index of the store's nodes lies in it.
 pub fn import_lines(
     f: &[u8],
     from: usize,
@@ -107,33 +107,12 @@ pub fn import_lines(
     heads: &mut [Index],
     edges: &mut [Edge],
     seats: &mut [u16],
+    work: &mut [Index],
 ) -> Imported
-    requires { ⌜ ImportAsks setup list levels count level then els next heads edges seats ⌝ }
+    requires { ⌜ ImportAsks setup list levels count level then els next heads edges seats work ⌝ }
     ensures { λ r. ⌜ LinesPromise f from setup list levels count level then els next heads edges r ⌝ }
 {
-    if level.len() <= unique_table::FEW {
-        let mut few = [0u16; unique_table::FEW_LEN];
-        unique_table::distinct(&mut few, unique_table::FEW_WIDTH, *count, level, then, els);
-        return read_lines(
-            f,
-            from,
-            setup,
-            list,
-            levels,
-            count,
-            level,
-            then,
-            els,
-            next,
-            heads,
-            edges,
-            seats,
-            &mut few,
-            unique_table::FEW_WIDTH,
-        );
-    }
-    let mut many = [0u16; unique_table::LEN];
-    unique_table::distinct(&mut many, unique_table::WIDTH, *count, level, then, els);
+    let width = unique_table::width_for(slots::most_nodes(level.len()), work.len());
     read_lines(
         f,
         from,
@@ -148,7 +127,7 @@ pub fn import_lines(
         heads,
         edges,
         seats,
-        &mut many,
-        unique_table::WIDTH,
+        work,
+        width,
     )
 }

@@ -1,5 +1,5 @@
 -- What finding or making a node with a positive then promises.
-use Prim.Native.Nat.{ℕ}
+use Prim.Native.Nat.{ℕ, _≤_}
 use mathlib.Core.Path.{_≡_}
 use mathlib.Core.List.{List}
 use lib.IntN.{ℤ}
@@ -10,7 +10,18 @@ use Rattle.store.specs.Lent.{oldStore, newStore}
 use Rattle.store.specs.Make as nodes
 use Rattle.insertion.specs.declared.Making.{Making}
 use Rattle.insertion.specs.Kinds.{ofMaking}
-use Rattle.insertion.specs.Known.{KnownNodes}
+use Rattle.insertion.specs.declared.Found.{Found}
+use Rattle.insertion.specs.Known.{KnownNodes, EndsAt}
+
+module _ (levels count : ℕ) (level : Part (List ℕ)) (then els : Part (List ℤ)) (next heads index : Part (List ℕ)) where
+  -- the store that is looked at
+  abbrev lent : Store
+  lent = oldStore levels count level then els next heads
+
+  -- the node that the definition's search finds, or 0 and, in an index, the entry where a search for it ended
+  pub record LookUpPromise (width l : ℕ) (t e : ℤ) (r : Found) : Type 0 where
+    pub node : r .node ≡ nodes.find lent l t e
+    pub ended : 1 ≤ width → r .node ≡ 0 → EndsAt width lent (old index) l t e (r .at)
 
 module _ (levels : ℕ) (count : Part ℕ) (level : Part (List ℕ)) (then els : Part (List ℤ)) (next heads : Part (List ℕ)) where
   -- the store as the call starts, and as it ends

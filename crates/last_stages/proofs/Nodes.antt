@@ -11,6 +11,8 @@ use Rattle.header_values.specs.Kinds.{ofVarInfo}
 use Rattle.store.specs.Store.{Store}
 use Rattle.codes.specs.Limits.{limits}
 use Rattle.store.specs.Rules.{Rules}
+use Rattle.unique_table.specs.Index.{Finds, widthFor}
+use Rattle.slots.specs.Most.{mostNodes}
 use Rattle.header.specs.Header.{refusal}
 use Rattle.header.specs.Kinds.{ofHeader, ofLoaded}
 use Rattle.header.specs.declared.DumpHeader.{DumpHeader}
@@ -18,7 +20,7 @@ use Rattle.header.specs.declared.Loaded.{Loaded}
 use Rattle.header.specs.declared.Loaded.the-variants as loaded
 use Rattle.imported.specs.Build.{LevelsOf}
 use Rattle.imported.specs.Import as nodes
-use Rattle.stages.specs.Stages.{Readable, Noded, noded, nodesAfter}
+use Rattle.stages.specs.Stages.{Readable, Searchable, Noded, noded, nodesAfter}
 
 -- what a refusal so far leaves
 abbrev pub noneNoded : ℕ → ℕ → Store → List ℤ → Noded
@@ -39,6 +41,11 @@ module _ (r : Loaded) (σ : Store) (list : List ℕ) where
       pub import-may : {x : Bool} → x ≡ not (eqb (ofVarInfo (h .varinfo)) 4)
           → Rules limits σ × (LevelsOf σ list × nodes.Bounded (by x) e s)
       import-may y = rw y (rw q at p)
+
+    -- and the work finds the store's nodes
+    pub nodes-found : (work : List ℕ) → Searchable (ofLoaded r) σ work
+        → Finds (widthFor (mostNodes (length (σ .level))) (length work)) σ (σ .count) work
+    nodes-found work p = rw q at p
 
     -- the nodes leave what their import leaves
     pub nodes-noded : {x : Bool} → x ≡ not (eqb (ofVarInfo (h .varinfo)) 4) → (f : List ℕ) (ids : List ℤ)

@@ -17,12 +17,13 @@ module _ (ready : Loaded) (f : Part (List ℕ)) (levels : ℕ) (list : Part (Lis
   noded = nodesAfter (ofLoaded ready) (oldStore levels (old count) level then els next heads) (old f) (old list) (old roots)
 
   -- 'On any refusal outputs are all zeros and the store is unchanged; .. Scratch ends as zeros.'
-  pub record LoadNodesPromise (r : Loaded) : Type 0 where
+  pub record LoadNodesPromise (work : Part (List ℕ)) (r : Loaded) : Type 0 where
     pub answer : ofLoaded r ≡ noded .answer
     pub store : newStore levels (new count) level then els next heads ≡ noded .after
     pub roots-left : new roots ≡ noded .roots
     pub edges-left : new edges ≡ replicate (length (old edges)) (pos 0)
     pub seats-left : new seats ≡ replicate (length (old seats)) 0
+    pub work-left : new work ≡ replicate (length (old work)) 0
 
 module _ (answer : Loaded) where
   -- 'On any refusal outputs are all zeros'; else a list is as it was

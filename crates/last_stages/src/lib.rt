@@ -8,7 +8,7 @@ ghost use Rattle.store.specs.Lent.{storeNow};
 ghost use Rattle.header_values.specs.Kinds.{ofVarInfo};
 ghost use Rattle.header.specs.Kinds.{ofHeader, ofLoaded};
 ghost use Rattle.import_steps.specs.Kinds.{ofImported};
-ghost use Rattle.stages.specs.Stages.{Readable, answerWithNodes, isRefusal, clearedIf};
+ghost use Rattle.stages.specs.Stages.{Readable, Searchable, answerWithNodes, isRefusal, clearedIf};
 ghost use Rattle.last_stages.specs.Promises.{LoadNodesPromise, FinishPromise};
 use codes::VarInfo;
 use edges::Edge;
@@ -56,9 +56,11 @@ pub fn load_nodes(
     roots: &mut [Edge],
     edges: &mut [Edge],
     seats: &mut [u16],
+    work: &mut [Index],
 ) -> Loaded
     requires { ⌜ Readable (ofLoaded ready) (storeNow levels (now count) level then els next heads) (now list) (length (now edges)) (length (now seats)) ⌝ }
-    ensures { λ r. ⌜ LoadNodesPromise ready f levels list count level then els next heads roots edges seats r ⌝ }
+    requires { ⌜ Searchable (ofLoaded ready) (storeNow levels (now count) level then els next heads) (now work) ⌝ }
+    ensures { λ r. ⌜ LoadNodesPromise ready f levels list count level then els next heads roots edges seats work r ⌝ }
 {
     match ready {
         Loaded::Header(h) => {
@@ -85,6 +87,7 @@ pub fn load_nodes(
                 edges,
                 seats,
                 roots,
+                work,
             );
             with_nodes(h, nodes)
         }
@@ -92,6 +95,7 @@ pub fn load_nodes(
             zeros::clear_edges(roots);
             zeros::clear_edges(edges);
             zeros::clear_seats(seats);
+            zeros::clear_marks(work);
             Loaded::Refused(n, line)
         }
     }

@@ -37,6 +37,9 @@ pub const INPUT_MOST: usize = 65536;
 // How many slots the store has, how many entries the scratch and the marks.
 pub const SLOTS: usize = 4096;
 
+// The length of work that is enough for the index of as many nodes.
+const WORK: usize = 3 * (SLOTS + 1);
+
 // Reads the header for the level count and the level list, which is laid over the front of a list.
 fn plan_levels(f: &[u8], list: &mut [u16]) -> Plan
     ensures { λ r. ⌜ r ≡ planBy (headRead limits (now (f .entry))) (headRead limits (now (f .entry)) .answer) ⌝ }
@@ -132,6 +135,7 @@ fn write_back(
     let rooted = passed_on(rootlens);
     let mut slots = [0 as Index; SLOTS];
     let mut numbers = [0 as Index; SLOTS];
+    let mut work = [0 as Index; WORK];
     let exported = dddmp::export(
         settings,
         levels,
@@ -151,6 +155,7 @@ fn write_back(
         &mut slots,
         &mut numbers,
         out,
+        &mut work,
     );
     match exported {
         Exported::Written(n) => Recoded::Written(n),
@@ -179,6 +184,7 @@ fn reload(f: &[u8], list: &[u16], levels: u16, out: &mut [u8]) -> Recoded
     let mut rootlens = [0u32; limits::ROOT_LIMIT];
     let mut edges = [0 as Edge; SLOTS];
     let mut seats = [0u16; SLOTS];
+    let mut work = [0 as Index; WORK];
     let loaded = dddmp::load(
         f,
         list,
@@ -200,6 +206,7 @@ fn reload(f: &[u8], list: &[u16], levels: u16, out: &mut [u8]) -> Recoded
         &mut rootlens,
         &mut edges,
         &mut seats,
+        &mut work,
     );
     match loaded {
         Loaded::Header(h) => {

@@ -5,7 +5,7 @@ use mathlib.Core.List.{List, []}
 use Prim.Native.Nat.{ℕ, _-_, _≤_, _<_}
 use native.Mathlib.Omega.{arith}
 use native.Mathlib.Decide.{decLt}
-use lib.ListN.{length}
+use lib.ListN.{length, replicate, length-replicate}
 use lib.IntN.{ℤ}
 use Rattle.edges.specs.Width.{edgeLimit}
 use Rattle.store.specs.Store.{store, slots}
@@ -91,11 +91,18 @@ module _ (levels count : ℕ) (L : List ℕ) (T E : List ℤ) (X H : List ℕ) w
   pub no-chains : (Chains (store 0 count L T E X H) → ⊥) → false ≡ keeps limits (store levels count L T E X H)
   no-chains f = is-keeps _ _ false (says-no (λ R. f (chains-part levels count L T E X H (R .chains))))
 
-  pub no-alone : (AllAlone (slots L T E) count → ⊥) → false ≡ keeps limits (store levels count L T E X H)
-  no-alone f = is-keeps _ _ false (says-no (λ R. f (nodes-alone levels count L T E X H (R .nodes))))
+  pub no-zeros : (Zeros (store 0 count L T E X []) → ⊥) → false ≡ keeps limits (store levels count L T E X H)
+  no-zeros f = is-keeps _ _ false (says-no (λ R. f (zeros-part levels count L T E X H (R .zeros))))
 
-  pub by-zeros : Sizes limits (store levels count L T E X H) → AllFit (store levels count L T E [] []) → Chains (store 0 count L T E X H)
-      → AllAlone (slots L T E) count → {r : Bool} → Decides r (Zeros (store 0 count L T E X [])) → r ≡ keeps limits (store levels count L T E X H)
-  by-zeros z f c a d = is-keeps _ _ _ (decides-as
-      (λ y. record { sizes = z; nodes = parts-nodes levels count L T E X H f a; chains = part-chains levels count L T E X H c; zeros = part-zeros levels count L T E X H y })
-      (λ R. zeros-part levels count L T E X H (R .zeros)) d)
+  pub by-alone : Sizes limits (store levels count L T E X H) → AllFit (store levels count L T E [] []) → Chains (store 0 count L T E X H)
+      → Zeros (store 0 count L T E X []) → {r : Bool} → Decides r (AllAlone (slots L T E) count) → r ≡ keeps limits (store levels count L T E X H)
+  by-alone z f c y d = is-keeps _ _ _ (decides-as
+      (λ a. record { sizes = z; nodes = parts-nodes levels count L T E X H f a; chains = part-chains levels count L T E X H c; zeros = part-zeros levels count L T E X H y })
+      (λ R. nodes-alone levels count L T E X H (R .nodes)) d)
+
+-- a list that was cleared is as long as before, and zeros to its end
+pub cleared-long : (xs ys : List ℕ) → xs ≡ replicate (length ys) 0 → length xs ≡ length ys
+cleared-long xs ys q = ap length q ∙ length-replicate (length ys) 0
+
+pub cleared : (xs ys : List ℕ) → xs ≡ replicate (length ys) 0 → xs ≡ replicate (length xs) 0
+cleared xs ys q = q ∙ ap (λ n. replicate n 0) (sym (cleared-long xs ys q))

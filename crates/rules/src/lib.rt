@@ -4,12 +4,11 @@ ghost use mathlib.Core.List.{[]};
 ghost use Prim.Native.Nat.{ℕ, _≤_, _<_};
 ghost use lib.ListN.{length, getD};
 ghost use Rattle.edges.specs.Width.{edgeLimit};
-ghost use Rattle.store.specs.Lent.{oldStore};
-ghost use Rattle.store.specs.Store.{store, slots};
-ghost use Rattle.codes.specs.Limits.{limits};
+ghost use Rattle.store.specs.Lent.{storeNow, oldStore};
+ghost use Rattle.store.specs.Store.{store};
 ghost use Rattle.store.specs.Rules.{Chains, Zero, Zeros};
-ghost use Rattle.store.specs.Keeps.{Decides, keeps};
-ghost use Rattle.unique_table.specs.Index.{AllAlone};
+ghost use Rattle.store.specs.Keeps.{Decides};
+ghost use Rattle.rules.specs.Promises.{AlonePromise, KeepsPromise};
 use codes::limits;
 use edges::Edge;
 use edges::Index;
@@ -65,44 +64,46 @@ pub fn chains_hold(
     heads_newest(heads, &newest)
 }
 
-// Are no two nodes alike? A small index does where there are few nodes, since it is cleared each time.
-pub fn all_alone(count: Index, level: &[u16], then: &[Edge], els: &[Edge]) -> bool
+// Are no two nodes alike? By the index that `most` nodes have in the work that is lent, so that it is ready for what the call goes on with;
+// where the work isn't long enough for it, by the chains.
+pub fn all_alone(
+    count: Index,
+    level: &[u16],
+    then: &[Edge],
+    els: &[Edge],
+    next: &[Index],
+    heads: &[Index],
+    most: Index,
+    work: &mut [Index],
+) -> bool
     requires { ⌜ (1 ≤ count) × (count < edgeLimit) ⌝ }
-    requires { ⌜ (count ≤ length (now level)) × ((count ≤ length (now then)) × (count ≤ length (now els))) ⌝ }
-    ensures { λ r. ⌜ Decides r (AllAlone (slots (now (level .entry)) (now (then .entry)) (now (els .entry))) count) ⌝ }
+    requires { ⌜ (count ≤ length (now level)) × ((count ≤ length (now then)) × ((count ≤ length (now els)) × (count ≤ length (now next)))) ⌝ }
+    requires { ⌜ length (now heads) ≡ 256 ⌝ }
+    requires { ⌜ Chains (storeNow 0 count level then els next heads) ⌝ }
+    ensures { λ r. ⌜ AlonePromise count level then els most work r ⌝ }
 {
-    if count as usize <= unique_table::FEW {
-        let mut few = [0u16; unique_table::FEW_LEN];
-        return unique_table::distinct(&mut few, unique_table::FEW_WIDTH, count, level, then, els);
+    let width = unique_table::width_for(most, work.len());
+    if width != 0 && count <= most {
+        zeros::clear_marks(work);
+        return unique_table::distinct(work, width, count, level, then, els);
     }
-    let mut many = [0u16; unique_table::LEN];
-    unique_table::distinct(&mut many, unique_table::WIDTH, count, level, then, els)
+    stretches::distinct(count, level, then, els, next, heads)
 }
 
-// Is slot n zero?
+// Is slot n zero? All four are read before any is looked at, so that many slots can be looked at in one step.
 pub fn slot_zero(level: &[u16], then: &[Edge], els: &[Edge], next: &[Index], n: usize) -> bool
     requires { ⌜ (1 ≤ n) × ((n ≤ length (now level)) × ((n ≤ length (now then)) × ((n ≤ length (now els)) × (n ≤ length (now next))))) ⌝ }
     ensures { λ r. ⌜ Decides r (Zero (store 0 0 (now (level .entry)) (now (then .entry)) (now (els .entry)) (now (next .entry)) []) n) ⌝ }
 {
     let i = n - 1;
-    if level[i] != 0 {
-        return false;
-    }
-    if next[i] != 0 {
-        return false;
-    }
+    let l = level[i];
     let t = then[i];
-    if edges::magnitude(t) != 0 {
-        return false;
-    }
     let e = els[i];
-    if edges::magnitude(e) != 0 {
-        return false;
-    }
-    true
+    let x = next[i];
+    (l == 0) & edges::same(t, 0) & edges::same(e, 0) & (x == 0)
 }
 
-// Are slot 1 and the unused slots zero?
+// Are slot 1 and the unused slots zero? The loop has no early return, for the same reason: there may be many slots.
 pub fn zeros_kept(count: Index, level: &[u16], then: &[Edge], els: &[Edge], next: &[Index]) -> bool
     requires { ⌜ (1 ≤ count) × (count ≤ length (now level)) ⌝ }
     requires { ⌜ (length (now then) ≡ length (now level)) × ((length (now els) ≡ length (now level)) × (length (now next) ≡ length (now level))) ⌝ }
@@ -111,18 +112,19 @@ pub fn zeros_kept(count: Index, level: &[u16], then: &[Edge], els: &[Edge], next
     if !slot_zero(level, then, els, next, 1) {
         return false;
     }
-    let used = count as usize;
-    let mut n = used + 1;
-    while n <= level.len() {
-        if !slot_zero(level, then, els, next, n) {
-            return false;
+    let mut zero = true;
+    let mut used = count as usize;
+    while used < level.len() {
+        used += 1;
+        if !slot_zero(level, then, els, next, used) {
+            zero = false;
         }
-        n += 1;
     }
-    true
+    zero
 }
 
-// Does a store keep the rules? Answers for any contents.
+// Does a store keep the rules? Answers for any contents. Where it does and the work is long enough, the index of its nodes lies in it
+// afterwards, with room for `most` of them.
 pub fn keeps_rules(
     levels: u16,
     count: Index,
@@ -131,8 +133,10 @@ pub fn keeps_rules(
     els: &[Edge],
     next: &[Index],
     heads: &[Index],
+    most: Index,
+    work: &mut [Index],
 ) -> bool
-    ensures { λ r. ⌜ r ≡ keeps limits (oldStore levels count level then els next heads) ⌝ }
+    ensures { λ r. ⌜ KeepsPromise levels count level then els next heads most work r ⌝ }
 {
     if !node_rules::sizes_kept(levels, count, level, then, els, next, heads) {
         return false;
@@ -143,8 +147,8 @@ pub fn keeps_rules(
     if !chains_hold(count, level, then, els, next, heads) {
         return false;
     }
-    if !all_alone(count, level, then, els) {
+    if !zeros_kept(count, level, then, els, next) {
         return false;
     }
-    zeros_kept(count, level, then, els, next)
+    all_alone(count, level, then, els, next, heads, most, work)
 }

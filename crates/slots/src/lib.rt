@@ -11,6 +11,7 @@ ghost use Rattle.store.specs.Lent.{storeNow, oldStore, newStore};
 ghost use Rattle.codes.specs.Limits.{limits};
 ghost use Rattle.store.specs.Rules.{Sizes};
 ghost use Rattle.store.specs.Make as nodes;
+ghost use Rattle.slots.specs.Most.{mostNodes};
 use codes::limits::NODE_LIMIT;
 use edges::Edge;
 use edges::Index;
@@ -35,6 +36,16 @@ pub fn has_room(count: Index, level: &[u16]) -> bool
         return false;
     }
     true
+}
+
+// How many nodes a store with so many slots can have.
+pub fn most_nodes(len: usize) -> Index
+    ensures { λ r. ⌜ r ≡ mostNodes len ⌝ }
+{
+    if len < NODE_LIMIT {
+        return len as Index;
+    }
+    NODE_LIMIT as Index
 }
 
 // One node more, in the next slot and at the front of its chain.

@@ -9,6 +9,8 @@ use Rattle.codes.specs.Faults.{firstFault}
 use Rattle.store.specs.Store.{Store}
 use Rattle.codes.specs.Limits.{limits}
 use Rattle.store.specs.Rules.{Rules}
+use Rattle.unique_table.specs.Index.{Finds, widthFor}
+use Rattle.slots.specs.Most.{mostNodes}
 use Rattle.header.specs.Header.{Header, HeaderAnswer, header, refusal}
 use Rattle.imported.specs.Build.{LevelsOf}
 use Rattle.imported.specs.Import as nodes
@@ -38,6 +40,12 @@ abbrev pub Readable : HeaderAnswer → Store → List ℕ → ℕ → ℕ → Ty
 Readable (header h) σ list edges seats =
     Rules limits σ × (LevelsOf σ list × nodes.Bounded (setupFor list (σ .levels) h) edges seats)
 Readable (refusal n line) σ list edges seats = Unit
+
+-- and what finds the store's nodes while more are made: an index in the work that is lent, where that is long enough for as many as there are
+-- slots for
+abbrev pub Searchable : HeaderAnswer → Store → List ℕ → Type 0
+Searchable (header h) σ work = Finds (widthFor (mostNodes (length (σ .level))) (length work)) σ (σ .count) work
+Searchable (refusal n line) σ work = Unit
 
 -- the header stands where its nodes are read
 abbrev pub answerWithNodes : Header → nodes.NodesAnswer → HeaderAnswer

@@ -4,10 +4,10 @@
 ghost use mathlib.Core.Path.{_≡_};
 ghost use mathlib.Core.List.{[], _∷_};
 ghost use Rattle.codes.specs.Limits.{limits};
-ghost use Rattle.store.specs.Lent.{oldStore};
 ghost use Rattle.header.specs.Header.{listsFault, atLeast, lengthAfter};
 ghost use Rattle.header.specs.Kinds.{ofLoaded};
-ghost use Rattle.stages.specs.Stages.{storeAfter, scratched, listed};
+ghost use Rattle.stages.specs.Stages.{scratched, listed};
+ghost use Rattle.stages.specs.Promises.{StoreFaultPromise};
 use codes::limits;
 use codes::refusal;
 use edges::Edge;
@@ -34,7 +34,8 @@ pub fn lists_fault(
     )
 }
 
-// The store: what was found before, 0 for nothing; else 3 where it breaks its rules, else 0.
+// The store: what was found before, 0 for nothing; else 3 where it breaks its rules, else 0. Then the index of its nodes lies in the work, where
+// that is long enough for as many as there are slots for.
 pub fn store_fault(
     found: u8,
     levels: u16,
@@ -44,13 +45,15 @@ pub fn store_fault(
     els: &[Edge],
     next: &[Index],
     heads: &[Index],
+    work: &mut [Index],
 ) -> u8
-    ensures { λ r. ⌜ r ≡ storeAfter found (oldStore levels count level then els next heads) ⌝ }
+    ensures { λ r. ⌜ StoreFaultPromise found levels count level then els next heads work r ⌝ }
 {
     if found != 0 {
         return found;
     }
-    if rules::keeps_rules(levels, count, level, then, els, next, heads) {
+    let most = slots::most_nodes(level.len());
+    if rules::keeps_rules(levels, count, level, then, els, next, heads, most, work) {
         return 0;
     }
     refusal::BROKEN_STORE

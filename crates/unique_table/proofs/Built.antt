@@ -20,7 +20,7 @@ pub record Built (width : ℕ) (σ : Store) (count long : ℕ) (ix : List ℕ) (
   pub alone : AllAlone σ (n - 1)
 
 module _ (width : ℕ) (σ : Store) (count : ℕ) where
-  pub built-start : (ix : List ℕ) → ix ≡ replicate (length ix) 0 → 1 ≤ width → width ≤ 2 ^ 16 → width + 2 * count + 2 ≤ length ix → 1 ≤ count
+  pub built-start : (ix : List ℕ) → ix ≡ replicate (length ix) 0 → 1 ≤ width → width ≤ 2 ^ 34 → width + 2 * count + 2 ≤ length ix → 1 ≤ count
       → Built width σ count (length ix) ix 2
   built-start ix q w x h k = record {
     low = omega arith;

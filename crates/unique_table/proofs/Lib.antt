@@ -3,3 +3,4 @@ pub mod Holding
 pub mod Mixed
 pub mod More
 pub mod Seeking
+pub mod Widths

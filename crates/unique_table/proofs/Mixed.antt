@@ -1,38 +1,36 @@
 -- The key and the head of a level, a then and an else: the code's sums are those of the definitions, each fits, and a head lies below the
 -- width.
 use mathlib.Core.Path.{_≡_}
-use Prim.Native.Nat.{ℕ, _+_, _*_, _/_, _%_, _^_, _≤_, _<_}
+use Prim.Native.Nat.{ℕ, _+_, _-_, _*_, _/_, _%_, _^_, _≤_, _<_}
 use native.Mathlib.Omega.{arith}
 use native.Mathlib.Nat.{mod-lt, mul-comm, mul-le-mul, mul-lt-mul-of-pos-right, div-lt-iff-lt-mul}
 use lib.IntN.{ℤ}
-use Rattle.edges.specs.Width.{edgeBits}
-use Rattle.edges.specs.Edge.{bits}
-use Rattle.unique_table.specs.Index.{nodeKey, headEntry}
+use Rattle.unique_table.specs.Index.{keyPart, nodeKey, headEntry}
 
-pub key-is : (l x y : ℕ) (t e : ℤ) → x ≡ bits edgeBits e → y ≡ bits edgeBits t → x + 2 ^ 16 * y + 2 ^ 32 * l ≡ nodeKey l t e
+pub key-is : (l x y : ℕ) (t e : ℤ) → x ≡ keyPart e → y ≡ keyPart t → x + 2 ^ 24 * y + 2 ^ 48 * l ≡ nodeKey l t e
 unfolding nodeKey
 key-is l x y t e p q = rw (p, q)
 
-pub head-is : (width l x y : ℕ) (t e : ℤ) → y ≡ bits edgeBits t → x ≡ bits edgeBits e
-    → (l * 2654435769 + y * 3144134277 + x * 2246822519) / 2 ^ 16 % 2 ^ 32 * width / 2 ^ 32 ≡ headEntry width l t e
+pub head-is : (width l x y : ℕ) (t e : ℤ) → y ≡ keyPart t → x ≡ keyPart e
+    → (l * 2654435769 + y * 3144134277 + x * 2246822519) / 2 ^ 17 % 2 ^ 30 * width / 2 ^ 30 ≡ headEntry width l t e
 unfolding headEntry
 head-is width l x y t e p q = rw (p, q)
 
 -- a part of a width is below it
-part-below : (p width : ℕ) → p < 2 ^ 32 → 1 ≤ width → p * width / 2 ^ 32 < width
+part-below : (p width : ℕ) → p < 2 ^ 30 → 1 ≤ width → p * width / 2 ^ 30 < width
 part-below p width h w =
-    let k : p * width < 2 ^ 32 * width = mul-lt-mul-of-pos-right h w in
-    let z : 0 < 2 ^ 32 = omega arith in
-    div-lt-iff-lt-mul z .1 (rw (mul-comm width (2 ^ 32)) k)
+    let k : p * width < 2 ^ 30 * width = mul-lt-mul-of-pos-right h w in
+    let z : 0 < 2 ^ 30 = omega arith in
+    div-lt-iff-lt-mul z .1 (rw (mul-comm width (2 ^ 30)) k)
 
 pub head-below : (width l : ℕ) (t e : ℤ) → 1 ≤ width → headEntry width l t e < width
 unfolding headEntry
 head-below width l t e w = part-below _ width (mod-lt _ (omega arith)) w
 
-pub part-fits : (p width : ℕ) → p < 2 ^ 32 → width ≤ 2 ^ 16 → p * width < 2 ^ 64
+pub part-fits : (p width : ℕ) → p < 2 ^ 30 → width ≤ 2 ^ 34 → p * width < 2 ^ 64
 part-fits p width h w =
-    let k : p ≤ 2 ^ 32 = omega arith in
-    let m : p * width ≤ 2 ^ 32 * 2 ^ 16 = mul-le-mul k w in
+    let k : p ≤ 2 ^ 30 - 1 = omega arith in
+    let m : p * width ≤ (2 ^ 30 - 1) * 2 ^ 34 = mul-le-mul k w in
     omega arith
 
 pub bit-below : (k : ℕ) → k % 2 < 2

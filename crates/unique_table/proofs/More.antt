@@ -10,7 +10,7 @@ use lib.IntN.{ℤ}
 use Rattle.store.specs.Store.{Store, levelAt, thenAt, elseAt}
 use Rattle.store.proofs.Chain.{Agree}
 use Rattle.store.proofs.Find.{Holds}
-use Rattle.unique_table.specs.Index.{nodeKey, headEntry, onFrom, LeadsOn, arrived, on, MeetsEntry, Indexed, Sought}
+use Rattle.unique_table.specs.Index.{nodeKey, headEntry, onFrom, LeadsOn, arrived, on, MeetsEntry, Indexed, Sought, Finds}
 use Rattle.unique_table.proofs.Mixed.{head-below, bit-below}
 
 -- what stands in a list of zeros, and beyond it
@@ -19,7 +19,7 @@ zeros-at zero i = refl
 zeros-at (suc n) zero = refl
 zeros-at (suc n) (suc i) = zeros-at n i
 
-pub indexed-none : (width : ℕ) (σ : Store) (ix : List ℕ) → 1 ≤ width → width ≤ 2 ^ 16 → width + 4 ≤ length ix → ix ≡ replicate (length ix) 0 → Indexed width σ 1 ix
+pub indexed-none : (width : ℕ) (σ : Store) (ix : List ℕ) → 1 ≤ width → width ≤ 2 ^ 34 → width + 4 ≤ length ix → ix ≡ replicate (length ix) 0 → Indexed width σ 1 ix
 indexed-none width σ ix w x h q = record {
   some = w;
   wide = x;
@@ -44,6 +44,9 @@ indexed-same width σ τ c ix I a = record {
   up = I .up;
   meets = λ m p h. rw (a .level m p h, a .then m p h, a .els m p h) (I .meets m p h);
 }
+
+pub finds-same : {width : ℕ} {σ : Store} (τ : Store) {c : ℕ} {ix : List ℕ} → Finds width σ c ix → Agree τ σ c → Finds width τ c ix
+finds-same {width} {σ} τ {c} {ix} F a = record { indexed = λ h. indexed-same width σ τ c ix (F .indexed h) a }
 
 -- the entry that a search comes to is a head, or belongs to one of the nodes
 leads-low : {width : ℕ} {σ : Store} {c : ℕ} {ix : List ℕ} (to : ℕ) {k at : ℕ} → Indexed width σ c ix → at < width + 2 * c + 2 → LeadsOn width ix to k at → to < width + 2 * c + 2

@@ -1,10 +1,11 @@
 -- An index of the nodes of a store, by which a node is found in a few steps: one list of node numbers, 0 for none. Its first `width`
 -- entries are heads; two more belong to each node n, at width + 2 * n and the entry after it: where a search goes on from n, by the next
 -- bit of its key. Document 01, 'Store and meaning': 'no two nodes alike'.
-use Prim.Native.Nat.{ℕ, _+_, _*_, _/_, _%_, _^_, _≤_, _<_}
+use Prim.Native.Nat.{ℕ, _+_, _-_, _*_, _/_, _%_, _^_, _≤_, _<_}
 use mathlib.Core.Path.{_≡_}
-use mathlib.Core.Bool.{true}
+use mathlib.Core.Bool.{true, cond}
 use mathlib.Core.List.{List}
+use lib.Dec.{ltb}
 use lib.ListN.{length, getD}
 use lib.IntN.{ℤ}
 use Rattle.edges.specs.Width.{edgeBits}
@@ -13,13 +14,22 @@ use Rattle.store.specs.Store.{Store, levelAt, thenAt, elseAt}
 use Rattle.store.specs.Rules.{AlikeNodes}
 use Rattle.store.specs.Make.{holds}
 
+-- how many heads the index of n nodes has in work of some length, beside two entries for each number from 0 to n: what is left, up to four
+-- for each of them, or none where less than one for each is
+abbrev pub widthFor : ℕ → ℕ → ℕ
+widthFor n len = cond (ltb len (3 * (n + 1))) 0 (cond (ltb len (6 * (n + 1))) (len - 2 * (n + 1)) (4 * (n + 1)))
+
+-- what of an edge stands in a key: 24 bits, by which no two edges of a store of up to 8,388,607 nodes are the same
+abbrev pub keyPart : ℤ → ℕ
+keyPart e = bits edgeBits e % 2 ^ 24
+
 -- the key of a level, a then and an else: all their bits, so that no two have one key
 unfoldable pub nodeKey : ℕ → ℤ → ℤ → ℕ
-nodeKey l t e = bits edgeBits e + 2 ^ 16 * bits edgeBits t + 2 ^ 32 * l
+nodeKey l t e = keyPart e + 2 ^ 24 * keyPart t + 2 ^ 48 * l
 
--- the head where a search for them starts: a mix of the three, cut to 32 bits and scaled to the width
+-- the head where a search for them starts: a mix of the three, cut to 30 bits and scaled to the width
 unfoldable pub headEntry : ℕ → ℕ → ℤ → ℤ → ℕ
-headEntry width l t e = (l * 2654435769 + bits edgeBits t * 3144134277 + bits edgeBits e * 2246822519) / 2 ^ 16 % 2 ^ 32 * width / 2 ^ 32
+headEntry width l t e = (l * 2654435769 + keyPart t * 3144134277 + keyPart e * 2246822519) / 2 ^ 17 % 2 ^ 30 * width / 2 ^ 30
 
 -- the entry where a search with key k goes on from node n
 abbrev pub onFrom : ℕ → ℕ → ℕ → ℕ
@@ -39,7 +49,7 @@ pub record MeetsEntry (width : ℕ) (ix : List ℕ) (m k at : ℕ) : Type 0 wher
 -- The index of the nodes 2 to c.
 pub record Indexed (width : ℕ) (σ : Store) (c : ℕ) (ix : List ℕ) : Type 0 where
   pub some : 1 ≤ width
-  pub wide : width ≤ 2 ^ 16
+  pub wide : width ≤ 2 ^ 34
   pub room : width + 2 * c + 2 ≤ length ix
   -- an entry is 0, or one of these nodes
   pub low : (i : ℕ) → 0 < getD ix i 0 → 2 ≤ getD ix i 0
@@ -61,3 +71,7 @@ pub record Sought (width : ℕ) (σ : Store) (c : ℕ) (ix : List ℕ) (l : ℕ)
 -- 'no two nodes alike', of the nodes 2 to c: none is like an older one
 abbrev pub AllAlone : Store → ℕ → Type 0
 AllAlone σ c = (n : ℕ) → 2 ≤ n → n ≤ c → (m : ℕ) → 2 ≤ m → m < n → AlikeNodes σ m n → ⊥
+
+-- What finds the nodes 2 to c of a store: where there are heads, their index; else their chains, which need nothing more.
+pub record Finds (width : ℕ) (σ : Store) (c : ℕ) (ix : List ℕ) : Type 0 where
+  pub indexed : 1 ≤ width → Indexed width σ c ix

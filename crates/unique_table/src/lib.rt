@@ -1,6 +1,6 @@
 // An index of the nodes of a store (in the field's words a unique table): finding a node by its level, then and else takes a few steps,
 // whatever the nodes are. Under each head stands a tree whose nodes are those of the store; a search goes down by the bits of its key, of
-// which there are 48.
+// which there are 64.
 ghost use mathlib.Core.Path.{_≡_};
 ghost use mathlib.Core.Bool.{true};
 ghost use Prim.Native.Nat.{_+_, _*_, _^_, _≤_, _<_};
@@ -9,43 +9,62 @@ ghost use Rattle.edges.specs.Width.{edgeLimit};
 ghost use Rattle.store.specs.Store.{slots};
 ghost use Rattle.store.specs.Keeps.{Decides};
 ghost use Rattle.store.specs.Make.{holds};
-ghost use Rattle.unique_table.specs.Index.{nodeKey, headEntry, Indexed, Sought, AllAlone};
+ghost use Rattle.unique_table.specs.Index.{widthFor, keyPart, nodeKey, headEntry, Indexed, Sought, AllAlone};
 use edges::Edge;
 use edges::Index;
 
-// A small index, for so many nodes, that is cheap to clear: its heads, and with two entries for each node and for 0 its length.
-pub const FEW: usize = 511;
+// So many entries of work for each number from 0 to n are enough for the index of n nodes: with more it would not be faster.
+pub const ENTRIES: usize = 6;
 
-pub const FEW_WIDTH: usize = 512;
+// How many heads the index of n nodes has in work of this length, beside two entries for each number from 0 to n: what is left, up to four for
+// each of them, or 0 where less than one for each is. With more heads fewer nodes meet at one.
+pub fn width_for(n: Index, len: usize) -> usize
+    ensures { λ r. ⌜ r ≡ widthFor n len ⌝ }
+{
+    let numbers = n as usize + 1;
+    if len < 3 * numbers {
+        return 0;
+    }
+    if len < ENTRIES * numbers {
+        return len - 2 * numbers;
+    }
+    4 * numbers
+}
 
-pub const FEW_LEN: usize = 1536;
+// What of an edge stands in a key: 24 bits, which tell the edges of up to 8,388,607 nodes apart.
+fn key_part(e: Edge) -> u64
+    ensures { λ r. ⌜ r ≡ keyPart e ⌝ }
+{
+    edges::pattern(e) as u64 % 16777216
+}
 
-// An index for every store: 32,767 nodes.
-pub const WIDTH: usize = 16384;
-
-pub const LEN: usize = 81920;
-
-// All the bits of a level, a then and an else.
+// The bits of a level, a then and an else.
 fn key(l: u16, t: Edge, e: Edge) -> u64
     ensures { λ r. ⌜ r ≡ nodeKey l t e ⌝ }
 {
-    edges::pattern(e) as u64 + 65536 * edges::pattern(t) as u64 + 4294967296 * l as u64
+    key_part(e) + 16777216 * key_part(t) + 281474976710656 * l as u64
 }
 
 // The head for them. The numbers that they are multiplied by are odd and have no pattern, so that nodes that differ little get heads far apart.
 fn head(width: usize, l: u16, t: Edge, e: Edge) -> usize
-    requires { ⌜ (1 ≤ width) × (width ≤ 2 ^ 16) ⌝ }
+    requires { ⌜ (1 ≤ width) × (width ≤ 2 ^ 34) ⌝ }
     ensures { λ r. ⌜ r ≡ headEntry width l t e ⌝ }
 {
-    let mixed = l as u64 * 2654435769
-        + edges::pattern(t) as u64 * 3144134277
-        + edges::pattern(e) as u64 * 2246822519;
-    let part = mixed / 65536 % 4294967296;
-    (part * width as u64 / 4294967296) as usize
+    let mixed = l as u64 * 2654435769 + key_part(t) * 3144134277 + key_part(e) * 2246822519;
+    let part = mixed / 131072 % 1073741824;
+    (part * width as u64 / 1073741824) as usize
 }
 
 // Does node n have this level, then and else? That is a matter of three lists only.
-fn holds_at(level: &[u16], then: &[Edge], els: &[Edge], l: u16, t: Edge, e: Edge, n: Index) -> bool
+pub fn holds_at(
+    level: &[u16],
+    then: &[Edge],
+    els: &[Edge],
+    l: u16,
+    t: Edge,
+    e: Edge,
+    n: Index,
+) -> bool
     requires { ⌜ (1 ≤ n) × ((n ≤ length (now level)) × ((n ≤ length (now then)) × (n ≤ length (now els)))) ⌝ }
     ensures { λ r. ⌜ r ≡ holds (slots (now (level .entry)) (now (then .entry)) (now (els .entry))) l t e n ⌝ }
 {
@@ -105,7 +124,7 @@ pub fn distinct(
     els: &[Edge],
 ) -> bool
     requires { ⌜ now index ≡ replicate (length (now index)) 0 ⌝ }
-    requires { ⌜ (1 ≤ width) × (width ≤ 2 ^ 16) × (width + 2 * count + 2 ≤ length (now index)) ⌝ }
+    requires { ⌜ (1 ≤ width) × (width ≤ 2 ^ 34) × (width + 2 * count + 2 ≤ length (now index)) ⌝ }
     requires { ⌜ (1 ≤ count) × (count < edgeLimit) ⌝ }
     requires { ⌜ (count ≤ length (now level)) × ((count ≤ length (now then)) × (count ≤ length (now els))) ⌝ }
     ensures { λ r. ⌜ Decides r (AllAlone (slots (now (level .entry)) (now (then .entry)) (now (els .entry))) count) ⌝ }

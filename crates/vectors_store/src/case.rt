@@ -44,7 +44,47 @@ fn is_evaluation(head: &[u8; 23], e: Evaluation) -> bool {
     }
 }
 
-// A kind that isn't there is a difference.
+// With the work that is lent. A kind that isn't there is a difference.
+fn agrees_with(
+    head: &[u8; 23],
+    level: &[u16],
+    then: &[i16],
+    els: &[i16],
+    next: &[u16],
+    heads: &[u16],
+    setting: &[u8],
+    work: &mut [u16],
+) -> bool {
+    let levels = field(head, 1);
+    let count = field(head, 3);
+    if head[0] == 1 {
+        return is_kept(
+            head,
+            rules::keeps_rules(levels, count, level, then, els, next, heads, count, work),
+        );
+    }
+    if head[0] == 2 {
+        let root = change::signed(field(head, 15));
+        return is_evaluation(
+            head,
+            evaluation::evaluate(
+                levels,
+                count,
+                level,
+                then,
+                els,
+                next,
+                heads,
+                root,
+                setting,
+                work,
+            ),
+        );
+    }
+    false
+}
+
+// No answer depends on the work: it is asked for with just enough for an index of the nodes, and with none.
 fn agrees(
     head: &[u8; 23],
     level: &[u16],
@@ -54,22 +94,23 @@ fn agrees(
     heads: &[u16],
     setting: &[u8],
 ) -> bool {
-    let levels = field(head, 1);
-    let count = field(head, 3);
-    if head[0] == 1 {
-        return is_kept(
+    let mut work = change::no_work();
+    let enough = 3 * (length(head, 3) + 1);
+    if enough <= work.len() {
+        if !agrees_with(
             head,
-            rules::keeps_rules(levels, count, level, then, els, next, heads),
-        );
+            level,
+            then,
+            els,
+            next,
+            heads,
+            setting,
+            &mut work[..enough],
+        ) {
+            return false;
+        }
     }
-    if head[0] == 2 {
-        let root = change::signed(field(head, 15));
-        return is_evaluation(
-            head,
-            evaluation::evaluate(levels, count, level, then, els, next, heads, root, setting),
-        );
-    }
-    false
+    agrees_with(head, level, then, els, next, heads, setting, &mut [])
 }
 
 // Each list as long as the case has it lent.

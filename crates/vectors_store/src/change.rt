@@ -19,7 +19,10 @@ pub const HEADS: usize = 131200;
 
 const ROOM: usize = 131500;
 
-// Zeros for all lists, for the edges of one, and for the bytes of a stretch. The `ensures` give only the lengths: a function that has such an
+// The length of work that is enough for the index of every store.
+const WORK: usize = 98304;
+
+// Zeros for all lists, for the edges of one, for work, and for the bytes of a stretch. The `ensures` give only the lengths: a function that has such an
 // array for a local of its own takes seconds to check.
 pub fn no_lists() -> [u16; ROOM]
     ensures { λ r. ⌜ 131500 ≡ length r ⌝ }
@@ -31,6 +34,12 @@ pub fn no_edges() -> [i16; SLOTS]
     ensures { λ r. ⌜ 32800 ≡ length r ⌝ }
 {
     [0; SLOTS]
+}
+
+pub fn no_work() -> [u16; WORK]
+    ensures { λ r. ⌜ 98304 ≡ length r ⌝ }
+{
+    [0; WORK]
 }
 
 fn no_bytes() -> [u8; ROOM]

@@ -1,5 +1,5 @@
 -- `load` meets its contract: what the functions of the stages promise, put together by the laws of `Loading`.
-use mathlib.Core.Path.{_≡_, refl, _∙_}
+use mathlib.Core.Path.{_≡_, refl, ap, _∙_}
 use mathlib.Core.List.{List, map}
 use lib.ListN.{length, replicate}
 use lib.IntN.{ℤ, pos}
@@ -12,79 +12,80 @@ use Rattle.header.specs.Header.{HeaderAnswer}
 use Rattle.header.proofs.Lengths.{length-may}
 use Rattle.calls.specs.Load.{beforeHeader, Parts, parts, loadInto, loadOf}
 use Rattle.dddmp.proofs.Loading.{parts-alike, before-is, ready-readable, answer-left, store-left, roots-left, list-left}
+use Rattle.dddmp.proofs.Searched.{ready-searchable}
 use Rattle.dddmp.proofs.load.Statement.{statement}
 use Rattle.dddmp.proofs.load.Tie as tie
 
 -- places of the course, each a few steps back from a later one
-abbrev finished : tie.After-slice-known32 → tie.After-finish
+abbrev finished : tie.After-slice-known35 → tie.After-finish
 finished p = p .before .before .before .before .before .before .before .before .before .before .before .before .before .before .before .before
 
-abbrev noded : tie.After-slice-known32 → tie.After-load-nodes
+abbrev noded : tie.After-slice-known35 → tie.After-load-nodes
 noded p =
     finished p .before .before .before .before .before .before .before .before .before .before .before .before .before .before .before .before .before
-    .before .before .before .before
+    .before .before .before .before .before .before
 
-abbrev readied-nodes : tie.After-load-nodes-arg9 → tie.After-check-list
-readied-nodes p = p .before .before .before .before .before .before .before .before .before
+abbrev readied-nodes : tie.After-load-nodes-arg10 → tie.After-check-list
+readied-nodes p = p .before .before .before .before .before .before .before .before .before .before
 
-abbrev readied : tie.After-slice-known32 → tie.After-check-list
+abbrev readied : tie.After-slice-known35 → tie.After-check-list
 readied p = readied-nodes (noded p .before)
 
 abbrev at-check-scratch : tie.After-check-list → tie.After-check-scratch
 at-check-scratch p = p .before
 
-abbrev roomed : tie.After-slice-known32 → tie.After-check-scratch
+abbrev roomed : tie.After-slice-known35 → tie.After-check-scratch
 roomed p = at-check-scratch (readied p)
 
-abbrev roomed-nodes : tie.After-load-nodes-arg9 → tie.After-check-scratch
+abbrev roomed-nodes : tie.After-load-nodes-arg10 → tie.After-check-scratch
 roomed-nodes p = at-check-scratch (readied-nodes p)
 
 abbrev at-load : tie.After-check-scratch → tie.After-load
 at-load p =
     p .before .before .before .before .before .before .before .before .before .before .before .before .before .before .before .before .before .before
 
-abbrev headed : tie.After-slice-known32 → tie.After-load
+abbrev headed : tie.After-slice-known35 → tie.After-load
 headed p = at-load (roomed p)
 
-abbrev headed-nodes : tie.After-load-nodes-arg9 → tie.After-load
+abbrev headed-nodes : tie.After-load-nodes-arg10 → tie.After-load
 headed-nodes p = at-load (roomed-nodes p)
 
 abbrev at-length-fault : tie.After-load-arg9 → tie.After-length-fault
 at-length-fault p = p .before .before .before .before .before .before .before .before .before
 
-abbrev measured-nodes : tie.After-load-nodes-arg9 → tie.After-length-fault
+abbrev measured-nodes : tie.After-load-nodes-arg10 → tie.After-length-fault
 measured-nodes p = at-length-fault (headed-nodes p .before)
 
-abbrev measured : tie.After-slice-known32 → tie.After-length-fault
+abbrev measured : tie.After-slice-known35 → tie.After-length-fault
 measured p = measured-nodes (noded p .before)
 
 abbrev at-store-fault : tie.After-length-fault → tie.After-store-fault
-at-store-fault p = p .before
+at-store-fault p = p .before .before .before
 
-abbrev judged : tie.After-slice-known32 → tie.After-store-fault
+abbrev judged : tie.After-slice-known35 → tie.After-store-fault
 judged p = at-store-fault (measured p)
 
-abbrev judged-nodes : tie.After-load-nodes-arg9 → tie.After-store-fault
+abbrev judged-nodes : tie.After-load-nodes-arg10 → tie.After-store-fault
 judged-nodes p = at-store-fault (measured-nodes p)
 
 abbrev at-lists-fault : tie.After-store-fault → tie.After-lists-fault
-at-lists-fault p = p .before .before .before .before .before .before .before
+at-lists-fault p = p .before .before .before .before .before .before .before .before
 
-abbrev counted : tie.After-slice-known32 → tie.After-lists-fault
+abbrev counted : tie.After-slice-known35 → tie.After-lists-fault
 counted p = at-lists-fault (judged p)
 
-abbrev counted-nodes : tie.After-load-nodes-arg9 → tie.After-lists-fault
+abbrev counted-nodes : tie.After-load-nodes-arg10 → tie.After-lists-fault
 counted-nodes p = at-lists-fault (judged-nodes p)
 
 abbrev at-start : tie.After-lists-fault → tie.Start
-at-start p = p .before .before .before .before .before .before .before .before .before .before .before .before .before .before .before
+at-start p = p .before .before .before .before .before .before .before .before .before .before .before .before .before .before .before .before
 
 -- the function's entry and its calls, seen from its return
-abbrev start : tie.After-slice-known32 → tie.Start
+abbrev start : tie.After-slice-known35 → tie.Start
 start p = at-start (counted p)
 
 -- and seen from where the nodes are read
-abbrev start-nodes : tie.After-load-nodes-arg9 → tie.Start
+abbrev start-nodes : tie.After-load-nodes-arg10 → tie.Start
 start-nodes p = at-start (counted-nodes p)
 
 -- what was lent
@@ -97,21 +98,20 @@ abbrev kept : tie.Start → Store
 kept s = store (s .args .levels) (s .args .count .now) (s .args .level .now) (s .args .then .now) (s .args .els .now) (s .args .next .now) (s .args .heads .now)
 
 -- what is found before the header
-found : (c : tie.After-slice-known32)
-    → measured c .length-fault .result ≡ beforeHeader limits
-    (loadInto (start c .args .f .now) (start c .args .list .now) (given (start c))) (kept (start c))
+found : (c : tie.After-slice-known35)
+    → measured c .length-fault .result ≡ beforeHeader limits (loadInto (start c .args .f .now) (start c .args .list .now) (given (start c))) (kept (start c))
 found c =
     before-is (start c .args .f .now) (start c .args .list .now) (given (start c)) (kept (start c))
     (counted c .lists-fault .result) (judged c .store-fault .result) (measured c .length-fault .result)
-    (counted c .lists-fault .ensures) (judged c .store-fault .ensures) (measured c .length-fault .ensures)
+    (counted c .lists-fault .ensures) (judged c .store-fault .ensures .fault) (measured c .length-fault .ensures)
 
-found-nodes : (c : tie.After-load-nodes-arg9)
+found-nodes : (c : tie.After-load-nodes-arg10)
     → measured-nodes c .length-fault .result ≡ beforeHeader limits
     (loadInto (start-nodes c .args .f .now) (start-nodes c .args .list .now) (given (start-nodes c))) (kept (start-nodes c))
 found-nodes c =
     before-is (start-nodes c .args .f .now) (start-nodes c .args .list .now) (given (start-nodes c)) (kept (start-nodes c))
     (counted-nodes c .lists-fault .result) (judged-nodes c .store-fault .result) (measured-nodes c .length-fault .result)
-    (counted-nodes c .lists-fault .ensures) (judged-nodes c .store-fault .ensures) (measured-nodes c .length-fault .ensures)
+    (counted-nodes c .lists-fault .ensures) (judged-nodes c .store-fault .ensures .fault) (measured-nodes c .length-fault .ensures)
 
 lists-fault-requires : tie.Need-lists-fault-requires
 lists-fault-requires c κs = tt
@@ -123,7 +123,7 @@ length-fault-requires : tie.Need-length-fault-requires
 length-fault-requires c κs = tt
 
 load-requires : tie.Need-load-requires
-load-requires c κs = length-may _ (at-start (at-lists-fault (at-length-fault c .before)) .args .f .now) (at-length-fault c .length-fault .ensures)
+load-requires c κs = length-may _ (at-start (at-lists-fault (at-store-fault (at-length-fault c))) .args .f .now) (at-length-fault c .length-fault .ensures)
 
 check-scratch-requires : tie.Need-check-scratch-requires
 check-scratch-requires c κs = tt
@@ -132,11 +132,18 @@ check-list-requires : tie.Need-check-list-requires
 check-list-requires c κs = tt
 
 load-nodes-requires : tie.Need-load-nodes-requires
-load-nodes-requires c κs =
-    ready-readable (start-nodes c .args .f .now) (start-nodes c .args .list .now) (given (start-nodes c)) (kept (start-nodes c))
-    (measured-nodes c .length-fault .result) (found-nodes c)
-    (ofLoaded (headed-nodes c .load .result)) (ofLoaded (roomed-nodes c .check-scratch .result)) (ofLoaded (readied-nodes c .check-list .result))
-    (headed-nodes c .load .ensures .answer) (roomed-nodes c .check-scratch .ensures) (readied-nodes c .check-list .ensures)
+load-nodes-requires c κs = (
+  ready-readable (start-nodes c .args .f .now) (start-nodes c .args .list .now) (given (start-nodes c)) (kept (start-nodes c))
+      (measured-nodes c .length-fault .result) (found-nodes c)
+      (ofLoaded (headed-nodes c .load .result)) (ofLoaded (roomed-nodes c .check-scratch .result)) (ofLoaded (readied-nodes c .check-list .result))
+      (headed-nodes c .load .ensures .answer) (roomed-nodes c .check-scratch .ensures) (readied-nodes c .check-list .ensures),
+  ready-searchable (kept (start-nodes c)) (length (start-nodes c .args .work .now)) (judged-nodes c .store-fault .last .1 .1 .1 .1 .1 .1 .1 .1 .0)
+      (judged-nodes c .store-fault .kept .1 .1 .1 .1 .1 .1 .1 .1 .0) (start-nodes c .args .f .now) (start-nodes c .args .list .now) (start-nodes c .args .levels)
+      (length (start-nodes c .args .edges .now)) (length (start-nodes c .args .seats .now)) (judged-nodes c .store-fault .result)
+      (measured-nodes c .length-fault .result) (measured-nodes c .length-fault .ensures) (judged-nodes c .store-fault .ensures .finds)
+      (ofLoaded (headed-nodes c .load .result)) (ofLoaded (roomed-nodes c .check-scratch .result)) (ofLoaded (readied-nodes c .check-list .result))
+      (headed-nodes c .load .ensures .answer) (roomed-nodes c .check-scratch .ensures) (readied-nodes c .check-list .ensures),
+)
 
 finish-requires : tie.Need-finish-requires
 finish-requires c κs = tt
@@ -189,8 +196,11 @@ same-length-15 c = noded c .load-nodes .kept .1 .1 .1 .1 .1 .1 .1 .1 .1 .1 .1 .0
 same-length-16 : tie.Need-same-length-16
 same-length-16 c = noded c .load-nodes .kept .1 .1 .1 .1 .1 .1 .1 .1 .1 .1 .1 .1 .0
 
+same-length-17 : tie.Need-same-length-17
+same-length-17 c = noded c .load-nodes .kept .1 .1 .1 .1 .1 .1 .1 .1 .1 .1 .1 .1 .1 .0 ∙ judged c .store-fault .kept .1 .1 .1 .1 .1 .1 .1 .1 .0
+
 -- the answer of the load, as the stages give it
-answered : (c : tie.After-slice-known32)
+answered : (c : tie.After-slice-known35)
     → ofLoaded (noded c .load-nodes .result) ≡ loadOf limits (loadInto (start c .args .f .now) (start c .args .list .now) (given (start c)))
     (kept (start c)) .answer
 answered c =
@@ -202,7 +212,7 @@ answered c =
     (noded c .load-nodes .ensures .answer)
 
 -- the store after it
-stored : (c : tie.After-slice-known32)
+stored : (c : tie.After-slice-known35)
     → (store (start c .args .levels) (noded c .load-nodes .last .1 .1 .1 .1 .0) (noded c .load-nodes .last .1 .1 .1 .1 .1 .0)
     (noded c .load-nodes .last .1 .1 .1 .1 .1 .1 .0) (noded c .load-nodes .last .1 .1 .1 .1 .1 .1 .1 .0)
     (noded c .load-nodes .last .1 .1 .1 .1 .1 .1 .1 .1 .0) (noded c .load-nodes .last .1 .1 .1 .1 .1 .1 .1 .1 .1 .0)) ≡ loadOf limits
@@ -219,7 +229,7 @@ stored c =
     (noded c .load-nodes .ensures .store)
 
 -- the roots
-rooted : (c : tie.After-slice-known32)
+rooted : (c : tie.After-slice-known35)
     → (noded c .load-nodes .last .1 .1 .1 .1 .1 .1 .1 .1 .1 .1 .0) ≡ loadOf limits
     (loadInto (start c .args .f .now) (start c .args .list .now) (given (start c))) (kept (start c)) .roots
 rooted c =
@@ -271,10 +281,12 @@ returns c = record {
       (headed c .load .ensures .rootlens-left) (finished c .finish .last .1 .1 .1 .1 .1 .1 .1 .1 .0) (finished c .finish .ensures .rootlens-left))
       (noded c .load-nodes .ensures .edges-left)
       (noded c .load-nodes .ensures .seats-left);
+  work-left = noded c .load-nodes .ensures .work-left ∙ ap (λ n. replicate n 0) (judged c .store-fault .kept .1 .1 .1 .1 .1 .1 .1 .1 .0);
 }
 
 pub load-spec : {M : Type 1} → statement M
 load-spec =
     tie.close (tie.spec lists-fault-requires store-fault-requires length-fault-requires load-requires check-scratch-requires check-list-requires
     load-nodes-requires finish-requires same-length same-length-2 same-length-3 same-length-4 same-length-5 same-length-6 same-length-7 same-length-8
-    same-length-9 same-length-10 same-length-11 same-length-12 same-length-13 same-length-14 same-length-15 same-length-16 returns)
+    same-length-9 same-length-10 same-length-11 same-length-12 same-length-13 same-length-14 same-length-15 same-length-16
+    same-length-17 returns)

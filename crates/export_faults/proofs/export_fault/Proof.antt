@@ -1,6 +1,7 @@
 -- `export_fault` meets its contract: the first test that fails decides.
 use mathlib.Core.Path.{_≡_}
 use mathlib.Core.Bool.{true, false}
+use lib.ListN.{length}
 use borrow.Author.Needs.{needs}
 use Rattle.header_values.specs.Kinds.{ofPlace}
 use Rattle.store.specs.Store.{Store, store}
@@ -25,10 +26,14 @@ names s =
 
 -- the way back, from where a test held to where the one before it did, and to the start
 abbrev start : tie.Else1 → tie.Start
-start d = d .before .before .before .before .before .before .before .before .before .before .before .before
+start d = d .before .before .before .before .before .before .before .before .before .before .before .before .before
+
+-- the check of the store
+abbrev checked : tie.Else2 → tie.After-keeps-rules
+checked d = d .before .before .before
 
 abbrev first : tie.Else2 → tie.Else1
-first d = d .before .before
+first d = checked d .before .before
 
 abbrev second : tie.Else3 → tie.Else2
 second d = d .before .before
@@ -53,7 +58,11 @@ unfolding longEnough
 long d = held (d .before .long-enough .ensures) (d .if1 .left)
 
 kept : (d : tie.Else2) → keeps limits (σ (start (first d))) ≡ true
-kept d = held (d .before .keeps-rules .ensures) (d .if2 .left)
+kept d = held (checked d .keeps-rules .ensures .kept) (d .if2 .left)
+
+-- it keeps the length of the work
+work-same : (d : tie.Else2) → length (checked d .keeps-rules .last .1 .1 .1 .1 .1 .1 .1 .1 .0) ≡ length (start (first d) .args .work .now)
+work-same d = checked d .keeps-rules .kept .1 .1 .1 .1 .1 .1 .1 .1 .0
 
 rooted : (d : tie.Else3) → rootsFit (start (first (second d)) .args .count) (start (first (second d)) .args .roots .now) ≡ true
 rooted d = held (d .before .roots-fit .ensures) (d .if3 .left)
@@ -81,11 +90,19 @@ returns c = record { answer = refused-short _ _ _ _ _ _ _ (failed (c .before .lo
 keeps-rules-requires : tie.Need-keeps-rules-requires
 keeps-rules-requires c κs = search needs
 
+same-length : tie.Need-same-length
+same-length c = c .before .before .before .keeps-rules .kept .1 .1 .1 .1 .1 .1 .1 .1 .0
+
 returns-2 : tie.Need-returns-2
-returns-2 c = record { answer = refused-store _ _ _ _ _ _ _ (long (c .before .before)) (failed (c .before .keeps-rules .ensures) (c .if2 .taken)); vars-left = tt }
+returns-2 c =
+    let k = c .before .before .before in
+    record { answer = refused-store _ _ _ _ _ _ _ (long (k .before .before)) (failed (k .keeps-rules .ensures .kept) (c .if2 .taken)); vars-left = tt }
 
 roots-fit-requires : tie.Need-roots-fit-requires
 roots-fit-requires c κs = search needs
+
+same-length-2 : tie.Need-same-length-2
+same-length-2 c = work-same (c .before .before)
 
 returns-3 : tie.Need-returns-3
 returns-3 c = record {
@@ -97,8 +114,11 @@ returns-3 c = record {
 is-order-requires : tie.Need-is-order-requires
 is-order-requires c κs = vars-long _ _ (kept (second (c .before))) (start (first (second (c .before))) .pre)
 
-same-length : tie.Need-same-length
-same-length c = c .before .before .before .is-order .kept .1 .1 .0
+same-length-3 : tie.Need-same-length-3
+same-length-3 c = c .before .before .before .is-order .kept .1 .1 .0
+
+same-length-4 : tie.Need-same-length-4
+same-length-4 c = work-same (second (at-else3 c))
 
 returns-4 : tie.Need-returns-4
 returns-4 c = record {
@@ -111,8 +131,11 @@ returns-4 c = record {
 names-fit-requires : tie.Need-names-fit-requires
 names-fit-requires c κs = search needs
 
-same-length-2 : tie.Need-same-length-2
-same-length-2 c = at-else4 (c .before) .before .before .before .is-order .kept .1 .1 .0
+same-length-5 : tie.Need-same-length-5
+same-length-5 c = at-else4 (c .before) .before .before .before .is-order .kept .1 .1 .0
+
+same-length-6 : tie.Need-same-length-6
+same-length-6 c = work-same (second (third (c .before .before)))
 
 returns-5 : tie.Need-returns-5
 returns-5 c = record {
@@ -121,8 +144,11 @@ returns-5 c = record {
   vars-left = tt;
 }
 
-same-length-3 : tie.Need-same-length-3
-same-length-3 c = at-else4 (c .before) .before .before .before .is-order .kept .1 .1 .0
+same-length-7 : tie.Need-same-length-7
+same-length-7 c = at-else4 (c .before) .before .before .before .is-order .kept .1 .1 .0
+
+same-length-8 : tie.Need-same-length-8
+same-length-8 c = work-same (second (third (c .before .before)))
 
 returns-6 : tie.Need-returns-6
 returns-6 c = record {
@@ -139,14 +165,19 @@ export-fault-spec =
     long-enough-requires
     returns
     keeps-rules-requires
+    same-length
     returns-2
     roots-fit-requires
+    same-length-2
     returns-3
     is-order-requires
-    same-length
+    same-length-3
+    same-length-4
     returns-4
     names-fit-requires
-    same-length-2
+    same-length-5
+    same-length-6
     returns-5
-    same-length-3
+    same-length-7
+    same-length-8
     returns-6)

@@ -5,11 +5,11 @@ use Rattle.firmware.proofs.zt_export.Tie as tie
 
 -- the export, seen from the return
 abbrev exporting : tie.After-export-answer → tie.After-export
-exporting c = c .before .before .before .before .before .before .before
+exporting c = c .before .before .before .before .before .before .before .before .before
 
 -- the settings, seen from the return
 abbrev setting : tie.After-export-answer → tie.After-settings-of
-setting c = c .before .before .before .before .before .before .before .before .before .before .before
+setting c = c .before .before .before .before .before .before .before .before .before .before .before .before .before .before
 
 settings-of-requires : tie.Need-settings-of-requires
 settings-of-requires c κs = tt
@@ -30,12 +30,16 @@ same-length-2 c = exporting c .export .kept .1 .1 .1 .1 .1 .1 .1 .1 .1 .1 .1 .1 
 same-length-3 : tie.Need-same-length-3
 same-length-3 c = exporting c .export .kept .1 .1 .1 .1 .1 .1 .1 .1 .1 .1 .1 .1 .1 .1 .1 .1 .1 .0
 
+same-length-4 : tie.Need-same-length-4
+same-length-4 c = exporting c .export .kept .1 .1 .1 .1 .1 .1 .1 .1 .1 .1 .1 .1 .1 .1 .1 .1 .1 .1 .0
+
 returns : tie.Need-returns
 returns c = record {
   file = exported-as (setting c .settings-of .result) (exporting c .export .result) (setting c .settings-of .ensures)
       (exporting c .export .ensures .file) (c .export-answer .ensures);
   slots-left = exporting c .export .ensures .slots-left;
   numbers-left = exporting c .export .ensures .numbers-left;
+  work-left = exporting c .export .ensures .work-left;
 }
 
 pub zt-export-spec : {M : Type 1} → statement M
@@ -48,4 +52,5 @@ zt-export-spec =
     same-length
     same-length-2
     same-length-3
+    same-length-4
     returns)

@@ -8,7 +8,7 @@ use Rattle.firmware.proofs.zt_load.Tie as tie
 abbrev loading : tie.After-load-answer → tie.After-load
 loading c =
     c .before .before .before .before .before .before .before .before .before .before .before .before .before .before .before
-    .before .before .before .before .before .before .before .before .before .before .before .before .before .before
+    .before .before .before .before .before .before .before .before .before .before .before .before .before .before .before .before
 
 load-requires : tie.Need-load-requires
 load-requires c κs = tt
@@ -65,11 +65,15 @@ same-length-15 c = loading c .load .kept .1 .1 .1 .1 .1 .1 .1 .1 .1 .1 .1 .1 .1 
 same-length-16 : tie.Need-same-length-16
 same-length-16 c = loading c .load .kept .1 .1 .1 .1 .1 .1 .1 .1 .1 .1 .1 .1 .1 .1 .1 .1 .1 .1 .1 .0
 
+same-length-17 : tie.Need-same-length-17
+same-length-17 c = loading c .load .kept .1 .1 .1 .1 .1 .1 .1 .1 .1 .1 .1 .1 .1 .1 .1 .1 .1 .1 .1 .1 .0
+
 returns : tie.Need-returns
 returns c = record {
   answer = c .load-answer .ensures ∙ ap ofLoadAnswer (loading c .load .ensures .answer);
   store = loading c .load .ensures .store;
   lists = loading c .load .ensures .lists;
+  work-left = loading c .load .ensures .work-left;
 }
 
 pub zt-load-spec : {M : Type 1} → statement M
@@ -94,4 +98,5 @@ zt-load-spec =
     same-length-14
     same-length-15
     same-length-16
+    same-length-17
     returns)

@@ -1,6 +1,7 @@
 -- `import` meets its contract: the lines are read and made, the end of the file judged, the roots put in place of their numbers, and what a
 -- refused file has made is taken back.
-use mathlib.Core.Path.{sym, _∙_}
+use mathlib.Core.Path.{sym, ap, _∙_}
+use lib.ListN.{replicate}
 use lib.Seq.{length-take-le}
 use borrow.Author.Needs.{needs}
 use Rattle.store.specs.Store.{Store, store}
@@ -11,8 +12,11 @@ use Rattle.import.proofs.import.Statement.{statement}
 use Rattle.import.proofs.import.Tie as tie
 
 -- places of the course, each a few steps back from a later one
-abbrev at-clear-edges : tie.After-slice-known12 → tie.After-clear-edges
-at-clear-edges p = p .before .before .before .before .before
+abbrev at-clear-seats : tie.After-slice-known15 → tie.After-clear-seats
+at-clear-seats p = p .before .before .before .before .before .before
+
+abbrev at-clear-edges : tie.After-slice-known15 → tie.After-clear-edges
+at-clear-edges p = at-clear-seats p .before .before .before
 
 abbrev at-take-back : tie.After-clear-edges → tie.After-take-back
 at-take-back p = p .before .before .before .before .before .before .before .before .before .before
@@ -27,17 +31,17 @@ abbrev at-is-read : tie.After-put-roots-arg2 → tie.After-is-read
 at-is-read p = p .before .before .before
 
 -- the answer judged, the lines read, and the function's entry, seen from later places
-abbrev judged : tie.After-slice-known12 → tie.After-is-read
+abbrev judged : tie.After-slice-known15 → tie.After-is-read
 judged p = at-is-read (at-put-roots-call (at-staying (at-take-back (at-clear-edges p) .before)))
 
 abbrev read : tie.After-is-read → tie.After-import-lines
-read p = p .before .before .before .before .before .before .before .before .before .before .before .before .before
+read p = p .before .before .before .before .before .before .before .before .before .before .before .before .before .before .before
 
 abbrev import-lines-before-take-back-call : tie.After-take-back-arg6 → tie.After-import-lines
 import-lines-before-take-back-call p = read (at-is-read (at-put-roots-call (at-staying p)))
 
-abbrev at-start : tie.After-import-lines-arg8 → tie.Start
-at-start p = p .before .before .before .before .before .before .before .before .before .before .before .before .before .before .before
+abbrev at-start : tie.After-import-lines-arg9 → tie.Start
+at-start p = p .before .before .before .before .before .before .before .before .before .before .before .before .before .before .before .before .before
 
 abbrev start : tie.After-import-lines → tie.Start
 start p = at-start (p .before)
@@ -51,7 +55,9 @@ abbrev σ : tie.Start → Store
     (s .args .heads .now)
 
 import-lines-requires : tie.Need-import-lines-requires
-import-lines-requires c κs = let p = at-start c .pre in record { rules = p .rules; levels-fit = p .levels-fit; bounds = p .bounds }
+import-lines-requires c κs =
+    let p = at-start c .pre in
+    record { rules = p .rules; levels-fit = p .levels-fit; bounds = p .bounds; finds = p .finds }
 
 with-end-requires : tie.Need-with-end-requires
 with-end-requires c κs = tt
@@ -95,6 +101,9 @@ clear-edges-requires c κs = tt
 clear-seats-requires : tie.Need-clear-seats-requires
 clear-seats-requires c κs = tt
 
+clear-marks-requires : tie.Need-clear-marks-requires
+clear-marks-requires c κs = tt
+
 same-length : tie.Need-same-length
 same-length c = at-take-back (at-clear-edges c) .take-back .kept .1 .1 .0 ∙ read (judged c) .import-lines .kept .1 .1 .1 .1 .1 .1 .0
 
@@ -116,10 +125,13 @@ same-length-6 : tie.Need-same-length-6
 same-length-6 c = at-clear-edges c .clear-edges .kept .0 ∙ read (judged c) .import-lines .kept .1 .1 .1 .1 .1 .1 .1 .1 .1 .1 .1 .0
 
 same-length-7 : tie.Need-same-length-7
-same-length-7 c = c .before .before .clear-seats .kept .0 ∙ read (judged c) .import-lines .kept .1 .1 .1 .1 .1 .1 .1 .1 .1 .1 .1 .1 .0
+same-length-7 c = at-clear-seats c .clear-seats .kept .0 ∙ read (judged c) .import-lines .kept .1 .1 .1 .1 .1 .1 .1 .1 .1 .1 .1 .1 .0
 
 same-length-8 : tie.Need-same-length-8
 same-length-8 c = at-staying (at-take-back (at-clear-edges c) .before) .before .before .put-roots .kept .1 .1 .0
+
+same-length-9 : tie.Need-same-length-9
+same-length-9 c = c .before .before .clear-marks .kept .0 ∙ read (judged c) .import-lines .kept .1 .1 .1 .1 .1 .1 .1 .1 .1 .1 .1 .1 .1 .0
 
 returns : tie.Need-returns
 returns c =
@@ -135,9 +147,16 @@ returns c =
     (at-take-back (at-clear-edges c) .take-back .ensures .store)
     (at-clear-edges c .clear-edges .ensures)
     (read (judged c) .import-lines .kept .1 .1 .1 .1 .1 .1 .1 .1 .1 .1 .1 .0)
-    (c .before .before .clear-seats .ensures)
+    (at-clear-seats c .clear-seats .ensures)
     (read (judged c) .import-lines .kept .1 .1 .1 .1 .1 .1 .1 .1 .1 .1 .1 .1 .0) in
-    record { answer = p .0; store = p .1 .0; roots-left = p .1 .1 .0; edges-left = p .1 .1 .1 .0; seats-left = p .1 .1 .1 .1 }
+    record {
+      answer = p .0;
+      store = p .1 .0;
+      roots-left = p .1 .1 .0;
+      edges-left = p .1 .1 .1 .0;
+      seats-left = p .1 .1 .1 .1;
+      work-left = c .before .before .clear-marks .ensures ∙ ap (λ n. replicate n 0) (read (judged c) .import-lines .kept .1 .1 .1 .1 .1 .1 .1 .1 .1 .1 .1 .1 .1 .0);
+    }
 
 pub import-spec : {M : Type 1} → statement M
 import-spec =
@@ -154,6 +173,7 @@ import-spec =
     take-back-requires
     clear-edges-requires
     clear-seats-requires
+    clear-marks-requires
     same-length
     same-length-2
     same-length-3
@@ -162,4 +182,5 @@ import-spec =
     same-length-6
     same-length-7
     same-length-8
+    same-length-9
     returns)

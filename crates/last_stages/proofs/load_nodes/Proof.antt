@@ -4,30 +4,33 @@ use native.Mathlib.Omega.{arith}
 use borrow.Author.Needs.{needs}
 use Rattle.store.specs.Store.{Store, store}
 use Rattle.stages.specs.Stages.{answerWithNodes}
-use Rattle.last_stages.proofs.Nodes.{few-nodes, import-may, nodes-noded, nodes-none}
+use Rattle.last_stages.proofs.Nodes.{few-nodes, import-may, nodes-found, nodes-noded, nodes-none}
 use Rattle.last_stages.proofs.load_nodes.Statement.{statement}
 use Rattle.last_stages.proofs.load_nodes.Tie as tie
 
 -- places of the course, each a few steps back from a later one
-abbrev at-clear-edges2 : tie.After-slice-known9 → tie.After-clear-edges2
-at-clear-edges2 p = p .before .before .before .before .before
+abbrev at-clear-seats : tie.After-slice-known12 → tie.After-clear-seats
+at-clear-seats p = p .before .before .before .before .before .before
+
+abbrev at-clear-edges2 : tie.After-slice-known12 → tie.After-clear-edges2
+at-clear-edges2 p = at-clear-seats p .before .before .before
 
 -- and the refusal that is handed on
-abbrev refused : tie.After-slice-known9 → tie.After-ready2
+abbrev refused : tie.After-slice-known12 → tie.After-ready2
 refused p = at-clear-edges2 p .before .before .before .before .before .before
 
 -- the import, the question for an extra word, and the function's entry, seen from later places
 abbrev imported : tie.After-with-nodes → tie.After-import
-imported p = p .before .before .before .before .before .before .before .before .before .before .before .before .before
+imported p = p .before .before .before .before .before .before .before .before .before .before .before .before .before .before .before
 
-abbrev asked : tie.After-import-arg9 → tie.After-has-extra
-asked p = p .before .before .before .before .before .before .before .before .before
+abbrev asked : tie.After-import-arg10 → tie.After-has-extra
+asked p = p .before .before .before .before .before .before .before .before .before .before
 
 abbrev at-start : tie.After-ready2 → tie.Start
-at-start p = p .before .before .before .before .before .before .before .before
+at-start p = p .before .before .before .before .before .before .before .before .before
 
 abbrev start : tie.After-ready → tie.Start
-start p = p .before .before .before .before .before .before .before .before
+start p = p .before .before .before .before .before .before .before .before .before
 
 -- the store handed in
 abbrev σ : tie.Start → Store
@@ -39,7 +42,7 @@ enum-known-ready c = search needs
 
 cast-nnodes : tie.Need-cast-nnodes
 cast-nnodes c =
-    let k = few-nodes _ _ _ _ (c .before .before .ready .given .1) _ _ (start (c .before .before) .pre) in
+    let k = few-nodes _ _ _ _ (c .before .before .ready .given .1) _ _ (start (c .before .before) .pre .0) in
     record { fits = omega (arith, k) }
 
 has-extra-requires : tie.Need-has-extra-requires
@@ -49,8 +52,13 @@ import-requires : tie.Need-import-requires
 import-requires c κs =
     let e = asked c in
     let s = start (e .before .before .before) in
-    let p = import-may (s .args .ready) (σ s) (s .args .list .now) _ (e .before .before .before .ready .given .1) _ _ (s .pre) (e .has-extra .ensures) in
-    record { rules = p .0; levels-fit = p .1 .0; bounds = p .1 .1 }
+    let p = import-may (s .args .ready) (σ s) (s .args .list .now) _ (e .before .before .before .ready .given .1) _ _ (s .pre .0) (e .has-extra .ensures) in
+    record {
+      rules = p .0;
+      levels-fit = p .1 .0;
+      bounds = p .1 .1;
+      finds = nodes-found (s .args .ready) (σ s) (s .args .list .now) _ (e .before .before .before .ready .given .1) (s .args .work .now) (s .pre .1);
+    }
 
 with-nodes-requires : tie.Need-with-nodes-requires
 with-nodes-requires c κs = tt
@@ -66,6 +74,9 @@ clear-edges-requires-2 c κs = tt
 
 clear-seats-requires : tie.Need-clear-seats-requires
 clear-seats-requires c κs = tt
+
+clear-marks-requires : tie.Need-clear-marks-requires
+clear-marks-requires c κs = tt
 
 same-length : tie.Need-same-length
 same-length c = imported c .import .kept .1 .1 .1 .1 .1 .1 .0
@@ -91,6 +102,9 @@ same-length-7 c = imported c .import .kept .1 .1 .1 .1 .1 .1 .1 .1 .1 .1 .1 .0
 same-length-8 : tie.Need-same-length-8
 same-length-8 c = imported c .import .kept .1 .1 .1 .1 .1 .1 .1 .1 .1 .1 .1 .1 .0
 
+same-length-9 : tie.Need-same-length-9
+same-length-9 c = imported c .import .kept .1 .1 .1 .1 .1 .1 .1 .1 .1 .1 .1 .1 .1 .1 .0
+
 returns : tie.Need-returns
 returns c =
     let i = imported c .import .ensures in
@@ -104,16 +118,20 @@ returns c =
       roots-left = i .roots-left ∙ ap (λ n. n .roots) e;
       edges-left = i .edges-left;
       seats-left = i .seats-left;
+      work-left = i .work-left;
     }
 
-same-length-9 : tie.Need-same-length-9
-same-length-9 c = at-clear-edges2 c .before .before .before .clear-edges .kept .0
-
 same-length-10 : tie.Need-same-length-10
-same-length-10 c = at-clear-edges2 c .clear-edges2 .kept .0
+same-length-10 c = at-clear-edges2 c .before .before .before .clear-edges .kept .0
 
 same-length-11 : tie.Need-same-length-11
-same-length-11 c = c .before .before .clear-seats .kept .0
+same-length-11 c = at-clear-edges2 c .clear-edges2 .kept .0
+
+same-length-12 : tie.Need-same-length-12
+same-length-12 c = at-clear-seats c .clear-seats .kept .0
+
+same-length-13 : tie.Need-same-length-13
+same-length-13 c = c .before .before .clear-marks .kept .0
 
 returns-2 : tie.Need-returns-2
 returns-2 c =
@@ -126,7 +144,8 @@ returns-2 c =
       store = ap (λ n. n .after) e;
       roots-left = at-clear-edges2 c .before .before .before .clear-edges .ensures ∙ ap (λ n. n .roots) e;
       edges-left = at-clear-edges2 c .clear-edges2 .ensures;
-      seats-left = c .before .before .clear-seats .ensures;
+      seats-left = at-clear-seats c .clear-seats .ensures;
+      work-left = c .before .before .clear-marks .ensures;
     }
 
 pub load-nodes-spec : {M : Type 1} → statement M
@@ -142,6 +161,7 @@ load-nodes-spec =
     clear-edges-requires
     clear-edges-requires-2
     clear-seats-requires
+    clear-marks-requires
     same-length
     same-length-2
     same-length-3
@@ -150,8 +170,10 @@ load-nodes-spec =
     same-length-6
     same-length-7
     same-length-8
-    returns
     same-length-9
+    returns
     same-length-10
     same-length-11
+    same-length-12
+    same-length-13
     returns-2)

@@ -14,18 +14,18 @@ use Rattle.recoding.proofs.reload.Tie as tie
 abbrev start : tie.After-load → tie.Start
 start l =
     l .before .before .before .before .before .before .before .before .before .before .before .before .before .before .before .before
-    .before .before .before .before .before
+    .before .before .before .before .before .before
 
 -- the load, seen from where its answer is known to be a header, and to be a refusal
 abbrev taken : tie.After-loaded → tie.After-load
 taken c =
     c .before .before .before .before .before .before .before .before .before .before .before .before .before .before .before .before
-    .before .before
+    .before .before .before
 
 abbrev taken-2 : tie.After-loaded2 → tie.After-load
 taken-2 c =
     c .before .before .before .before .before .before .before .before .before .before .before .before .before .before .before .before
-    .before .before
+    .before .before .before
 
 -- the parts and the store as the load leaves them
 abbrev left : tie.After-load → Parts
@@ -117,6 +117,9 @@ slice-aggregate-load-15 c = refl
 
 slice-aggregate-load-16 : tie.Need-slice-aggregate-load-16
 slice-aggregate-load-16 c = refl
+
+slice-aggregate-load-17 : tie.Need-slice-aggregate-load-17
+slice-aggregate-load-17 c = refl
 
 load-requires : tie.Need-load-requires
 load-requires c κs = tt
@@ -303,6 +306,7 @@ reload-spec =
     slice-aggregate-load-14
     slice-aggregate-load-15
     slice-aggregate-load-16
+    slice-aggregate-load-17
     load-requires
     enum-known-loaded
     cast-nvars

@@ -28,7 +28,7 @@ counted c = c .before .before .before
 
 -- the export, and what was counted before it
 abbrev parts : tie.After-export → tie.After-passed-on2
-parts c = c .before .before .before .before .before .before .before .before .before .before
+parts c = c .before .before .before .before .before .before .before .before .before .before .before
 
 default-requires : tie.Need-default-requires
 default-requires c κs = tt
@@ -92,6 +92,9 @@ slice-aggregate-export-6 c = search needs
 slice-aggregate-export-7 : tie.Need-slice-aggregate-export-7
 slice-aggregate-export-7 c = search needs
 
+slice-aggregate-export-8 : tie.Need-slice-aggregate-export-8
+slice-aggregate-export-8 c = refl
+
 export-requires : tie.Need-export-requires
 export-requires c κs = tt
 
@@ -133,23 +136,23 @@ exports c x q =
 
 same-length : tie.Need-same-length
 same-length c =
-    c .before .before .before .before .before .before .before .export .kept .1 .1 .1 .1 .1 .1 .1 .1 .1 .1 .1 .1 .1 .1 .1 .1 .1 .0
+    c .before .before .before .before .before .before .before .before .export .kept .1 .1 .1 .1 .1 .1 .1 .1 .1 .1 .1 .1 .1 .1 .1 .1 .1 .0
 
 returns : tie.Need-returns
 returns c =
     record {
-      file = exports (c .before .before .before .before .before .before .before) _ (ap (λ r. ofRead (ofExported r)) (sym
+      file = exports (c .before .before .before .before .before .before .before .before) _ (ap (λ r. ofRead (ofExported r)) (sym
           (c .before .exported .given .1)));
     }
 
 same-length-2 : tie.Need-same-length-2
 same-length-2 c =
-    c .before .before .before .before .before .before .before .export .kept .1 .1 .1 .1 .1 .1 .1 .1 .1 .1 .1 .1 .1 .1 .1 .1 .1 .0
+    c .before .before .before .before .before .before .before .before .export .kept .1 .1 .1 .1 .1 .1 .1 .1 .1 .1 .1 .1 .1 .1 .1 .1 .1 .0
 
 returns-2 : tie.Need-returns-2
 returns-2 c =
     record {
-      file = exports (c .before .before .before .before .before .before .before) _ (ap (λ r. ofRead (ofExported r)) (sym
+      file = exports (c .before .before .before .before .before .before .before .before) _ (ap (λ r. ofRead (ofExported r)) (sym
           (c .before .exported2 .given .1)));
     }
 
@@ -173,6 +176,7 @@ write-back-spec =
     slice-aggregate-export-5
     slice-aggregate-export-6
     slice-aggregate-export-7
+    slice-aggregate-export-8
     export-requires
     enum-known-exported
     enum-known-exported-2

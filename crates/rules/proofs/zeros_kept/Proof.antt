@@ -1,48 +1,48 @@
--- `zeros_kept` meets its contract: slot 1 and the unused slots below n are zero.
+-- `zeros_kept` meets its contract: slot 1 is zero, and the answer so far is that of the unused slots up to the one looked at.
 use borrow.Author.Needs.{needs}
 use borrow.Author.Tests.{not-true, not-false}
-use Prim.Native.Nat.{_+_, _-_}
+use Prim.Native.Nat.{_-_}
 use native.Mathlib.Omega.{arith}
 use lib.ListN.{length}
-use Rattle.rules.proofs.Zeros.{Cleared, clear-start, clear-first, clear-more, clear-bad, clear-end}
+use Rattle.rules.proofs.Zeros.{Looked, look-start, look-first, look-more, look-bad, look-end}
 use Rattle.rules.proofs.zeros_kept.Statement.{statement}
 use Rattle.rules.proofs.zeros_kept.Tie as tie
 
 abbrev Inv-loop : tie.InvT-loop
-Inv-loop count level then els next used n₀ n = Cleared count level then els next n
+Inv-loop count level then els next all₀ used₀ all used = Looked count level then els next all used
 
 abbrev μ-loop : tie.MeasureT-loop
-μ-loop count level then els next used n₀ n = length level + 1 - n
+μ-loop count level then els next all₀ used₀ all used = length level - used
 
 slot-zero-requires : tie.Need-slot-zero-requires Inv-loop μ-loop
 slot-zero-requires c κs = search needs
 
 returns : tie.Need-returns Inv-loop μ-loop
-returns c = clear-first _ _ _ _ _ (c .before .slot-zero .ensures) (not-true _ (c .if1 .taken))
-
-add-n : tie.Need-add-n Inv-loop μ-loop
-add-n c = search needs
+returns c = look-first _ _ _ _ _ (c .before .slot-zero .ensures) (not-true _ (c .if1 .taken))
 
 loop-holds : tie.Need-loop-holds Inv-loop μ-loop
-loop-holds c = clear-start _ _ _ _ _ (c .before .slot-zero .ensures) (not-false _ (c .if1 .left)) (omega arith)
+loop-holds c = look-start _ _ _ _ _ (c .before .slot-zero .ensures) (not-false _ (c .if1 .left)) (omega arith)
 
-add-n-2 : tie.Need-add-n-2 Inv-loop μ-loop
-add-n-2 c = search needs
+add-used : tie.Need-add-used Inv-loop μ-loop
+add-used c = search needs
 
 slot-zero-requires-2 : tie.Need-slot-zero-requires-2 Inv-loop μ-loop
 slot-zero-requires-2 c κs = search needs
-
-returns-2 : tie.Need-returns-2 Inv-loop μ-loop
-returns-2 c = clear-bad _ _ _ _ _ (c .before .before .before .loop .inv) (c .before .before .loop-test .taken) (c .before .slot-zero2 .ensures) (not-true _ (c .if2 .taken))
 
 loop-less : tie.Need-loop-less Inv-loop μ-loop
 loop-less c = search needs
 
 loop-again : tie.Need-loop-again Inv-loop μ-loop
-loop-again c = clear-more _ _ _ _ _ (c .before .before .before .loop .inv) (c .before .before .loop-test .taken) (c .before .slot-zero2 .ensures) (not-false _ (c .if2 .left))
+loop-again c = look-bad _ _ _ _ _ (c .before .before .before .loop .inv) (c .before .before .loop-test .taken) (c .before .slot-zero2 .ensures) (not-true _ (c .if2 .taken))
 
-returns-3 : tie.Need-returns-3 Inv-loop μ-loop
-returns-3 c = clear-end _ _ _ _ _ (c .before .loop .inv) (c .loop-test .left)
+loop-less-2 : tie.Need-loop-less-2 Inv-loop μ-loop
+loop-less-2 c = search needs
+
+loop-again-2 : tie.Need-loop-again-2 Inv-loop μ-loop
+loop-again-2 c = look-more _ _ _ _ _ (c .before .before .before .loop .inv) (c .before .before .loop-test .taken) (c .before .slot-zero2 .ensures) (not-false _ (c .if2 .left))
+
+returns-2 : tie.Need-returns-2 Inv-loop μ-loop
+returns-2 c = look-end _ _ _ _ _ (c .before .loop .inv) (c .loop-test .left)
 
 pub zeros-kept-spec : {M : Type 1} → statement M
 zeros-kept-spec =
@@ -52,11 +52,11 @@ zeros-kept-spec =
     μ-loop
     slot-zero-requires
     returns
-    add-n
     loop-holds
+    add-used
     slot-zero-requires-2
-    returns-2
-    add-n-2
     loop-less
     loop-again
-    returns-3)
+    loop-less-2
+    loop-again-2
+    returns-2)

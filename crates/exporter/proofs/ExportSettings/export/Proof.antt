@@ -18,23 +18,29 @@ use Rattle.exporter.proofs.ExportSettings.export.Statement.{statement}
 use Rattle.exporter.proofs.ExportSettings.export.Tie as tie
 
 -- places of the course, each a few steps back from a later one
-abbrev again : tie.After-clear-marks4 → tie.After-clear-marks3
+abbrev again : tie.After-clear-marks5 → tie.After-clear-marks4
 again p = p .before .before .before .before
 
-abbrev written : tie.After-clear-marks3 → tie.After-write-file
+abbrev written : tie.After-clear-marks4 → tie.After-write-file
 written p = p .before .before .before .before .before .before .before .before
 
 abbrev at-else1 : tie.After-write-file-arg3 → tie.Else1
 at-else1 p = p .before .before .before .before
 
+abbrev work-cleared : tie.Else1 → tie.After-clear-marks3
+work-cleared p = p .before .before .before
+
+abbrev judged : tie.After-clear-marks3 → tie.After-export-fault
+judged p = p .before .before .before .before .before
+
 abbrev at-export-fault : tie.Else1 → tie.After-export-fault
-at-export-fault p = p .before .before
+at-export-fault p = judged (work-cleared p)
 
 abbrev tested : tie.After-write-file → tie.After-export-fault
 tested p = at-export-fault (at-else1 (p .before))
 
 abbrev out : tie.After-export-fault → tie.After-clear-bytes
-out p = p .before .before .before .before
+out p = p .before .before .before .before .before
 
 abbrev numbers : tie.After-clear-bytes → tie.After-clear-marks2
 numbers p = p .before .before .before .before
@@ -44,7 +50,7 @@ slots p = p .before .before .before .before
 
 -- the way back, from after a call to after the one before it, and to the start
 abbrev start : tie.After-clear-marks → tie.Start
-start p = p .before .before .before .before .before .before .before .before .before .before .before .before .before .before .before
+start p = p .before .before .before .before .before .before .before .before .before .before .before .before .before .before .before .before
 
 abbrev origin : tie.After-export-fault → tie.Start
 origin p = start (slots (numbers (out p)))
@@ -75,6 +81,15 @@ numbers-kept f = numbers (out f) .clear-marks2 .kept .0
 
 out-kept : (f : tie.After-export-fault) → length (out f .clear-bytes .last .0) ≡ length (origin f .args .out .now)
 out-kept f = out f .clear-bytes .kept .0
+
+-- so is the work, which is cleared then
+work-kept : (w : tie.After-clear-marks3)
+    → length (w .clear-marks3 .last .0) ≡ length (origin (judged w) .args .work .now)
+work-kept w = w .clear-marks3 .kept .0 ∙ judged w .export-fault .kept .1 .1 .1 .1 .1 .1 .1 .1 .1 .1 .1 .1 .1 .1 .1 .1 .1 .1 .1 .0
+
+work-zeros : (w : tie.After-clear-marks3)
+    → (w .clear-marks3 .last .0) ≡ replicate (length (origin (judged w) .args .work .now)) 0
+work-zeros w = w .clear-marks3 .ensures ∙ ap (λ n. replicate n 0) (judged w .export-fault .kept .1 .1 .1 .1 .1 .1 .1 .1 .1 .1 .1 .1 .1 .1 .1 .1 .1 .1 .1 .0)
 
 refusal-is : (f : tie.After-export-fault)
     → f .export-fault .result
@@ -125,19 +140,23 @@ export-fault-requires : tie.Need-export-fault-requires
 export-fault-requires c κs = refl
 
 same-length : tie.Need-same-length
-same-length c = slots-kept (c .before .before)
+same-length c = slots-kept (judged (c .before .before .before))
 
 same-length-2 : tie.Need-same-length-2
-same-length-2 c = numbers-kept (c .before .before)
+same-length-2 c = numbers-kept (judged (c .before .before .before))
 
 same-length-3 : tie.Need-same-length-3
-same-length-3 c = out-kept (c .before .before)
+same-length-3 c = out-kept (judged (c .before .before .before))
+
+same-length-4 : tie.Need-same-length-4
+same-length-4 c = work-kept (c .before .before .before)
 
 returns : tie.Need-returns
 returns c = record {
-  file = refused (c .before .before) (c .if1 .taken);
-  slots-left = slots (numbers (out (c .before .before))) .clear-marks .ensures;
-  numbers-left = numbers (out (c .before .before)) .clear-marks2 .ensures;
+  file = refused (judged (c .before .before .before)) (c .if1 .taken);
+  slots-left = slots (numbers (out (judged (c .before .before .before)))) .clear-marks .ensures;
+  numbers-left = numbers (out (judged (c .before .before .before))) .clear-marks2 .ensures;
+  work-left = work-zeros (c .before .before .before);
 }
 
 slice-aggregate-write-file : tie.Need-slice-aggregate-write-file
@@ -167,22 +186,29 @@ clear-marks-requires-3 c κs = tt
 clear-marks-requires-4 : tie.Need-clear-marks-requires-4
 clear-marks-requires-4 c κs = tt
 
-same-length-4 : tie.Need-same-length-4
-same-length-4 c = again (c .before .before) .clear-marks3 .kept .0 ∙ slots-stay (written (again (c .before .before)))
+clear-marks-requires-5 : tie.Need-clear-marks-requires-5
+clear-marks-requires-5 c κs = tt
 
 same-length-5 : tie.Need-same-length-5
-same-length-5 c = c .before .before .clear-marks4 .kept .0 ∙ numbers-stay (written (again (c .before .before)))
+same-length-5 c = again (c .before .before) .clear-marks4 .kept .0 ∙ slots-stay (written (again (c .before .before)))
 
 same-length-6 : tie.Need-same-length-6
-same-length-6 c =
+same-length-6 c = c .before .before .clear-marks5 .kept .0 ∙ numbers-stay (written (again (c .before .before)))
+
+same-length-7 : tie.Need-same-length-7
+same-length-7 c =
     written (again (c .before .before)) .write-file .kept .1 .1 .1 .1 .1 .1 .1 .1 .1 .1 .1 .1 .1 .1 .1 .1 .1 .1 .1 .1 .0
     ∙ out-kept (tested (written (again (c .before .before))))
+
+same-length-8 : tie.Need-same-length-8
+same-length-8 c = work-kept (work-cleared (at-else1 (written (again (c .before .before)) .before)))
 
 returns-2 : tie.Need-returns-2
 returns-2 c = record {
   file = wrote (written (again (c .before .before)));
-  slots-left = again (c .before .before) .clear-marks3 .ensures ∙ ap (λ n. replicate n 0) (slots-stay (written (again (c .before .before))));
-  numbers-left = c .before .before .clear-marks4 .ensures ∙ ap (λ n. replicate n 0) (numbers-stay (written (again (c .before .before))));
+  slots-left = again (c .before .before) .clear-marks4 .ensures ∙ ap (λ n. replicate n 0) (slots-stay (written (again (c .before .before))));
+  numbers-left = c .before .before .clear-marks5 .ensures ∙ ap (λ n. replicate n 0) (numbers-stay (written (again (c .before .before))));
+  work-left = work-zeros (work-cleared (at-else1 (written (again (c .before .before)) .before)));
 }
 
 pub export-spec : {M : Type 1} → statement M
@@ -194,15 +220,18 @@ export-spec =
     clear-bytes-requires
     slice-aggregate-export-fault
     export-fault-requires
+    clear-marks-requires-3
     same-length
     same-length-2
     same-length-3
+    same-length-4
     returns
     slice-aggregate-write-file
     write-file-requires
-    clear-marks-requires-3
     clear-marks-requires-4
-    same-length-4
+    clear-marks-requires-5
     same-length-5
     same-length-6
+    same-length-7
+    same-length-8
     returns-2)

@@ -8,10 +8,12 @@ use Rattle.codes.specs.Limits.{limits}
 use Rattle.codes.specs.Lent.{laid}
 use Rattle.header_values.specs.Values.{pad}
 use Rattle.codes.specs.Faults.{firstFault}
+use Rattle.codes.proofs.Faults.{first-none}
 use Rattle.store.specs.Store.{Store}
 use Rattle.header.specs.Header as head
 use Rattle.header.specs.Header.{HeaderAnswer}
-use Rattle.calls.specs.Load.{lentFault, storeFault, inputFault, beforeHeader, headerOf, Parts, parts, lengthsOf, loadInto, partsOf, Load, Loaded, loadOf}
+use Rattle.header.proofs.Lengths.{before-none}
+use Rattle.calls.specs.Load.{lentFault, storeFault, inputFault, beforeHeader, headerOf, Parts, parts, lengthsOf, loadInto, Load, loadOf}
 use Rattle.stages.specs.Stages.{storeAfter, scratched, listed, Readable, nodesAfter, isRefusal, clearedIf}
 use Rattle.dddmp.proofs.Readable.{readable}
 use Rattle.dddmp.proofs.Staged.{ready, nodesLeft, left-load, Entries, loadEntries, headEntries, noEntries, cleared-list}
@@ -28,6 +30,12 @@ pub parts-alike : {a a' b b' c c' d d' e e' f f' : List ℕ} {g g' : List ℤ} {
     → a ≡ a' → b ≡ b' → c ≡ c' → d ≡ d' → e ≡ e' → f ≡ f' → g ≡ g' → h ≡ h' → i ≡ i' → j ≡ j' → k ≡ k'
     → parts a b c d e f g h i j k ≡ parts a' b' c' d' e' f' g' h' i' j' k'
 parts-alike p q r s t u v w x y z = rw (p, q, r, s, t, u, v, w, x, y, z) refl
+
+-- where nothing is found before the header, nothing was found of the lists
+pub lists-none : (σ : Store) (n : ℕ) {l lists found before : ℕ} → lists ≡ l → found ≡ storeAfter lists σ → before ≡ head.lengthAfter limits found n
+    → before ≡ 0 → l ≡ 0
+unfolding storeAfter
+lists-none σ n {l} {lists} {found} p s e z = sym p ∙ first-none lists _ (sym s ∙ before-none found n (sym e ∙ z))
 
 module _ (file list : List ℕ) (p : Parts) (σ : Store) where
   abbrev this : Load

@@ -21,7 +21,12 @@ module _ (f : List ℕ) (t : List Span) (h : wholeFault limits f t ≡ 0) where
   faultless-settled =
       let R = whole-rules limits f t .0 h in
       let fit = permids-allowed (nvarsIn f t) (u32sIn f t Permids) .1 (R .permids) in
-      record { few = R .few-vars; below = permids-limit (nvarsIn f t) varLimit (u32sIn f t Permids) fit (R .few-vars) (omega arith) }
+      record {
+        few = R .few-vars;
+        below = permids-limit (nvarsIn f t) varLimit (u32sIn f t Permids) fit (R .few-vars) (omega arith);
+        ids-counted = R .ids-counted;
+        permids-counted = R .permids-counted;
+      }
 
   -- each root is itself as an edge
   pub faultless-roots : map edgeOf (rootsIn f t) ≡ rootsIn f t

@@ -5,7 +5,8 @@ use mathlib.Core.Bool.{Bool, true, false, not, _&&_}
 use mathlib.Core.List.{List, [], _∷_}
 use Prim.Native.Nat.{ℕ, _+_, _≤_, _<_}
 use native.Mathlib.Numerals.{add-one}
-use lib.ListN.{length, getD, drop, drop-of-length-le}
+use native.Mathlib.Omega.{arith}
+use lib.ListN.{length, getD, drop, replicate, drop-of-length-le, length-replicate}
 use lib.Seq.{drop-cons}
 use lib.Dec.{leb}
 use borrow.Author.Tests.{leb-true, le-leb, lt-leb, not-true, not-false}
@@ -14,7 +15,8 @@ use Rattle.read_lines.specs.Each.{Each, none, each}
 use Rattle.codes.specs.Limits.{Limits, limits, inputLimit, varLimit, rootLimit}
 use Rattle.codes.specs.Faults.{firstFault}
 use Rattle.codes.proofs.Faults.{refuses, first-none, rest-none}
-use Rattle.codes.proofs.Refusals.{over-refuses, within-passes, within-none}
+use Rattle.codes.proofs.Refusals.{over-refuses, within-passes, within-none, unless-none}
+use Rattle.header_checks.specs.Whole.{VariableLists}
 use Rattle.header.specs.Header.{atLeast, listsFault, lengthFault, lengthAfter, MayRead}
 
 -- Lengths pass exactly where each is enough.
@@ -95,3 +97,24 @@ none-length m n h = within-passes (m .input) n 19 h
 pub length-may : (found : ℕ) (f : List ℕ) {n : ℕ} → n ≡ lengthAfter limits found (length f) → MayRead limits n f
 unfolding lengthAfter
 length-may found f e = λ z. length-none limits (length f) (first-none _ [] (rest-none found _ (sym e ∙ z)))
+
+-- where the lent lists aren't too short, those of variables are as long as the limit
+pub lists-long : (ids permids order auxids names lens roots : List ℕ)
+    → listsFault (length ids ∷ length order ∷ length permids ∷ length auxids ∷ length names ∷ length lens ∷ []) roots ≡ 0
+    → VariableLists ids permids order auxids names lens
+unfolding listsFault
+lists-long ids permids order auxids names lens roots h = go (lengths-enough varLimit _ .0 (both _ _ (unless-none _ 0 h) .0))
+  where
+    go : Each (λ n. varLimit ≤ n) (length ids ∷ length order ∷ length permids ∷ length auxids ∷ length names ∷ length lens ∷ [])
+        → VariableLists ids permids order auxids names lens
+    go (each a (each b (each c (each d (each e (each g none)))))) =
+        record { ids-long = a; permids-long = c; others-long = record { names-long = b; lens-long = d; names2-long = e; lens2-long = g } }
+
+-- as many zeros as the limit are
+pub zeros-long : varLimit ≤ length (replicate {A = ℕ} varLimit 0)
+zeros-long = omega (arith, length-replicate {A = ℕ} varLimit 0)
+
+-- where nothing is found after the input's length, nothing was found before it
+pub before-none : (found n : ℕ) → lengthAfter limits found n ≡ 0 → found ≡ 0
+unfolding lengthAfter
+before-none found n h = first-none found _ h

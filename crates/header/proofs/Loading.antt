@@ -1,26 +1,29 @@
 -- What a load leaves: its answer, and each lent list.
-use mathlib.Core.Path.{_≡_, refl, ap, _∙_}
-use mathlib.Core.List.{List, map}
-use Prim.Native.Nat.{ℕ, zero, suc}
+use mathlib.Core.Path.{_≡_, refl, sym, ap, _∙_}
+use mathlib.Core.List.{List, [], map}
+use Prim.Native.Nat.{ℕ, zero, suc, _≤_}
 use native.Mathlib.Omega.{arith}
 use lib.IntN.{ℤ, pos}
 use lib.ListN.{length, replicate}
 use Rattle.codes.specs.Lent.{Part, old, new, laid}
-use Rattle.codes.specs.Limits.{limits, rootLimit}
+use Rattle.codes.specs.Limits.{limits, varLimit, rootLimit}
 use Rattle.read_text.specs.Text.{startOf, lenOf}
 use Rattle.header_lines.specs.Sweep.{Span, SweepEnd, atNodes, refusedAt, endOf, linesOf}
-use Rattle.header_keys.specs.declared.Key.the-variants.{Ids, Permids, Auxids, Rootnames}
+use Rattle.header_keys.specs.declared.Key.{Key}
+use Rattle.header_keys.specs.declared.Key.the-variants.{Ids, Permids, Auxids, Orderedvarnames, Suppvarnames, Rootnames}
 use Rattle.file_roots.specs.Roots.{edgeOf}
 use Rattle.support.specs.Support.{supportOrder}
 use Rattle.header_values.specs.Values.{spans, pad, nvarsIn, u32sIn, namesIn, rootsIn}
+use Rattle.header_values.proofs.Counted.{u32s-most, names-most}
+use Rattle.header_values.proofs.Padded.{pad-none, length-pad}
 use Rattle.header_checks.specs.Names.{variableNamesIn}
 use Rattle.header_checks.specs.Whole.{wholeFault}
-use Rattle.header.specs.Header.{Header, HeaderAnswer, header, refusal, tableOf, settled, judgedHeader, readOf, after, listsIn, listsBy, loadHeader, tableBy}
+use Rattle.header.specs.Header.{Header, HeaderAnswer, header, refusal, tableOf, settled, judgedHeader, readOf, after, listsIn, listsBy, loadHeader, tableBy, settledBy, leftBy}
 use Rattle.header.specs.declared.Loaded as code
 use Rattle.header.specs.Kinds.{ofLoaded}
 use Rattle.header.specs.Promises.{LoadHeaderPromise}
-use Rattle.header_lists.specs.Settled.{Settled}
-use Rattle.header.proofs.NoValues.{no-lists}
+use Rattle.header_lists.specs.Settled.{Settled, HeldList, ListsRoom}
+use Rattle.header.proofs.NoValues.{noValues, no-lists, none-room}
 use Rattle.header.proofs.Faultless.{faultless-roots}
 use Rattle.header.proofs.Answers.{Promised, spans-of}
 
@@ -67,6 +70,57 @@ module _ (n : ℕ) (f : List ℕ) (a : HeaderAnswer) {starts ends : List ℕ} (w
   all-loaded : listsIn f (spans starts ends) a ≡ loadHeader limits n f
   unfolding loadHeader
   all-loaded = ap (λ t. listsIn f t a) held-spans ∙ lists-by f a ∙ ap (listsBy f) (w .0)
+
+-- an answer that is a header has no fault before it
+settled-by : (f : List ℕ) (h : Header) (t : List Span) (fault : ℕ) (sw : SweepEnd) → header h ≡ settledBy f t fault sw → fault ≡ 0
+settled-by f h t fault (atNodes next lines) e = stands-clean f h t next lines fault e
+settled-by f h t fault (refusedAt n line) e = let z : _≡_ {A = ℕ} 0 1 = cc in absurd (omega arith)
+
+-- nor was anything found before it
+after-first : (n : ℕ) (f : List ℕ) (h : Header) → header h ≡ after limits n f → n ≡ 0
+after-first zero f h e = refl
+after-first (suc n) f h e = let z : _≡_ {A = ℕ} 0 1 = cc in absurd (omega arith)
+
+-- a list of numbers that was read for the checks, and kept by the answer
+module _ (n : ℕ) (f : List ℕ) (k : Key) (none : u32sIn f noValues k ≡ []) (ss es : List ℕ) (fault : ℕ) (sw : SweepEnd) (m : ℕ) {l1 : List ℕ}
+    (e : fault ≡ 0 → l1 ≡ pad m (u32sIn f (spans ss es) k)) (q : length l1 ≡ m) where
+  -- it is what the table that is left says
+  pub kept-list : (a : HeaderAnswer) {starts ends l2 : List ℕ} → a ≡ settledBy f (spans ss es) fault sw → Promised n f a starts ends
+      → starts ≡ leftBy a ss → ends ≡ leftBy a es → l2 ≡ leftBy a l1 → l2 ≡ pad m (u32sIn f (spans starts ends) k)
+  kept-list (header h) d w s t p = p ∙ e (settled-by f h (spans ss es) fault sw d) ∙ rw (s, t)
+  kept-list (refusal i line) d w s t p =
+      p ∙ ap (λ j. replicate j 0) q ∙ sym (pad-none m) ∙ ap (pad m) (sym (ap (λ u. u32sIn f u k) (held-spans n f (refusal i line) w) ∙ none))
+
+  -- and has room there
+  pub kept-held : (a : HeaderAnswer) {starts ends : List ℕ} (l2 : List ℕ) → a ≡ settledBy f (spans ss es) fault sw → Promised n f a starts ends
+      → starts ≡ leftBy a ss → ends ≡ leftBy a es → l2 ≡ leftBy a l1 → (n ≡ 0 → varLimit ≤ m) → HeldList f (spans starts ends) k l2
+  kept-held a {starts} {ends} l2 d w s t p long =
+      let list = kept-list a d w s t p in
+      let count = ap length list ∙ length-pad m (u32sIn f (spans starts ends) k) in
+      record { room = room a w count; list = list ∙ ap (λ j. pad j (u32sIn f (spans starts ends) k)) (sym count) }
+    where
+      room : (a : HeaderAnswer) → Promised n f a starts ends → length l2 ≡ m → length (u32sIn f (spans starts ends) k) ≤ length l2
+      room (header h) w c = omega (arith, u32s-most f (spans starts ends) k, long (after-first n f h (w .0)), c)
+      room (refusal i line) w c =
+          let z : length (u32sIn f (spans starts ends) k) ≡ 0 = ap length (ap (λ u. u32sIn f u k) (held-spans n f (refusal i line) w) ∙ none) in
+          omega (arith, z)
+
+-- the other lists have room for what the table that is left says
+pub lists-room : (n : ℕ) (f : List ℕ) (a : HeaderAnswer) {starts ends : List ℕ} → Promised n f a starts ends
+    → (from sizes lens : List ℕ) → (n ≡ 0 → (varLimit ≤ length from) × ((varLimit ≤ length sizes) × (varLimit ≤ length lens)))
+    → ListsRoom f (spans starts ends) from sizes lens
+lists-room n f (refusal i line) w from sizes lens long = rw (held-spans n f (refusal i line) w) (none-room f from sizes lens)
+lists-room n f (header h) {starts} {ends} w from sizes lens long =
+    let l = long (after-first n f h (w .0)) in
+    let few = held-settled n f (header h) w .few in
+    let most = names-most f (spans starts ends) varLimit in
+    record {
+      from-seats = omega (arith, l .0, few);
+      sizes-seats = omega (arith, l .1 .0, few);
+      lens-seats = omega (arith, l .1 .1, few);
+      ordered-room = record { from-room = omega (arith, l .0, most Orderedvarnames); sizes-room = omega (arith, l .1 .0, most Orderedvarnames) };
+      supp-room = record { from-room = omega (arith, l .0, most Suppvarnames); sizes-room = omega (arith, l .1 .0, most Suppvarnames) };
+    }
 
 -- What a load leaves in its nine lists.
 module _ {f : Part (List ℕ)} {n : ℕ} {ids order permids auxids names lens : Part (List ℕ)} {roots : Part (List ℤ)}

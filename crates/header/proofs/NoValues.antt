@@ -16,7 +16,7 @@ use Rattle.variable_names.specs.Names.{variableNames}
 use Rattle.header_values.specs.Values.{u32sIn, namesIn, rootsIn, numberIn}
 use Rattle.header_checks.specs.Names.{variableNamesIn}
 use Rattle.header.specs.Header.{HeaderAnswer, nothing, listsIn}
-use Rattle.header_lists.specs.Settled.{Settled}
+use Rattle.header_lists.specs.Settled.{Settled, ListsRoom}
 
 -- the table of no values
 abbrev pub noValues : List Span
@@ -30,4 +30,15 @@ no-lists f a = refl
 -- what the last phase leans on
 pub none-settled : (f : List ℕ) → Settled f noValues
 unfolding numberIn single u32sIn u32List judge words wordsFrom
-none-settled f = record { few = omega arith; below = λ i. omega arith }
+none-settled f = record { few = omega arith; below = λ i. omega arith; ids-counted = refl; permids-counted = refl }
+
+-- all lists have room
+pub none-room : (f from sizes lens : List ℕ) → ListsRoom f noValues from sizes lens
+unfolding numberIn single namesIn nameList judge words wordsFrom
+none-room f from sizes lens = record {
+  from-seats = omega arith;
+  sizes-seats = omega arith;
+  lens-seats = omega arith;
+  ordered-room = record { from-room = omega arith; sizes-room = omega arith };
+  supp-room = record { from-room = omega arith; sizes-room = omega arith };
+}

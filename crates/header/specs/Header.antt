@@ -141,3 +141,28 @@ tableBy f (refusal n line) = replicate keys noSpan
 abbrev pub NextWithin : List ℕ → HeaderAnswer → Type 0
 NextWithin f (header h) = h .next ≤ length f
 NextWithin f (refusal n line) = Unit
+
+-- What the steps of a load say: the lines, where nothing was found before,
+abbrev pub sweptAfter : ℕ → List ℕ → SweepEnd
+sweptAfter zero f = endOf f (linesOf f)
+sweptAfter (suc n) f = refusedAt (suc n) 0
+
+-- what was found wrong with them, 0 of nothing,
+abbrev pub foundIn : SweepEnd → ℕ
+foundIn (atNodes next lines) = 0
+foundIn (refusedAt n line) = n
+
+-- their refusal,
+abbrev pub refusedBy : SweepEnd → HeaderAnswer
+refusedBy (atNodes next lines) = refusal 0 0
+refusedBy (refusedAt n line) = refusal n line
+
+-- the answer by them and by the header as a whole,
+abbrev pub settledBy : List ℕ → List Span → ℕ → SweepEnd → HeaderAnswer
+settledBy f t fault (atNodes next lines) = settled f t next lines fault
+settledBy f t fault (refusedAt n line) = refusal n line
+
+-- and a list of the table by the answer: zeros on a refusal
+abbrev pub leftBy : HeaderAnswer → List ℕ → List ℕ
+leftBy (header h) l = l
+leftBy (refusal n line) l = replicate (length l) 0

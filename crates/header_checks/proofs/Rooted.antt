@@ -15,13 +15,13 @@ use Rattle.header_checks.specs.Whole.{givenFault, rootFaults}
 use Rattle.codes.proofs.Faults.{refuses, passes, last-check}
 use Rattle.header_checks.proofs.Refusals.{count-right, count-wrong}
 
--- a list that begins with n roots reaches as far
-pub roots-reach : (dst : List ℤ) {n : ℕ} {rs : List ℤ} → n ≡ length rs → take n dst ≡ rs → n ≤ length dst
-roots-reach dst {n} e r = omega (arith, length-take n dst, ap length r)
+-- a list that begins with n entries reaches as far
+pub front-reach : {A : Type 0} (dst : List A) {n : ℕ} {rs : List A} → n ≡ length rs → take n dst ≡ rs → n ≤ length dst
+front-reach dst {n} e r = omega (arith, length-take n dst, ap length r)
 
 -- and its front has n entries
-pub roots-count : (dst : List ℤ) {n : ℕ} {rs : List ℤ} → n ≡ length rs → take n dst ≡ rs → n ≡ length (take n dst)
-roots-count dst e r = e ∙ sym (ap length r)
+pub front-count : {A : Type 0} (dst : List A) {n : ℕ} {rs : List A} → n ≡ length rs → take n dst ≡ rs → n ≡ length (take n dst)
+front-count dst e r = e ∙ sym (ap length r)
 
 module _ (f : List ℕ) (t : List Span) where
   -- how many roots there must be, and how many there are

@@ -4,20 +4,21 @@ use mathlib.Core.Bool.{Bool, true, false, not}
 use mathlib.Core.List.{List, [], _∷_}
 use Prim.Native.Nat.{ℕ, _≤_}
 use native.Mathlib.Omega.{arith}
-use lib.ListN.{length, take, replicate, length-replicate}
+use lib.ListN.{length, take}
 use borrow.Author.Tests.{not-true, not-false}
 use Rattle.header_lines.specs.Sweep.{Span}
 use Rattle.header_keys.specs.declared.Key.{Key}
 use Rattle.header_keys.specs.declared.Key.the-variants.{Ids, Permids, Auxids}
 use Rattle.support.specs.Support.{idsFit, permidsFit}
-use Rattle.variable_names.proofs.Free.{zeros-whole}
+use Rattle.codes.specs.Limits.{varLimit}
 use Rattle.header_values.specs.Values.{pad, nvarsIn, nsuppvarsIn, u32sIn}
+use Rattle.header_values.proofs.Counted.{u32s-most}
 use Rattle.header_values.proofs.Fronts.{front-fits, front-is, front-long}
 use Rattle.codes.specs.Faults.{firstFault, unless}
-use Rattle.header_checks.specs.Whole.{givenFault, supportFaults, Supported, IdsRead, ListRoom}
-use Rattle.codes.proofs.Faults.{refuses, passes, last-check}
+use Rattle.header_checks.specs.Whole.{givenFault, supportFaults, IdsListed, IdsRead}
+use Rattle.codes.proofs.Faults.{first-none, rest-none, refuses, passes, last-check}
 use Rattle.codes.proofs.Refusals.{unless-holds, unless-fails}
-use Rattle.header_checks.proofs.Refusals.{count-right, count-wrong}
+use Rattle.header_checks.proofs.Refusals.{count-right, count-wrong, count-none}
 
 -- the counts are right, so that the ids and the permids decide
 abbrev pub CountsPass : List ℕ → List Span → Type 0
@@ -28,9 +29,24 @@ CountsPass f t =
     ∷ [])
     ≡ firstFault (supportFaults f t)
 
--- a local list has room for as many entries as it has
-pub room-in : {want n : ℕ} (m : ℕ) → want ≡ n → want ≤ m → ListRoom n (replicate m 0)
-room-in m w h = record { zeros = zeros-whole m; enough = rw (length-replicate, ← w) h }
+-- numbers of a header's list were read into a list that is long enough
+module _ (f : List ℕ) (t : List Span) (k : Key) {n m : ℕ} {dst : List ℕ} (long : varLimit ≤ m) (e : n ≡ length (u32sIn f t k))
+    (l : dst ≡ pad m (u32sIn f t k)) where
+  -- they have room
+  in-room : length (u32sIn f t k) ≤ m
+  in-room = omega (arith, u32s-most f t k, long)
+
+  -- the list reaches as far as they
+  pub read-fits : n ≤ length dst
+  read-fits = front-fits m (u32sIn f t k) in-room e l
+
+  -- its front is they
+  pub read-is : take n dst ≡ u32sIn f t k
+  read-is = front-is m (u32sIn f t k) in-room e l
+
+  -- and has as many entries
+  pub read-long : n ≡ length (take n dst)
+  read-long = front-long m (u32sIn f t k) in-room e l
 
 module _ (f : List ℕ) (t : List Span) where
   -- how many support variables, ids and permids there are
@@ -49,27 +65,18 @@ module _ (f : List ℕ) (t : List Span) where
           ∙ passes _ refl (count-right _ _ (sym p ∙ h ∙ w))
 
       -- as many as there must be
-      pub counted : m ≡ want → Supported f t
-      counted k = record { ids-counted = sym p ∙ h ∙ w; permids-counted = sym q ∙ k ∙ w }
+      pub counted : m ≡ want → {ids permids : List ℕ} → IdsListed f t ids permids → IdsRead f t ids permids
+      counted k l = record { listed = l; ids-counted = sym p ∙ h ∙ w; permids-counted = sym q ∙ k ∙ w }
 
-  -- numbers that were read into a list with room for as many as support variables, and are as many
-  module _ (k : Key) {old : List ℕ} (r : ListRoom (nsuppvarsIn f t) old) {want n : ℕ} {dst : List ℕ} (w : want ≡ nsuppvarsIn f t)
-      (h : (n ≡ length (u32sIn f t k)) × (dst ≡ pad (length old) (u32sIn f t k))) (e : n ≡ want) where
-    -- they have room
-    in-room : length (u32sIn f t k) ≤ length old
-    in-room = omega (arith, h .0, r .enough)
+  -- where no support variable has a fault, there are as many ids and permids as support variables
+  module _ (h : firstFault (supportFaults f t) ≡ 0) where
+    pub ids-number : length (u32sIn f t Ids) ≡ nsuppvarsIn f t
+    unfolding supportFaults
+    ids-number = count-none _ _ (first-none _ _ h)
 
-    -- the list reaches as far as they
-    pub read-fits : n ≤ length dst
-    read-fits = front-fits (length old) (u32sIn f t k) in-room (h .0) (h .1)
-
-    -- its front is they
-    pub read-is : take n dst ≡ u32sIn f t k
-    read-is = front-is (length old) (u32sIn f t k) in-room (h .0) (h .1)
-
-    -- and has as many entries
-    pub read-long : n ≡ length (take n dst)
-    read-long = front-long (length old) (u32sIn f t k) in-room (h .0) (h .1)
+    pub permids-number : length (u32sIn f t Permids) ≡ nsuppvarsIn f t
+    unfolding supportFaults
+    permids-number = count-none _ _ (first-none _ _ (rest-none _ _ h))
 
   -- where the ids and the permids were read and counted: how many auxids there are
   module _ {ids permids : List ℕ} (l : IdsRead f t ids permids) {want a x : ℕ} (w : want ≡ nsuppvarsIn f t)
@@ -79,23 +86,23 @@ module _ (f : List ℕ) (t : List Span) where
     unfolding supportFaults
     auxids-wrong z =
         refuses _ (rw (w, u) at g) z
-        ∙ passes _ refl (count-right _ _ (l .counted .permids-counted))
-        ∙ passes _ refl (count-right _ _ (l .counted .ids-counted))
+        ∙ passes _ refl (count-right _ _ (l .permids-counted))
+        ∙ passes _ refl (count-right _ _ (l .ids-counted))
 
     -- as many as there must be
     pub counts-pass : x ≡ 0 → CountsPass f t
     unfolding supportFaults
     counts-pass z =
         passes _ (rw (w, u) at g) z
-        ∙ passes _ refl (count-right _ _ (l .counted .permids-counted))
-        ∙ passes _ refl (count-right _ _ (l .counted .ids-counted))
+        ∙ passes _ refl (count-right _ _ (l .permids-counted))
+        ∙ passes _ refl (count-right _ _ (l .ids-counted))
 
   -- where the counts are right: the answer about the ids
   module _ (pass : CountsPass f t) {ids permids : List ℕ} (l : IdsRead f t ids permids) {nvars : ℕ} (v : nvars ≡ nvarsIn f t)
       {a : Bool} (e : a ≡ idsFit nvars ids) where
     -- it is about the header's ids
     ids-answer : idsFit (nvarsIn f t) (u32sIn f t Ids) ≡ a
-    ids-answer = sym (rw (v, l .ids-are) at e)
+    ids-answer = sym (rw (v, l .listed .ids-are) at e)
 
     -- the ids don't fit
     pub ids-unfit : not a ≡ true → 22 ≡ firstFault (supportFaults f t)
@@ -105,7 +112,7 @@ module _ (f : List ℕ) (t : List Span) where
     module _ (h : not a ≡ false) {b : Bool} (d : b ≡ permidsFit nvars permids) where
       -- it is about the header's permids
       permids-answer : permidsFit (nvarsIn f t) (u32sIn f t Permids) ≡ b
-      permids-answer = sym (rw (v, l .permids-are) at d)
+      permids-answer = sym (rw (v, l .listed .permids-are) at d)
 
       -- the permids don't fit
       pub permids-unfit : not b ≡ true → 23 ≡ firstFault (supportFaults f t)

@@ -1,15 +1,16 @@
 -- The header as a whole. Document 01, 'The file's writer, header as a whole', its sentence in its order.
 use mathlib.Core.Path.{_≡_}
-use Prim.Native.Nat.{ℕ, _≤_}
+use Prim.Native.Nat.{ℕ, zero, suc, _≤_}
 use mathlib.Core.List.{List, [], _∷_, _++_}
 use mathlib.Core.Bool.{_||_}
-use lib.ListN.{length, replicate}
+use lib.ListN.{length}
 use lib.Dec.{ltb, eqb}
 use Rattle.codes.specs.Limits.{Limits, varLimit, rootLimit}
 use Rattle.header_lines.specs.Sweep.{Span}
 use Rattle.header_keys.specs.declared.Key.{Key}
 use Rattle.header_keys.specs.declared.Key.the-variants.{Ids, Permids, Auxids, Rootnames}
 use Rattle.support.specs.Support.{idsFit, permidsFit}
+use Rattle.variable_names.specs.Names.{places}
 use Rattle.file_roots.specs.Roots.{rootsFault}
 use Rattle.header_values.specs.Values.{nnodesIn, nvarsIn, nsuppvarsIn, nrootsIn, u32sIn, namesIn, rootsIn}
 use Rattle.header_checks.specs.Names.{varnamesIn, orderedvarnamesIn, suppvarnamesIn, varnamesAgree, suppByVarnames, suppByOrdered}
@@ -69,33 +70,55 @@ wholeFault m f t =
     (numberFaults m (nvarsIn f t) (nnodesIn f t) (nsuppvarsIn f t)
     ++ (supportFaults f t ++ (nameCountFaults f t ++ (nameFaults f t ++ rootFaults f t))))
 
--- What checks lean on: the numbers pass,
+-- the numbers of a table
+abbrev pub numbersFault : Limits → List ℕ → List Span → ℕ
+numbersFault m f t = firstFault (numberFaults m (nvarsIn f t) (nnodesIn f t) (nsuppvarsIn f t))
+
+-- they pass
 abbrev pub NumbersPass : Limits → List ℕ → List Span → Type 0
-NumbersPass m f t = firstFault (numberFaults m (nvarsIn f t) (nnodesIn f t) (nsuppvarsIn f t)) ≡ 0
+NumbersPass m f t = numbersFault m f t ≡ 0
 
--- a list of zeros has room for a number of entries,
-pub record ListRoom (n : ℕ) (l : List ℕ) : Type 0 where
-  pub zeros : l ≡ replicate (length l) 0
-  pub enough : n ≤ length l
+-- the refusal of the header as a whole, after what was found before, 0 of nothing
+abbrev pub wholeAfter : Limits → ℕ → List ℕ → List Span → ℕ
+wholeAfter m zero f t = wholeFault m f t
+wholeAfter m (suc n) f t = suc n
 
--- two have room for the starts and the lengths of a list's names,
-pub record NameRoom (f : List ℕ) (t : List Span) (k : Key) (starts lens : List ℕ) : Type 0 where
-  pub starts-room : ListRoom (length (namesIn varLimit f t k)) starts
-  pub lens-room : ListRoom (length (namesIn varLimit f t k)) lens
+-- What checks lean on: these ids and permids were read,
+pub record IdsListed (f : List ℕ) (t : List Span) (ids permids : List ℕ) : Type 0 where
+  pub ids-are : ids ≡ u32sIn f t Ids
+  pub permids-are : permids ≡ u32sIn f t Permids
 
--- there are as many ids and permids as support variables,
-pub record Supported (f : List ℕ) (t : List Span) : Type 0 where
+-- and there are as many of each as support variables;
+pub record IdsRead (f : List ℕ) (t : List Span) (ids permids : List ℕ) : Type 0 where
+  pub listed : IdsListed f t ids permids
   pub ids-counted : length (u32sIn f t Ids) ≡ nsuppvarsIn f t
   pub permids-counted : length (u32sIn f t Permids) ≡ nsuppvarsIn f t
 
--- these ids and permids were read,
-pub record IdsRead (f : List ℕ) (t : List Span) (ids permids : List ℕ) : Type 0 where
-  pub ids-are : ids ≡ u32sIn f t Ids
-  pub permids-are : permids ≡ u32sIn f t Permids
-  pub counted : Supported f t
+-- two lists hold the starts and the lengths of a list's names;
+pub record NamesHeld (f : List ℕ) (t : List Span) (k : Key) (starts lens : List ℕ) : Type 0 where
+  pub even : length lens ≡ length starts
+  pub count : length starts ≡ length (namesIn varLimit f t k)
+  pub names-are : places starts lens ≡ namesIn varLimit f t k
 
--- and the names of each list were counted
+-- the names of each list were counted;
 pub record NameCounts (f : List ℕ) (t : List Span) (ordered supp varnames : ℕ) : Type 0 where
   pub ordered-count : ordered ≡ length (orderedvarnamesIn f t)
   pub supp-count : supp ≡ length (suppvarnamesIn f t)
   pub varnames-count : varnames ≡ length (varnamesIn f t)
+
+-- two lists of names have room in four lent lists;
+pub record LongNames (names lens names2 lens2 : List ℕ) : Type 0 where
+  pub names-long : varLimit ≤ length names
+  pub lens-long : varLimit ≤ length lens
+  pub names2-long : varLimit ≤ length names2
+  pub lens2-long : varLimit ≤ length lens2
+
+-- the lent lists of variables are as long as the limit: none has '1 a lent part too short'
+pub record VariableLists (ids permids order auxids names lens : List ℕ) : Type 0 where
+  pub ids-long : varLimit ≤ length ids
+  pub permids-long : varLimit ≤ length permids
+  pub others-long : LongNames order auxids names lens
+
+-- where nothing was found before, they are
+abbrev pub LongAfter : ℕ → List ℕ → List ℕ → List ℕ → List ℕ → List ℕ → List ℕ → Type 0
+LongAfter found ids permids order auxids names lens = found ≡ 0 → VariableLists ids permids order auxids names lens

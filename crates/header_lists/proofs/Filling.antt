@@ -17,47 +17,63 @@ use Rattle.seats.specs.Seats.{Below}
 use Rattle.support.specs.Support.{supportOrder}
 use Rattle.variable_names.proofs.Placed.{starts-gathered, lens-gathered}
 use Rattle.header_values.specs.Values.{pad, nvarsIn, u32sIn, namesIn, rootsIn}
-use Rattle.header_values.proofs.Counted.{roots-most}
-use Rattle.header_values.proofs.Fronts.{HasNumbers, numbers-are}
-use Rattle.header_checks.specs.Whole.{NameRoom}
-use Rattle.header_checks.proofs.Agreeing.{HasNames, starts-are, lens-are}
-use Rattle.header_lists.specs.Settled.{Settled}
+use Rattle.header_values.proofs.Counted.{u32s-most, roots-most}
+use Rattle.header_values.proofs.Fronts.{front-is, front-long}
+use Rattle.header_checks.specs.Whole.{IdsListed}
+use Rattle.header_lists.specs.Settled.{Settled, HeldList}
 
 -- permids are below the limit
-pub permids-below : (f : List ℕ) (t : List Span) → Settled f t → {n : ℕ} {l : List ℕ} → HasNumbers f t Permids n l
-    → Below varLimit (take n l)
-permids-below f t s r i = rw (numbers-are f t Permids r) (s .below i)
+pub permids-below : (f : List ℕ) (t : List Span) → Settled f t → {ids permids : List ℕ} → IdsListed f t ids permids → Below varLimit permids
+permids-below f t s l i = rw (l .permids-are) (s .below i)
+
+-- there are few ids
+pub ids-few : (f : List ℕ) (t : List Span) {ids permids : List ℕ} → IdsListed f t ids permids → length ids ≤ varLimit
+ids-few f t l = rw (l .ids-are) (u32s-most f t Ids)
+
+-- and few permids
+pub permids-few : (f : List ℕ) (t : List Span) {ids permids : List ℕ} → IdsListed f t ids permids → length permids ≤ varLimit
+permids-few f t l = rw (l .permids-are) (u32s-most f t Permids)
 
 -- what is made of the ids and the permids, over the front of a list
-module _ (f : List ℕ) (t : List Span) {nvars : ℕ} (v : nvars ≡ nvarsIn f t) {n : ℕ} {ids : List ℕ} (i : HasNumbers f t Ids n ids) where
+module _ (f : List ℕ) (t : List Span) {nvars : ℕ} (v : nvars ≡ nvarsIn f t) {ids permids : List ℕ} (l : IdsListed f t ids permids) (old : List ℕ)
+    {dst : List ℕ} where
   -- the seats of names in `.suppvarnames`
-  pub supp-laid : (old : List ℕ) {dst : List ℕ} → dst ≡ laid (suppSeats nvars (take n ids)) old
-      → dst ≡ laid (suppSeats (nvarsIn f t) (u32sIn f t Ids)) old
-  supp-laid old d = d ∙ rw (v, numbers-are f t Ids i)
+  pub supp-laid : dst ≡ laid (suppSeats nvars ids) old → dst ≡ laid (suppSeats (nvarsIn f t) (u32sIn f t Ids)) old
+  supp-laid d = d ∙ rw (v, l .ids-are)
 
-  module _ {m : ℕ} {permids : List ℕ} (p : HasNumbers f t Permids m permids) where
-    -- the seats of names in `.orderedvarnames`
-    pub ordered-laid : (old : List ℕ) {dst : List ℕ} → dst ≡ laid (orderedSeats nvars (take n ids) (take m permids)) old
-        → dst ≡ laid (orderedSeats (nvarsIn f t) (u32sIn f t Ids) (u32sIn f t Permids)) old
-    ordered-laid old d = d ∙ rw (v, numbers-are f t Ids i, numbers-are f t Permids p)
+  -- the seats of names in `.orderedvarnames`
+  pub ordered-laid : dst ≡ laid (orderedSeats nvars ids permids) old
+      → dst ≡ laid (orderedSeats (nvarsIn f t) (u32sIn f t Ids) (u32sIn f t Permids)) old
+  ordered-laid d = d ∙ rw (v, l .ids-are, l .permids-are)
 
-    -- the support order, over zeros
-    pub order-laid : (k : ℕ) {old dst : List ℕ} → old ≡ replicate k 0 → dst ≡ laid (supportOrder nvars (take n ids) (take m permids)) old
-        → dst ≡ pad k (supportOrder (nvarsIn f t) (u32sIn f t Ids) (u32sIn f t Permids))
-    order-laid k o d = d ∙ rw (v, numbers-are f t Ids i, numbers-are f t Permids p, o)
+  -- the support order, over zeros
+  pub order-laid : (k : ℕ) → old ≡ replicate k 0 → dst ≡ laid (supportOrder nvars ids permids) old
+      → dst ≡ pad k (supportOrder (nvarsIn f t) (u32sIn f t Ids) (u32sIn f t Permids))
+  order-laid k o d = d ∙ rw (v, l .ids-are, l .permids-are, o)
 
 -- the names at seats, over the front of a list
-module _ (f : List ℕ) (t : List Span) (k : Key) {a b : List ℕ} (r : NameRoom f t k a b) {n : ℕ} {starts lens : List ℕ}
-    (h : HasNames f t k a b n starts lens) (seats old : List ℕ) {dst : List ℕ} where
+module _ (f : List ℕ) (t : List Span) (k : Key) (seats old : List ℕ) {from dst : List ℕ} where
   -- their starts
-  pub starts-laid : dst ≡ laid (map (entryAt (take n starts)) seats) old
+  pub starts-laid : from ≡ map startOf (namesIn varLimit f t k) → dst ≡ laid (map (entryAt from) seats) old
       → dst ≡ laid (map startOf (map (nameAtSeat (namesIn varLimit f t k)) seats)) old
-  starts-laid d = d ∙ rw (starts-are f t k r h, starts-gathered (namesIn varLimit f t k) seats)
+  starts-laid a d = d ∙ rw (a, starts-gathered (namesIn varLimit f t k) seats)
 
   -- their lengths
-  pub lens-laid : dst ≡ laid (map (entryAt (take n lens)) seats) old
+  pub lens-laid : from ≡ map lenOf (namesIn varLimit f t k) → dst ≡ laid (map (entryAt from) seats) old
       → dst ≡ laid (map lenOf (map (nameAtSeat (namesIn varLimit f t k)) seats)) old
-  lens-laid d = d ∙ rw (lens-are f t k r h, lens-gathered (namesIn varLimit f t k) seats)
+  lens-laid a d = d ∙ rw (a, lens-gathered (namesIn varLimit f t k) seats)
+
+-- numbers that were read into a lent list are its front
+module _ (f : List ℕ) (t : List Span) (k : Key) {l : List ℕ} (h : HeldList f t k l) {n m : ℕ} (c : length (u32sIn f t k) ≡ m) (e : n ≡ m) where
+  pub held-is : take n l ≡ u32sIn f t k
+  held-is = front-is (length l) (u32sIn f t k) (h .room) (e ∙ sym c) (h .list)
+
+  pub held-long : n ≡ length (take n l)
+  held-long = front-long (length l) (u32sIn f t k) (h .room) (e ∙ sym c) (h .list)
+
+-- a list that was padded to its length
+pub padded-as : (es : List ℕ) {k m : ℕ} {l : List ℕ} → l ≡ pad k es → k ≡ m → l ≡ pad m es
+padded-as es e q = e ∙ ap (λ n. pad n es) q
 
 -- n roots were read into the front of a list
 module _ (f : List ℕ) (t : List Span) {n : ℕ} (l : List ℤ) (e : n ≡ length (rootsIn f t)) where

@@ -3,13 +3,13 @@ use mathlib.Core.Path.{_≡_, refl, sym, ap, subst, _∙_}
 use mathlib.Core.List.{List, [], map}
 use Prim.Native.Nat.{ℕ, _≤_}
 use native.Mathlib.Omega.{arith}
-use lib.ListN.{length, take, replicate}
+use lib.ListN.{length, take, replicate, length-map}
 use lib.IntN.{ℤ}
 use Rattle.codes.specs.Answer.{Read, value, refused}
 use Rattle.codes.specs.Limits.{varLimit, rootLimit}
 use Rattle.codes.specs.Lent.{laid}
 use Rattle.read_lists.specs.Lists.{Listed, u32List}
-use Rattle.read_text.specs.Text.{startOf, lenOf, nameList}
+use Rattle.read_text.specs.Text.{Place, startOf, lenOf, nameList}
 use Rattle.read_edges.specs.Edges.{edgeList}
 use Rattle.header_lines.specs.Sweep.{Span, part}
 use Rattle.header_keys.specs.declared.Key.{Key}
@@ -54,6 +54,12 @@ module _ {A : Type 0} {l m : Listed A} (same : l ≡ m) where
     pub emptied-pad : {n : ℕ} {out : List ℕ} → g [] ≡ [] → refused n ≡ l .answer → out ≡ replicate (length dst) 0
         → out ≡ pad k (g (entriesOf m))
     emptied-pad z r c = pad-again k (g (l .entries)) o d c ∙ ap (pad k) (sym z ∙ ap g (given-none r))
+
+-- a part of each name, laid over the front of a list that has room for them
+parts-front : (of : Place → ℕ) (ps : List Place) {n : ℕ} (old : List ℕ) {dst : List ℕ} → n ≡ length ps → dst ≡ laid (map of ps) old
+    → length ps ≤ length old → take n dst ≡ map of ps
+parts-front of ps old c d h =
+    rw (c ∙ sym (length-map ps of), d) (take-laid (map of ps) old (omega (arith, length-map ps of)))
 
 module _ (f : List ℕ) (t : List Span) (k : Key) (s : code.Span) (at : ofSpan s ≡ spanIn t k) where
   -- the bytes of the span that was found
@@ -101,6 +107,33 @@ module _ (f : List ℕ) (t : List Span) (k : Key) (s : code.Span) (at : ofSpan s
     names-none r a b =
         let none = ap length (given-none (names max) r) in
         (none, (emptied-pad (names max) (map startOf) i o d refl r a, emptied-pad (names max) (map lenOf) j p e refl r b))
+
+  -- the same over the fronts of two lists that have room for the names
+  module _ (max : ℕ) {n : ℕ} (olds oldl : List ℕ) {starts lens : List ℕ}
+      (d : starts ≡ laid (map startOf (nameList max (s .start) bytes .entries)) olds)
+      (e : lens ≡ laid (map lenOf (nameList max (s .start) bytes .entries)) oldl)
+      (a : length (namesIn max f t k) ≤ length olds) (b : length (namesIn max f t k) ≤ length oldl) where
+    -- names that were read are their fronts,
+    pub names-over-given : value n ≡ nameList max (s .start) bytes .answer
+        → (n ≡ length (namesIn max f t k))
+        × ((take n starts ≡ map startOf (namesIn max f t k)) × (take n lens ≡ map lenOf (namesIn max f t k)))
+    unfolding namesIn
+    names-over-given r =
+        let count = given-count (names max) (name-count max (valueIn f t k) (spanIn t k .start)) r in
+        let all = given-entries (names max) r in
+        let starts-are = d ∙ ap (λ es. laid (map startOf es) olds) all in
+        let lens-are = e ∙ ap (λ es. laid (map lenOf es) oldl) all in
+        let ns = namesIn max f t k in
+        (count, (parts-front startOf ns olds count starts-are a, parts-front lenOf ns oldl count lens-are b))
+
+    -- and where they were refused there are none
+    pub names-over-none : refused n ≡ nameList max (s .start) bytes .answer
+        → (0 ≡ length (namesIn max f t k))
+        × ((take 0 starts ≡ map startOf (namesIn max f t k)) × (take 0 lens ≡ map lenOf (namesIn max f t k)))
+    unfolding namesIn
+    names-over-none r =
+        let none = given-none (names max) r in
+        (ap length none, (ap (map startOf) none, ap (map lenOf) none))
 
 module _ (f : List ℕ) (t : List Span) (s : code.Span) (at : ofSpan s ≡ spanIn t Rootids) where
   -- the bytes of the span that was found are those of the roots

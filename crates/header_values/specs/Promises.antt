@@ -26,6 +26,12 @@ module _ (f starts ends : Part (List ℕ)) where
     pub names-left : new names ≡ pad (length (old names)) (map startOf (namesIn max (old f) (table starts ends) key))
     pub lens-left : new lens ≡ pad (length (old lens)) (map lenOf (namesIn max (old f) (table starts ends) key))
 
+  -- the same as the fronts of the lent lists, whatever stands behind them
+  pub record NamesOverPromise (key : Key) (max : ℕ) (names lens : Part (List ℕ)) (r : ℕ) : Type 0 where
+    pub answer : r ≡ length (namesIn max (old f) (table starts ends) key)
+    pub names-front : take r (new names) ≡ map startOf (namesIn max (old f) (table starts ends) key)
+    pub lens-front : take r (new lens) ≡ map lenOf (namesIn max (old f) (table starts ends) key)
+
   -- the roots, counted, as the front of the lent list; all of it: the entries up to one that is refused, and the rest as it was
   pub record RootsInPromise (dst : Part (List ℤ)) (r : ℕ) : Type 0 where
     pub answer : r ≡ length (rootsIn (old f) (table starts ends))

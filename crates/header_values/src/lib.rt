@@ -6,7 +6,7 @@ ghost use lib.ListN.{length, replicate};
 ghost use Rattle.codes.specs.Limits.{rootLimit};
 ghost use Rattle.header_lines.specs.Sweep.{Table};
 ghost use Rattle.header_values.specs.Kinds.{ofPlace, ofSpan, ofVarInfo, SpanWithin};
-ghost use Rattle.header_values.specs.Promises.{U32sPromise, NamesPromise, RootsInPromise};
+ghost use Rattle.header_values.specs.Promises.{U32sPromise, NamesPromise, NamesOverPromise, RootsInPromise};
 ghost use Rattle.header_values.specs.Values.{spans, spanIn, KnownKey, numberIn, asciiIn, varinfoIn, ddIn, namesIn};
 use codes::VarInfo;
 use codes::limits;
@@ -167,6 +167,37 @@ pub fn read_names(
     ) else {
         zeros::clear_numbers(names);
         zeros::clear_numbers(lens);
+        return 0;
+    };
+    n
+}
+
+// Reads a list of at most `max` names over the fronts of two lists that have room for them, and answers how many there are. What stands
+// behind them in the lists is left as it may be.
+pub fn names_over(
+    f: &[u8],
+    starts: &[u32],
+    ends: &[u32],
+    key: Key,
+    max: usize,
+    names: &mut [u32],
+    lens: &mut [u32],
+) -> usize
+    requires { ⌜ Table (now f) (now starts) (now ends) × KnownKey key ⌝ }
+    requires { ⌜ length (namesIn max (now f) (spans (now starts) (now ends)) key) ≤ length (now names) ⌝ }
+    requires { ⌜ length (namesIn max (now f) (spans (now starts) (now ends)) key) ≤ length (now lens) ⌝ }
+    ensures { λ r. ⌜ NamesOverPromise f starts ends key max names lens r ⌝ }
+{
+    let span = span_in(f, starts, ends, key);
+    let start = span.start;
+    let end = span.end;
+    let Count::Entries(n) = read_text::parse_str_list(
+        &f[start..end],
+        start as u32,
+        max,
+        names,
+        lens,
+    ) else {
         return 0;
     };
     n

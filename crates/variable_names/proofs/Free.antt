@@ -35,6 +35,12 @@ laid-zeros (e ∷ es) (suc m) (suc i) h = laid-zeros es m i (omega arith)
 pub getD-laid-zeros : (es : List ℕ) (m : ℕ) {l : List ℕ} → l ≡ laid es (replicate m 0) → (i : ℕ) → i < m → getD l i 0 ≡ getD es i 0
 getD-laid-zeros es m e i h = ap (λ t. getD t i 0) e ∙ laid-zeros es m i h
 
+-- the positions that are no permids, laid over the front of zeros
+pub free-entry : (permids : List ℕ) {j k m : ℕ} {free zs : List ℕ} → j ≡ k → zs ≡ replicate m 0 → free ≡ laid (freeFrom k 0 permids) zs
+    → (i : ℕ) → i < m → getD free i 0 ≡ getD (freeFrom j 0 permids) i 0
+free-entry permids {j} {k} {m} q z e i h =
+    getD-laid-zeros (freeFrom k 0 permids) m (e ∙ ap (laid (freeFrom k 0 permids)) z) i h ∙ ap (λ n. getD (freeFrom n 0 permids) i 0) (sym q)
+
 -- one turn over the positions
 module _ (nvars p : ℕ) (permids : List ℕ) (h : p < nvars) where
   -- a position that is no permid is free

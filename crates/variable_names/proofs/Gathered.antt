@@ -4,8 +4,8 @@ use mathlib.Core.List.{List, [], _∷_, _++_, map, append-nil}
 use Prim.Native.Nat.{ℕ, suc, _+_, _-_, _≤_, _<_}
 use native.Mathlib.Numerals.{add-one}
 use native.Mathlib.Omega.{arith}
-use lib.ListN.{length, getD, drop, set, length-append, drop-of-length-le}
-use lib.Seq.{drop-cons, append-snoc}
+use lib.ListN.{length, getD, drop, set, take, length-append, length-take, drop-of-length-le}
+use lib.Seq.{drop-cons, append-snoc, getD-take}
 use Rattle.codes.specs.Lent.{laid}
 use Rattle.codes.proofs.Lent.{laid-none, laid-more, length-laid}
 use Rattle.variable_names.specs.Names.{entryAt}
@@ -72,3 +72,27 @@ module _ {seats from old dst : List ℕ} {i : ℕ} (g : Gathering seats from old
   -- all seats are passed
   pub gathering-end : length seats ≤ i → dst ≡ laid (map (entryAt from) seats) old
   gathering-end h = laying-end (g .laying) (ap (map (entryAt from)) (drop-of-length-le seats h))
+
+-- entries that were laid over the front of a list leave the next one as it was
+laid-ahead : (es old : List ℕ) → getD (laid es old) (length es) 0 ≡ getD old (length es) 0
+unfolding laid
+laid-ahead [] old = refl
+laid-ahead (e ∷ es) [] = refl
+laid-ahead (e ∷ es) (o ∷ old) = laid-ahead es old
+
+-- the seats are the first n entries of the lent list itself
+module _ {from old dst : List ℕ} {n i : ℕ} (g : Gathering (take n old) from old dst i) where
+  -- the next seat is still there
+  seat-ahead : i < n → getD dst i 0 ≡ getD (take n old) i 0
+  seat-ahead h =
+      ap (λ l. getD l i 0) (g .laying .lies)
+      ∙ rw (g .laying .count) at (laid-ahead (g .laying .front) old)
+      ∙ sym (getD-take n old i 0 h)
+
+  -- what stands there takes its place
+  pub gathering-own : i < n → n ≤ length old → {x : ℕ} → x ≡ entryAt from (getD dst i 0) → Gathering (take n old) from old (set dst i x) (i + 1)
+  gathering-own h m {x} e = gathering-by g x (omega (arith, length-take n old)) (e ∙ ap (entryAt from) (seat-ahead h))
+
+  -- all are replaced
+  pub gathering-owned : n ≤ i → dst ≡ laid (map (entryAt from) (take n old)) old
+  gathering-owned h = gathering-end g (omega (arith, length-take n old))

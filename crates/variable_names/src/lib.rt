@@ -2,14 +2,13 @@
 ghost use mathlib.Core.Path.{_≡_};
 ghost use mathlib.Core.List.{map};
 ghost use Prim.Native.Nat.{_≤_};
-ghost use lib.ListN.{length, getD};
+ghost use lib.ListN.{length, getD, take};
 ghost use Rattle.codes.specs.Limits.{varLimit};
 ghost use Rattle.codes.specs.Lent.{laid};
 ghost use Rattle.read_text.specs.Text.{place};
 ghost use Rattle.seats.specs.Seats.{Below};
-ghost use Rattle.variable_names.specs.Names.{sameBytes, sameName, orderedSeats, suppSeats, freeFrom, entryAt};
-ghost use Rattle.variable_names.specs.Promises.{SameNamesPromise};
-use codes::limits;
+ghost use Rattle.variable_names.specs.Names.{sameBytes, sameName, entryAt};
+ghost use Rattle.variable_names.specs.Promises.{SameNamesPromise, FreePromise, OrderedSeatsPromise, SuppSeatsPromise};
 use seats::entry;
 
 // The byte at a position, 0 beyond the end.
@@ -37,7 +36,7 @@ fn same_bytes(f: &[u8], a: u32, b: u32, n: u32) -> bool
 }
 
 // Whether two places hold like names.
-fn same_name(f: &[u8], start: u32, len: u32, start2: u32, len2: u32) -> bool
+pub fn same_name(f: &[u8], start: u32, len: u32, start2: u32, len2: u32) -> bool
     ensures { λ r. ⌜ r ≡ sameName (now (f .entry)) (place start len) (place start2 len2) ⌝ }
 {
     if len != len2 {
@@ -79,39 +78,46 @@ pub fn same_names(
     true
 }
 
-// The positions below `nvars` that are no permids, counted from 1, over the front of a list.
-fn free_seats(permids: &[u32], nvars: u32, dst: &mut [u32])
-    requires { ⌜ (nvars ≤ varLimit) × (length (now permids) ≤ varLimit) ⌝ }
-    ensures { λ _. ⌜ now (dst .exit) ≡ laid (freeFrom nvars 0 (now (permids .entry))) (now (dst .entry)) ⌝ }
+// The positions that are no permids, counted from 1, over the front of a list. `seats` is scratch, an entry for each variable.
+fn free_seats(permids: &[u32], seats: &mut [u32], dst: &mut [u32])
+    requires { ⌜ (length (now seats) ≤ varLimit) × (length (now permids) ≤ varLimit) ⌝ }
+    ensures { λ _. ⌜ FreePromise permids seats dst ⌝ }
 {
-    let mut seats = [0u32; limits::VAR_LIMIT];
-    seats::seats(permids, &mut seats);
+    zeros::clear_numbers(seats);
+    seats::seats(permids, seats);
     let mut n: usize = 0;
-    let mut p: u32 = 0;
-    while p < nvars {
-        if seats[p as usize] == 0 {
-            read_lists::put_u32(dst, n, p + 1);
+    let mut p: usize = 0;
+    while p < seats.len() {
+        if seats[p] == 0 {
+            read_lists::put_u32(dst, n, (p + 1) as u32);
             n += 1;
         }
         p += 1;
     }
 }
 
-// Where each variable's name stands in `.orderedvarnames`, counted from 1, over the front of a list.
-pub fn ordered_seats(ids: &[u32], permids: &[u32], nvars: u32, dst: &mut [u32])
-    requires { ⌜ (nvars ≤ varLimit) × (length (now ids) ≤ varLimit) × (length (now permids) ≤ varLimit) ⌝ }
-    requires { ⌜ Below varLimit (now permids) ⌝ }
-    ensures { λ _. ⌜ now (dst .exit) ≡ laid (orderedSeats nvars (now (ids .entry)) (now (permids .entry))) (now (dst .entry)) ⌝ }
+// Where each variable's name stands in `.orderedvarnames`, counted from 1, over the front of a list. `seats` and `free` are scratch, an
+// entry for each variable.
+pub fn ordered_seats(
+    ids: &[u32],
+    permids: &[u32],
+    seats: &mut [u32],
+    free: &mut [u32],
+    dst: &mut [u32],
+)
+    requires { ⌜ (length (now seats) ≤ varLimit) × (length (now ids) ≤ varLimit) × (length (now permids) ≤ varLimit) ⌝ }
+    requires { ⌜ Below varLimit (now permids) × (length (now free) ≡ length (now seats)) ⌝ }
+    ensures { λ _. ⌜ OrderedSeatsPromise ids permids seats dst ⌝ }
 {
-    let mut seats = [0u32; limits::VAR_LIMIT];
-    seats::seats(ids, &mut seats);
-    let mut free = [0u32; limits::VAR_LIMIT];
-    free_seats(permids, nvars, &mut free);
+    zeros::clear_numbers(free);
+    free_seats(permids, seats, free);
+    zeros::clear_numbers(seats);
+    seats::seats(ids, seats);
     let mut n: usize = 0;
     let mut v: usize = 0;
-    while v < nvars as usize {
+    while v < seats.len() {
         if seats[v] == 0 {
-            read_lists::put_u32(dst, v, free[n]);
+            read_lists::put_u32(dst, v, entry(free, n));
             n += 1;
         } else {
             read_lists::put_u32(dst, v, entry(permids, seats[v] as usize - 1) + 1);
@@ -120,15 +126,16 @@ pub fn ordered_seats(ids: &[u32], permids: &[u32], nvars: u32, dst: &mut [u32])
     }
 }
 
-// Where each variable's name stands in `.suppvarnames`, counted from 1, 0 where it has none, over the front of a list.
-pub fn supp_seats(ids: &[u32], nvars: u32, dst: &mut [u32])
-    requires { ⌜ (nvars ≤ varLimit) × (length (now ids) ≤ varLimit) ⌝ }
-    ensures { λ _. ⌜ now (dst .exit) ≡ laid (suppSeats nvars (now (ids .entry))) (now (dst .entry)) ⌝ }
+// Where each variable's name stands in `.suppvarnames`, counted from 1, 0 where it has none, over the front of a list. `seats` is
+// scratch, an entry for each variable.
+pub fn supp_seats(ids: &[u32], seats: &mut [u32], dst: &mut [u32])
+    requires { ⌜ (length (now seats) ≤ varLimit) × (length (now ids) ≤ varLimit) ⌝ }
+    ensures { λ _. ⌜ SuppSeatsPromise ids seats dst ⌝ }
 {
-    let mut seats = [0u32; limits::VAR_LIMIT];
-    seats::seats(ids, &mut seats);
+    zeros::clear_numbers(seats);
+    seats::seats(ids, seats);
     let mut v: usize = 0;
-    while v < nvars as usize {
+    while v < seats.len() {
         read_lists::put_u32(dst, v, seats[v]);
         v += 1;
     }
@@ -145,6 +152,29 @@ pub fn gather(seats: &[u32], from: &[u32], dst: &mut [u32])
         } else {
             read_lists::put_u32(dst, i, entry(from, seats[i] as usize - 1));
         }
+        i += 1;
+    }
+}
+
+// The entry at a seat of a list, 0 where there is no seat.
+fn entry_at(from: &[u32], seat: u32) -> u32
+    ensures { λ r. ⌜ r ≡ entryAt (now (from .entry)) seat ⌝ }
+{
+    if seat == 0 {
+        return 0;
+    }
+    entry(from, seat as usize - 1)
+}
+
+// The first `n` entries of a list are seats of another: each is replaced by what stands there, 0 where there is no seat.
+pub fn gather_own(from: &[u32], n: usize, dst: &mut [u32])
+    requires { ⌜ n ≤ length (now dst) ⌝ }
+    ensures { λ _. ⌜ now (dst .exit) ≡ laid (map (entryAt (now (from .entry))) (take n (now (dst .entry)))) (now (dst .entry)) ⌝ }
+{
+    let mut i = 0;
+    while i < n {
+        let seat = dst[i];
+        read_lists::put_u32(dst, i, entry_at(from, seat));
         i += 1;
     }
 }

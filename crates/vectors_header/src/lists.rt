@@ -1,7 +1,8 @@
 // The call on lent lists. They are filled beforehand, so that what the call left as it was is seen.
+ghost use mathlib.Core.Path.{_≡_};
 ghost use Prim.Native.Nat.{_+_, _≤_};
 ghost use Rattle.codes.specs.Limits.{limits};
-ghost use Rattle.header.specs.Header.{MayRead};
+ghost use Rattle.header.specs.Header.{MayRead, listsFault};
 use crate::answer;
 use edges::Edge;
 use header::DumpHeader;
@@ -52,6 +53,7 @@ fn after_edges(stored: &[u8], from: usize, list: &[Edge]) -> usize {
 // What is found before the header is read: lists that are too short, then what the case says, then the length of the input.
 fn found_before(vars: &[usize], roots: &[usize], found: u8, f: &[u8]) -> u8
     ensures { λ r. ⌜ MayRead limits r (now (f .entry)) ⌝ }
+    ensures { λ r. ⌜ (r ≡ 0 → listsFault (now (vars .entry)) (now (roots .entry)) ≡ 0) ⌝ }
 {
     let lists = stages::lengths_fault(vars, roots);
     if lists != 0 {

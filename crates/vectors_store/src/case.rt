@@ -1,6 +1,8 @@
 // One case: a store, which differs from that of the case before in some stretches, and what is asked of it.
 ghost use Prim.Native.Nat.{_+_, _≤_};
 use crate::change;
+use edges::Edge;
+use edges::Index;
 use evaluation::Evaluation;
 use replay::Outcome;
 
@@ -48,12 +50,12 @@ fn is_evaluation(head: &[u8; 23], e: Evaluation) -> bool {
 fn agrees_with(
     head: &[u8; 23],
     level: &[u16],
-    then: &[i16],
-    els: &[i16],
-    next: &[u16],
-    heads: &[u16],
+    then: &[Edge],
+    els: &[Edge],
+    next: &[Index],
+    heads: &[Index],
     setting: &[u8],
-    work: &mut [u16],
+    work: &mut [Index],
 ) -> bool {
     let levels = field(head, 1);
     let count = field(head, 3);
@@ -88,10 +90,10 @@ fn agrees_with(
 fn agrees(
     head: &[u8; 23],
     level: &[u16],
-    then: &[i16],
-    els: &[i16],
-    next: &[u16],
-    heads: &[u16],
+    then: &[Edge],
+    els: &[Edge],
+    next: &[Index],
+    heads: &[Index],
     setting: &[u8],
 ) -> bool {
     let mut work = change::no_work();
@@ -114,7 +116,7 @@ fn agrees(
 }
 
 // Each list as long as the case has it lent.
-fn with_edges(head: &[u8; 23], lists: &[u16], then: &[i16], els: &[i16], setting: &[u8]) -> bool {
+fn with_edges(head: &[u8; 23], lists: &[u16], then: &[Edge], els: &[Edge], setting: &[u8]) -> bool {
     let level = change::LEVEL + length(head, 5);
     let next = change::NEXT + length(head, 11);
     let heads = change::HEADS + length(head, 13);
@@ -132,7 +134,7 @@ fn with_edges(head: &[u8; 23], lists: &[u16], then: &[i16], els: &[i16], setting
     false
 }
 
-fn with_els(head: &[u8; 23], lists: &[u16], then: &[i16], setting: &[u8]) -> bool {
+fn with_els(head: &[u8; 23], lists: &[u16], then: &[Edge], setting: &[u8]) -> bool {
     let n = length(head, 9);
     let end = change::ELS + n;
     let mut els = change::no_edges();

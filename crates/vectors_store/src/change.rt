@@ -3,6 +3,8 @@
 ghost use Prim.Native.Nat.{_≤_};
 ghost use mathlib.Core.Path.{_≡_};
 ghost use lib.ListN.{length};
+use edges::Edge;
+use edges::Index;
 
 pub const SLOTS: usize = 32800;
 
@@ -30,13 +32,13 @@ pub fn no_lists() -> [u16; ROOM]
     [0; ROOM]
 }
 
-pub fn no_edges() -> [i16; SLOTS]
+pub fn no_edges() -> [Edge; SLOTS]
     ensures { λ r. ⌜ 32800 ≡ length r ⌝ }
 {
     [0; SLOTS]
 }
 
-pub fn no_work() -> [u16; WORK]
+pub fn no_work() -> [Index; WORK]
     ensures { λ r. ⌜ 98304 ≡ length r ⌝ }
 {
     [0; WORK]
@@ -106,17 +108,17 @@ pub fn change(fd: i32, stretches: u16, list: &mut [u16]) -> bool {
 }
 
 // A number of 16 bits, read as two's complement.
-pub fn signed(x: u16) -> i16 {
+pub fn signed(x: u16) -> Edge {
     if x < 32768 {
-        return x as i16;
+        return x as Edge;
     }
     if x == 32768 {
         return -32768;
     }
-    edges::negate((65535 - x + 1) as i16)
+    edges::negate((65535 - x + 1) as Edge)
 }
 
-pub fn to_edges(numbers: &[u16], edges: &mut [i16]) {
+pub fn to_edges(numbers: &[u16], edges: &mut [Edge]) {
     let mut i = 0;
     while i < edges.len() && i < numbers.len() {
         edges[i] = signed(numbers[i]);

@@ -8,10 +8,9 @@ use Rattle.codes.specs.Lent.{laid}
 use Rattle.read_text.specs.Text.{startOf, lenOf}
 use Rattle.store.specs.Store.{Store, store}
 use Rattle.header.specs.Kinds.{ofLoaded}
-use Rattle.header.specs.Header.{HeaderAnswer}
-use Rattle.header.proofs.Lengths.{length-may}
+use Rattle.header.proofs.Lengths.{length-may, lists-long}
 use Rattle.calls.specs.Load.{beforeHeader, Parts, parts, loadInto, loadOf}
-use Rattle.dddmp.proofs.Loading.{parts-alike, before-is, ready-readable, answer-left, store-left, roots-left, list-left}
+use Rattle.dddmp.proofs.Loading.{parts-alike, lists-none, before-is, ready-readable, answer-left, store-left, roots-left, list-left}
 use Rattle.dddmp.proofs.Searched.{ready-searchable}
 use Rattle.dddmp.proofs.load.Statement.{statement}
 use Rattle.dddmp.proofs.load.Tie as tie
@@ -95,7 +94,9 @@ given s =
     (s .args .roots .now) (s .args .rootnames .now) (s .args .rootlens .now) (s .args .edges .now) (s .args .seats .now)
 
 abbrev kept : tie.Start → Store
-kept s = store (s .args .levels) (s .args .count .now) (s .args .level .now) (s .args .then .now) (s .args .els .now) (s .args .next .now) (s .args .heads .now)
+kept s =
+    store (s .args .levels) (s .args .count .now) (s .args .level .now) (s .args .then .now) (s .args .els .now) (s .args .next .now) (s .args
+    .heads .now)
 
 -- what is found before the header
 found : (c : tie.After-slice-known35)
@@ -123,7 +124,15 @@ length-fault-requires : tie.Need-length-fault-requires
 length-fault-requires c κs = tt
 
 load-requires : tie.Need-load-requires
-load-requires c κs = length-may _ (at-start (at-lists-fault (at-store-fault (at-length-fault c))) .args .f .now) (at-length-fault c .length-fault .ensures)
+load-requires c κs =
+    let m = at-length-fault c in
+    let j = at-store-fault m in
+    let l = at-lists-fault j in
+    let s = at-start l .args in (
+      length-may _ (s .f .now) (m .length-fault .ensures),
+      λ z. lists-long (s .ids .now) (s .permids .now) (s .order .now) (s .auxids .now) (s .names .now) (s .lens .now) _
+          (lists-none _ _ (l .lists-fault .ensures) (j .store-fault .ensures .fault) (m .length-fault .ensures) z),
+    )
 
 check-scratch-requires : tie.Need-check-scratch-requires
 check-scratch-requires c κs = tt

@@ -1,106 +1,103 @@
--- `listed_fault` meets its contract.
-use native.Mathlib.Omega.{arith}
-use Rattle.header_checks.proofs.Numbered.{few-vars}
-use Rattle.header_checks.proofs.Checked.{support-refused, count-refused, name-refused, names-passed}
+use mathlib.Core.Path.{ap}
+use Prim.Native.Nat.{_-_}
+use lib.ListN.{length}
+use borrow.Author.Needs.{needs}
+use Rattle.header_values.specs.Values.{spans}
+use Rattle.header_checks.specs.Whole.{IdsRead}
+use Rattle.header_checks.proofs.Supporting.{CountsPass, ids-wrong, permids-wrong, counted, auxids-wrong, counts-pass}
+use Rattle.header_checks.proofs.Supporting.{ids-unfit, permids-unfit, support-passes}
 use Rattle.header_checks.proofs.listed_fault.Statement.{statement}
 use Rattle.header_checks.proofs.listed_fault.Tie as tie
 
--- places of the course, each a few steps back from a later one
-abbrev at-name-count-fault : tie.After-root-fault → tie.After-name-count-fault
-at-name-count-fault p = p .before .before .before .before
+-- where both are as many as there must be: they were read and counted
+read : (c : tie.Else2) → IdsRead (c .before .before .before .before .before .before .before .before .args .f .now) (spans (c .before .before
+    .before .before .before .before .before .before .args .starts .now) (c .before .before .before .before .before .before .before .before .args
+    .ends .now)) (c .before .before .before .before .before .before .before .before .args .ids .now) (c .before .before .before .before .before
+    .before .before .before .args .permids .now)
+read c =
+    let l = c .before .before .before .before .before .before .before .before .pre .1 .1 in
+    counted _ _ (c .before .before .u32-in .ensures) (ap length (l .ids-are)) (c .before .if1 .left) (ap length (l .permids-are)) (c .if2 .left) l
 
-abbrev at-count-names : tie.After-name-count-fault → tie.After-count-names
-at-count-names p = p .before .before .before
+-- and where the auxids are too, the ids and the permids decide
+counts : (c : tie.Else3) → CountsPass (c .before .before .before .before .before .before .before .before .before .before .before .before .before
+    .args .f .now) (spans (c .before .before .before .before .before .before .before .before .before .before .before .before .before .args .starts
+    .now) (c .before .before .before .before .before .before .before .before .before .before .before .before .before .args .ends .now))
+counts c =
+    counts-pass _ _ (read (c .before .before .before .before .before)) (c .before .before .before .before .before .before .before .u32-in .ensures)
+    (c .before .before .before .read-u32s .ensures .answer) (c .before .given-fault .ensures) (c .if3 .left)
 
-abbrev at-shared-slice-known5 : tie.After-count-names → tie.After-shared-slice-known5
-at-shared-slice-known5 p = p .before .before .before
+u32-in-requires : tie.Need-u32-in-requires
+u32-in-requires c κs = search needs
 
-abbrev at-start : tie.After-shared-slice-known5 → tie.Start
-at-start p = p .before .before .before .before .before
-
-abbrev start-before-name-count-fault : tie.After-name-count-fault → tie.Start
-start-before-name-count-fault p = at-start (at-shared-slice-known5 (at-count-names p))
-
-abbrev start-before-root-fault : tie.After-root-fault → tie.Start
-start-before-root-fault p = start-before-name-count-fault (at-name-count-fault p)
-
-support-fault-requires : tie.Need-support-fault-requires
-support-fault-requires c κs =
-    let p = at-start c .pre in
-    (p .0, (few-vars _ _ _ _ (p .1 .0), p .1 .1))
+cast-want : tie.Need-cast-want
+cast-want c = search needs
 
 returns : tie.Need-returns
-returns c = support-refused _ _ _ (at-start (c .before .before) .pre .1 .0) (c .before .support-fault .ensures) (c .if1 .taken)
-
-count-names-requires : tie.Need-count-names-requires
-count-names-requires c κs = (at-start (c .before .before) .pre .0, omega arith)
-
-count-names-requires-2 : tie.Need-count-names-requires-2
-count-names-requires-2 c κs = (at-start (at-shared-slice-known5 c) .pre .0, omega arith)
-
-count-names-requires-3 : tie.Need-count-names-requires-3
-count-names-requires-3 c κs = (at-start (at-shared-slice-known5 (c .before)) .pre .0, omega arith)
-
-name-count-fault-requires : tie.Need-name-count-fault-requires
-name-count-fault-requires c κs = (
-  at-start (at-shared-slice-known5 (c .before .before)) .pre .0,
-  record {
-    ordered-count = c .before .before .count-names .ensures;
-    supp-count = c .before .count-names2 .ensures;
-    varnames-count = c .count-names3 .ensures;
-  },
-)
+returns c =
+    ids-wrong _ _ (c .before .u32-in .ensures) (ap length (c .before .before .before .before .before .before .before .pre .1 .1 .ids-are)) (c .if1
+    .taken)
 
 returns-2 : tie.Need-returns-2
 returns-2 c =
-    count-refused _ _ _ (start-before-name-count-fault (c .before) .pre .1 .0) (at-count-names (c .before) .before .before .support-fault .ensures)
-    (at-count-names (c .before) .before .if1 .left) (c .before .name-count-fault .ensures) (c .if2 .taken)
+    permids-wrong _ _ (c .before .before .u32-in .ensures) (ap length (c .before .before .before .before .before .before .before .before .pre .1 .1
+    .ids-are)) (c .before .if1 .left) (ap length (c .before .before .before .before .before .before .before .before .pre .1 .1 .permids-are)) (c
+    .if2 .taken)
 
-name-fault-requires : tie.Need-name-fault-requires
-name-fault-requires c κs = (
-  start-before-name-count-fault (c .before) .pre .0,
-  (
-    start-before-name-count-fault (c .before) .pre .1 .1,
-    record {
-      ordered-count = at-count-names (c .before) .count-names .ensures;
-      supp-count = c .before .before .before .count-names2 .ensures;
-      varnames-count = c .before .before .count-names3 .ensures;
-    },
-  ),
-)
+slice-aggregate-read-u32s : tie.Need-slice-aggregate-read-u32s
+slice-aggregate-read-u32s c = search needs
+
+read-u32s-requires : tie.Need-read-u32s-requires
+read-u32s-requires c κs = search needs
+
+given-fault-requires : tie.Need-given-fault-requires
+given-fault-requires c κs = search needs
 
 returns-3 : tie.Need-returns-3
 returns-3 c =
-    name-refused _ _ _ (start-before-name-count-fault (c .before .before .before) .pre .1 .0)
-    (at-count-names (c .before .before .before) .before .before .support-fault .ensures)
-    (at-count-names (c .before .before .before) .before .if1 .left) (c .before .before .before .name-count-fault .ensures)
-    (c .before .before .if2 .left)
-    (c .before .name-fault .ensures)
-    (c .if3 .taken)
+    auxids-wrong _ _ (read (c .before .before .before .before .before)) (c .before .before .before .before .before .before .before .u32-in .ensures)
+    (c .before .before .before .read-u32s .ensures .answer) (c .before .given-fault .ensures) (c .if3 .taken)
 
-root-fault-requires : tie.Need-root-fault-requires
-root-fault-requires c κs = start-before-name-count-fault (c .before .before .before) .pre .0
+u32-in-requires-2 : tie.Need-u32-in-requires-2
+u32-in-requires-2 c κs = search needs
+
+ids-fit-requires : tie.Need-ids-fit-requires
+ids-fit-requires c κs = search needs
 
 returns-4 : tie.Need-returns-4
 returns-4 c =
-    names-passed _ _ _ (start-before-root-fault c .pre .1 .0) (at-count-names (at-name-count-fault c) .before .before .support-fault .ensures)
-    (at-count-names (at-name-count-fault c) .before .if1 .left) (at-name-count-fault c .name-count-fault .ensures)
-    (c .before .before .before .if2 .left)
-    (c .before .before .name-fault .ensures)
-    (c .before .if3 .left) (c .root-fault .ensures)
+    ids-unfit _ _ (counts (c .before .before .before)) (read (c .before .before .before .before .before .before .before .before)) (c .before .before
+    .u32-in2 .ensures) (c .before .ids-fit .ensures) (c .if4 .taken)
+
+permids-fit-requires : tie.Need-permids-fit-requires
+permids-fit-requires c κs = search needs
+
+returns-5 : tie.Need-returns-5
+returns-5 c =
+    permids-unfit _ _ (counts (c .before .before .before .before .before)) (read (c .before .before .before .before .before .before .before .before
+    .before .before)) (c .before .before .before .before .u32-in2 .ensures) (c .before .before .before .ids-fit .ensures) (c .before .before .if4
+    .left) (c .before .permids-fit .ensures) (c .if5 .taken)
+
+returns-6 : tie.Need-returns-6
+returns-6 c =
+    support-passes _ _ (counts (c .before .before .before .before .before)) (read (c .before .before .before .before .before .before .before .before
+    .before .before)) (c .before .before .before .before .u32-in2 .ensures) (c .before .before .before .ids-fit .ensures) (c .before .before .if4
+    .left) (c .before .permids-fit .ensures) (c .if5 .left)
 
 pub listed-fault-spec : {M : Type 1} → statement M
 listed-fault-spec =
     tie.close
     (tie.spec
-    support-fault-requires
+    u32-in-requires
+    cast-want
     returns
-    count-names-requires
-    count-names-requires-2
-    count-names-requires-3
-    name-count-fault-requires
     returns-2
-    name-fault-requires
+    slice-aggregate-read-u32s
+    read-u32s-requires
+    given-fault-requires
     returns-3
-    root-fault-requires
-    returns-4)
+    u32-in-requires-2
+    ids-fit-requires
+    returns-4
+    permids-fit-requires
+    returns-5
+    returns-6)

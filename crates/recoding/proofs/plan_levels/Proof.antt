@@ -1,7 +1,7 @@
 -- `plan_levels` meets its contract: the header is loaded, and its permids give the level list.
 use mathlib.Core.Path.{refl}
 use borrow.Author.Needs.{needs}
-use Rattle.header.proofs.Lengths.{length-may}
+use Rattle.header.proofs.Lengths.{length-may, zeros-long}
 use Rattle.recoding.proofs.Planned.{permids-fit, permids-long, list-may, count-fits, plans, plans-none}
 use Rattle.recoding.proofs.plan_levels.Statement.{statement}
 use Rattle.recoding.proofs.plan_levels.Tie as tie
@@ -55,7 +55,15 @@ slice-aggregate-load-9 : tie.Need-slice-aggregate-load-9
 slice-aggregate-load-9 c = search needs
 
 load-requires : tie.Need-load-requires
-load-requires c κs = length-may 0 (c .before .before .before .before .before .before .before .before .before .before .before .before .args .f .now) (c .before .before .before .before .before .before .before .before .before .length-fault .ensures)
+load-requires c κs = (
+  length-may 0 (c .before .before .before .before .before .before .before .before .before .before .before .before .args .f .now) (c .before .before
+      .before .before .before .before .before .before .before .length-fault .ensures),
+  λ z. record {
+    ids-long = zeros-long;
+    permids-long = zeros-long;
+    others-long = record { names-long = zeros-long; lens-long = zeros-long; names2-long = zeros-long; lens2-long = zeros-long };
+  },
+)
 
 enum-known-read : tie.Need-enum-known-read
 enum-known-read c = search needs
@@ -65,23 +73,27 @@ cast-permids c = search needs
 
 array-share-prefix-permids : tie.Need-array-share-prefix-permids
 array-share-prefix-permids c =
-    permids-fit _ _ (measured (loaded (c .before .before)) .length-fault .ensures) _ (loaded (c .before .before) .load .ensures .answer) _ ((c .before .before) .read .given .1) _ refl _ (loaded
+    permids-fit _ _ (measured (loaded (c .before .before)) .length-fault .ensures) _ (loaded (c .before .before) .load .ensures .answer) _ ((c
+    .before .before) .read .given .1) _ refl _ (loaded
     (c .before .before) .load .ensures .permids-left)
 
 slice-aggregate-level-list : tie.Need-slice-aggregate-level-list
 slice-aggregate-level-list c =
-    permids-long _ _ (measured (loaded (c .before .before .before)) .length-fault .ensures) _ (loaded (c .before .before .before) .load .ensures .answer) _
+    permids-long _ _ (measured (loaded (c .before .before .before)) .length-fault .ensures) _ (loaded (c .before .before .before) .load .ensures
+    .answer) _
     ((c .before .before .before) .read .given .1) _ refl _ (loaded (c .before .before .before) .load .ensures .permids-left)
 
 level-list-requires : tie.Need-level-list-requires
 level-list-requires c κs =
-    list-may _ _ (measured (loaded (c .before .before .before .before)) .length-fault .ensures) _ (loaded (c .before .before .before .before) .load .ensures .answer) _
+    list-may _ _ (measured (loaded (c .before .before .before .before)) .length-fault .ensures) _ (loaded (c .before .before .before .before) .load
+    .ensures .answer) _
     ((c .before .before .before .before) .read .given .1) _ refl _ (loaded (c .before .before .before .before) .load .ensures .permids-left)
 
 cast-t44 : tie.Need-cast-t44
 cast-t44 c =
     record {
-      fits = count-fits _ _ (measured (loaded (known c)) .length-fault .ensures) _ (loaded (known c) .load .ensures .answer) _ ((known c) .read .given .1) _ refl _ (loaded
+      fits = count-fits _ _ (measured (loaded (known c)) .length-fault .ensures) _ (loaded (known c) .load .ensures .answer) _ ((known c) .read
+          .given .1) _ refl _ (loaded
           (known c) .load .ensures .permids-left);
     }
 
@@ -93,12 +105,15 @@ same-length c = search needs
 
 returns : tie.Need-returns
 returns c =
-    plans _ _ (measured (loaded (known c)) .length-fault .ensures) _ (loaded (known c) .load .ensures .answer) _ ((known c) .read .given .1) _ refl _ (loaded
+    plans _ _ (measured (loaded (known c)) .length-fault .ensures) _ (loaded (known c) .load .ensures .answer) _ ((known c) .read .given .1) _ refl
+    _ (loaded
     (known c) .load .ensures .permids-left)
     _ _ _ (listed c .level-list .ensures .0) (listed c .level-list .ensures .1)
 
 returns-2 : tie.Need-returns-2
-returns-2 c = plans-none _ _ (measured (loaded-2 (c .before)) .length-fault .ensures) _ (loaded-2 (c .before) .load .ensures .answer) _ _ (c .before .read2 .given .1) _
+returns-2 c =
+    plans-none _ _ (measured (loaded-2 (c .before)) .length-fault .ensures) _ (loaded-2 (c .before) .load .ensures .answer) _ _ (c .before .read2
+    .given .1) _
 
 pub plan-levels-spec : {M : Type 1} → statement M
 plan-levels-spec =

@@ -1,217 +1,291 @@
--- `load` meets its contract: the judge answers, and each list is read by its table.
-use mathlib.Core.Path.{refl, sym}
+use mathlib.Core.Path.{sym, ap, _∙_}
+use Prim.Native.Nat.{_-_}
+use native.Mathlib.Omega.{arith}
+use lib.ListN.{length}
 use borrow.Author.Needs.{needs}
-use Rattle.header.proofs.Answers.{promised}
-use Rattle.header.proofs.Loading.{held-settled, load-leaves}
+use mathlib.Core.List.{map}
+use Rattle.header_keys.specs.declared.Key.the-variants.{Ids, Permids, Auxids}
+use Rattle.header_lines.specs.Kinds.{ofSwept}
+use Rattle.read_text.specs.Text.{startOf, lenOf}
+use Rattle.support.specs.Support.{supportOrder}
+use Rattle.header_values.specs.Values.{spans, nvarsIn, u32sIn}
+use Rattle.header_checks.specs.Names.{variableNamesIn}
+use Rattle.header_lists.proofs.Filling.{padded-as}
+use Rattle.header.specs.Header.{refusal}
+use Rattle.header.specs.Kinds.{ofLoaded}
+use Rattle.header.proofs.NoValues.{no-lists}
+use Rattle.header.proofs.Answers.{Promised, promised, found-first}
+use Rattle.header.proofs.Loading.{held-settled, kept-list, kept-held, lists-room, load-leaves}
 use Rattle.header.proofs.DumpHeader.load.Statement.{statement}
 use Rattle.header.proofs.DumpHeader.load.Tie as tie
 
--- places of the course, each a few steps back from a later one
-abbrev at-names-in : tie.After-slice-known16 → tie.After-names-in
-at-names-in p = p .before .before .before .before
+-- places of the course, each some steps back from a later one
+abbrev at-whole : tie.After-settle → tie.After-whole-fault
+at-whole p = p .before .before .before .before .before .before .before .before .before .before .before .before .before .before .before
 
-abbrev at-ends9 : tie.After-names-in → tie.After-ends9
-at-ends9 p = p .before .before .before
+abbrev at-swept : tie.After-settle → tie.After-swept-after
+at-swept p =
+    p .before .before .before .before .before .before .before .before .before .before .before .before .before .before .before .before .before
+    .before .before .before .before .before .before .before .before .before .before
 
-abbrev at-fill-roots : tie.After-ends9 → tie.After-fill-roots
-at-fill-roots p = p .before .before .before
+abbrev at-start : tie.After-settle → tie.Start
+at-start p =
+    p .before .before .before .before .before .before .before .before .before .before .before .before .before .before .before .before .before
+    .before .before .before .before .before .before .before .before .before .before .before .before .before .before .before .before .before .before
+    .before .before .before .before
 
-abbrev at-starts8 : tie.After-fill-roots → tie.After-starts8
-at-starts8 p = p .before .before .before
+-- what is known of the answer, once the header is settled
+judged : (p : tie.After-settle) → Promised (at-start p .args .found) (at-start p .args .f .now) (ofLoaded (p .settle .result)) (p .settle .last
+    .1 .1 .1 .0) (p .settle .last .1 .1 .1 .1 .0)
+judged p =
+    let u = at-swept p .swept-after in
+    let e = u .ensures in
+    promised (at-start p .args .found) (at-start p .args .f .now) (ofSwept (u .result)) (e .answer) (e .within) (e .table) (e .starts-left) (e
+    .ends-left)
+    (at-whole p .whole-fault .ensures .answer) (p .before .before .before .before .before .before .before .before .before .before .before .before
+    .before .before .before .before .before .before .before .before .before .before .before .before .found-in .ensures) (p .settle .ensures .answer)
+    (p .settle .ensures .starts-left) (p .settle .ensures .ends-left)
 
-abbrev at-fill-names : tie.After-starts8 → tie.After-fill-names
-at-fill-names p = p .before .before .before .before .before
+slice-aggregate-swept-after : tie.Need-slice-aggregate-swept-after
+slice-aggregate-swept-after c = search needs
 
-abbrev fill-names-before-slice-known16 : tie.After-slice-known16 → tie.After-fill-names
-fill-names-before-slice-known16 p = at-fill-names (at-starts8 (at-fill-roots (at-ends9 (at-names-in p))))
+slice-aggregate-swept-after-2 : tie.Need-slice-aggregate-swept-after-2
+slice-aggregate-swept-after-2 c = search needs
 
-abbrev at-ends7 : tie.After-fill-names → tie.After-ends7
-at-ends7 p = p .before .before .before
+swept-after-requires : tie.Need-swept-after-requires
+swept-after-requires c κs = search needs
 
-abbrev at-u32s-in3 : tie.After-ends7 → tie.After-u32s-in3
-at-u32s-in3 p = p .before .before .before .before
+found-in-requires : tie.Need-found-in-requires
+found-in-requires c κs = search needs
 
-abbrev u32s-in3-before-slice-known16 : tie.After-slice-known16 → tie.After-u32s-in3
-u32s-in3-before-slice-known16 p = at-u32s-in3 (at-ends7 (fill-names-before-slice-known16 p))
+slice-aggregate-whole-fault : tie.Need-slice-aggregate-whole-fault
+slice-aggregate-whole-fault c = search needs
 
-abbrev at-starts6 : tie.After-u32s-in3 → tie.After-starts6
-at-starts6 p = p .before .before .before
+slice-aggregate-whole-fault-2 : tie.Need-slice-aggregate-whole-fault-2
+slice-aggregate-whole-fault-2 c = search needs
 
-abbrev at-starts5 : tie.After-starts6 → tie.After-starts5
-at-starts5 p = p .before .before .before .before .before .before
-
-abbrev at-ends4 : tie.After-starts5 → tie.After-ends4
-at-ends4 p = p .before .before .before .before .before
-
-abbrev at-u32s-in : tie.After-ends4 → tie.After-u32s-in
-at-u32s-in p = p .before .before .before .before
-
-abbrev u32s-in-before-slice-known16 : tie.After-slice-known16 → tie.After-u32s-in
-u32s-in-before-slice-known16 p = at-u32s-in (at-ends4 (at-starts5 (at-starts6 (u32s-in3-before-slice-known16 p))))
-
-abbrev at-ends3 : tie.After-u32s-in → tie.After-ends3
-at-ends3 p = p .before .before
-
-abbrev at-judge : tie.After-ends3 → tie.After-judge
-at-judge p = p .before .before .before .before
-
-abbrev judge-before-starts5 : tie.After-starts5 → tie.After-judge
-judge-before-starts5 p = at-judge (at-ends3 (at-u32s-in (at-ends4 p)))
-
-abbrev judge-before-u32s-in3 : tie.After-u32s-in3 → tie.After-judge
-judge-before-u32s-in3 p = judge-before-starts5 (at-starts5 (at-starts6 p))
-
-abbrev judge-before-starts8 : tie.After-starts8 → tie.After-judge
-judge-before-starts8 p = judge-before-u32s-in3 (at-u32s-in3 (at-ends7 (at-fill-names p)))
-
-abbrev at-start : tie.After-ends → tie.Start
-at-start p = p .before .before .before .before .before .before .before .before .before .before .before
-
-abbrev start-before-ends4 : tie.After-ends4 → tie.Start
-start-before-ends4 p = at-start (at-judge (at-ends3 (at-u32s-in p)) .before)
-
-slice-aggregate-judge : tie.Need-slice-aggregate-judge
-slice-aggregate-judge c = refl
-
-slice-aggregate-judge-2 : tie.Need-slice-aggregate-judge-2
-slice-aggregate-judge-2 c = refl
-
-judge-requires : tie.Need-judge-requires
-judge-requires c κs = (at-start c .pre, (refl, refl))
-
-slice-aggregate-u32s-in : tie.Need-slice-aggregate-u32s-in
-slice-aggregate-u32s-in c = sym (c .before .before .before .judge .ensures .table .starts-long)
-
-slice-aggregate-u32s-in-2 : tie.Need-slice-aggregate-u32s-in-2
-slice-aggregate-u32s-in-2 c = sym (at-judge c .judge .ensures .table .ends-long)
-
-u32s-in-requires : tie.Need-u32s-in-requires
-u32s-in-requires c κs = (at-judge (c .before) .judge .ensures .table, search needs)
-
-slice-aggregate-fill-order : tie.Need-slice-aggregate-fill-order
-slice-aggregate-fill-order c = sym (at-judge (at-ends3 (c .before .before .before)) .judge .ensures .table .starts-long)
-
-slice-aggregate-fill-order-2 : tie.Need-slice-aggregate-fill-order-2
-slice-aggregate-fill-order-2 c = sym (at-judge (at-ends3 (at-u32s-in c)) .judge .ensures .table .ends-long)
-
-fill-order-requires : tie.Need-fill-order-requires
-fill-order-requires c κs = (
-  at-judge (at-ends3 (at-u32s-in (c .before))) .judge .ensures .table,
-  held-settled (start-before-ends4 (c .before) .args .found) _ _ (promised (at-judge (at-ends3 (at-u32s-in (c .before))) .judge .ensures)),
+whole-fault-requires : tie.Need-whole-fault-requires
+whole-fault-requires c κs = (
+  (c .before .before .before .before .before .before .before .before .before .before .before .swept-after) .ensures .table,
+  λ z. (c .before
+      .before .before .before .before .before .before .before .before .before .before .before .before .before .before .before .before .before .before
+      .before .before .before .before) .pre .1 (found-first _ _ ((c .before .before .before .before .before .before .before .before .before .before
+      .before .swept-after) .ensures .answer) (sym (c .before .before .before .before .before .before .before .before .found-in .ensures) ∙ z)),
 )
 
-slice-aggregate-u32s-in-3 : tie.Need-slice-aggregate-u32s-in-3
-slice-aggregate-u32s-in-3 c = sym (judge-before-starts5 c .judge .ensures .table .starts-long)
+slice-aggregate-settle : tie.Need-slice-aggregate-settle
+slice-aggregate-settle c = search needs
 
-slice-aggregate-u32s-in-4 : tie.Need-slice-aggregate-u32s-in-4
-slice-aggregate-u32s-in-4 c = sym (judge-before-starts5 (c .before) .judge .ensures .table .ends-long)
+slice-aggregate-settle-2 : tie.Need-slice-aggregate-settle-2
+slice-aggregate-settle-2 c = search needs
 
-u32s-in-requires-2 : tie.Need-u32s-in-requires-2
-u32s-in-requires-2 c κs = (judge-before-starts5 (c .before .before) .judge .ensures .table, search needs)
+settle-requires : tie.Need-settle-requires
+settle-requires c κs = search needs
 
-slice-aggregate-u32s-in-5 : tie.Need-slice-aggregate-u32s-in-5
-slice-aggregate-u32s-in-5 c = sym (judge-before-starts5 (at-starts5 c) .judge .ensures .table .starts-long)
+keep-requires : tie.Need-keep-requires
+keep-requires c κs = search needs
 
-slice-aggregate-u32s-in-6 : tie.Need-slice-aggregate-u32s-in-6
-slice-aggregate-u32s-in-6 c = sym (judge-before-starts5 (at-starts5 (c .before)) .judge .ensures .table .ends-long)
+slice-aggregate-fill-lists : tie.Need-slice-aggregate-fill-lists
+slice-aggregate-fill-lists c = search needs
 
-u32s-in-requires-3 : tie.Need-u32s-in-requires-3
-u32s-in-requires-3 c κs = (judge-before-starts5 (at-starts5 (c .before .before)) .judge .ensures .table, search needs)
+slice-aggregate-fill-lists-2 : tie.Need-slice-aggregate-fill-lists-2
+slice-aggregate-fill-lists-2 c = search needs
 
-slice-aggregate-fill-names : tie.Need-slice-aggregate-fill-names
-slice-aggregate-fill-names c = sym (judge-before-u32s-in3 (c .before .before .before) .judge .ensures .table .starts-long)
-
-slice-aggregate-fill-names-2 : tie.Need-slice-aggregate-fill-names-2
-slice-aggregate-fill-names-2 c = sym (judge-before-u32s-in3 (at-u32s-in3 c) .judge .ensures .table .ends-long)
-
-fill-names-requires : tie.Need-fill-names-requires
-fill-names-requires c κs = (
-  judge-before-u32s-in3 (at-u32s-in3 (c .before .before)) .judge .ensures .table,
-  held-settled (at-start (judge-before-u32s-in3 (at-u32s-in3 (c .before .before)) .before) .args .found) _ _
-      (promised (judge-before-u32s-in3 (at-u32s-in3 (c .before .before)) .judge .ensures)),
-)
+fill-lists-requires : tie.Need-fill-lists-requires
+fill-lists-requires c κs =
+    let s = (c .before .before .before .before .before .before .before .before .before .before .before .before .before .before .before .before
+    .before .before .before .before .before .before .before .before .before .before .before .before .before .before .before .before .before .before
+    .before .before .before .before .before .before .before .before .before .before .before .before .before .before .before .before .before .before
+    .before .before .before .before) in
+    let w = judged (c .before .before .before .before .before .before .before .before .before .before .before .before .before .before .before
+    .before .before) in
+    let st = (c .before .before .before .before .before .before .before .before .before .before .before .before .before .before .before .before
+    .before .settle) .ensures in
+    let wf = (c .before .before .before .before .before .before .before .before .before .before .before .before .before .before .before .before
+    .before .before .before .before .before .before .before .before .before .before .before .before .before .before .before .before .whole-fault) in
+    let kp = (c .before .before .before .before .before .before .before .before .before .before .before .before .keep) .ensures in (
+      (w .1 .1 .1 .0, held-settled (s .args .found) (s .args .f .now) _ w),
+      (
+        kept-held (s .args .found) (s .args .f .now) Ids (ap (λ l. l .ids) (no-lists (s .args .f .now) (refusal 0 0))) _ _ (wf .result) (ofSwept ((c
+            .before .before .before .before .before .before .before .before .before .before .before .before .before .before .before .before .before
+            .before .before .before .before .before .before .before .before .before .before .before .before .before .before .before .before .before
+            .before .before .before .before .before .before .before .before .before .before .swept-after) .result))
+            (length (s .args .ids .now)) (wf .ensures .ids-left) (wf .kept .1 .1 .1 .1 .0) _ _ (st .answer) w (st .starts-left) (st .ends-left) (kp
+            .ids-left)
+            (λ z. s .pre .1 z .ids-long),
+        (
+          kept-held (s .args .found) (s .args .f .now) Permids (ap (λ l. l .permids) (no-lists (s .args .f .now) (refusal 0 0))) _ _ (wf .result)
+              (ofSwept ((c .before .before .before .before .before .before .before .before .before .before .before .before .before .before .before
+              .before .before .before .before .before .before .before .before .before .before .before .before .before .before .before .before .before
+              .before .before .before .before .before .before .before .before .before .before .before .before .swept-after) .result))
+              (length (s .args .permids .now)) (wf .ensures .permids-left) (wf .kept .1 .1 .1 .1 .1 .0) _ _ (st .answer) w (st .starts-left) (st
+              .ends-left) (kp .permids-left)
+              (λ z. s .pre .1 z .permids-long),
+          lists-room (s .args .found) (s .args .f .now) _ w _ _ _
+              (λ z. (
+                omega (arith, s .pre .1 z .others-long .names-long, wf .kept .1 .1 .1 .1 .1 .1 .0),
+                (
+                  omega (arith, s .pre .1 z .others-long .lens-long, wf .kept .1 .1 .1 .1 .1 .1 .1 .0),
+                  omega (arith, s .pre .1 z .others-long .lens2-long, wf .kept .1 .1 .1 .1 .1 .1 .1 .1 .1 .0),
+                ),
+              )),
+        ),
+      ),
+    )
 
 slice-aggregate-fill-roots : tie.Need-slice-aggregate-fill-roots
-slice-aggregate-fill-roots c = sym (judge-before-starts8 c .judge .ensures .table .starts-long)
+slice-aggregate-fill-roots c = search needs
 
 slice-aggregate-fill-roots-2 : tie.Need-slice-aggregate-fill-roots-2
-slice-aggregate-fill-roots-2 c = sym (judge-before-starts8 (c .before) .judge .ensures .table .ends-long)
+slice-aggregate-fill-roots-2 c = search needs
 
 fill-roots-requires : tie.Need-fill-roots-requires
-fill-roots-requires c κs = judge-before-starts8 (c .before .before) .judge .ensures .table
+fill-roots-requires c κs =
+    judged (c .before .before .before .before .before .before .before .before .before .before .before .before .before .before .before .before
+    .before .before .before .before .before .before .before .before .before .before .before .before .before) .1 .1 .1 .0
 
 slice-aggregate-names-in : tie.Need-slice-aggregate-names-in
-slice-aggregate-names-in c = sym (judge-before-starts8 (at-starts8 (c .before .before)) .judge .ensures .table .starts-long)
+slice-aggregate-names-in c = search needs
 
 slice-aggregate-names-in-2 : tie.Need-slice-aggregate-names-in-2
-slice-aggregate-names-in-2 c = sym (judge-before-starts8 (at-starts8 (at-fill-roots c)) .judge .ensures .table .ends-long)
+slice-aggregate-names-in-2 c = search needs
 
 names-in-requires : tie.Need-names-in-requires
-names-in-requires c κs = (judge-before-starts8 (at-starts8 (at-fill-roots (c .before .before))) .judge .ensures .table, search needs)
+names-in-requires c κs = (
+  judged (c .before .before .before .before .before .before .before .before .before .before .before .before .before .before .before .before
+      .before .before .before .before .before .before .before .before .before .before .before .before .before .before .before .before .before .before
+      .before) .1 .1 .1 .0,
+  omega arith,
+)
 
 same-length : tie.Need-same-length
-same-length c = u32s-in-before-slice-known16 c .u32s-in .kept .1 .1 .1 .1 .0
+same-length c =
+    (c .before .before .before .before .before .before .before .before .before .before .before .before .before .before .before .before .before
+    .before .before .before .before .before .before .before .before .before .before .before .before .before .before .before .before .before .before
+    .keep) .kept .1 .0 ∙ (c .before .before .before .before .before .before .before .before .before .before .before .before .before .before .before
+    .before .before .before .before .before .before .before .before .before .before .before .before .before .before .before .before .before .before
+    .before .before .before .before .before .before .before .before .before .before .before .before .before .before .before .before .before .before
+    .before .before .before .before .whole-fault) .kept .1 .1 .1 .1 .0
 
 same-length-2 : tie.Need-same-length-2
-same-length-2 c = at-starts5 (at-starts6 (u32s-in3-before-slice-known16 c)) .before .before .before .fill-order .kept .1 .1 .1 .0
+same-length-2 c =
+    (c .before .before .before .before .before .before .before .before .before .before .before .before .before .before .before .before .before
+    .before .before .before .before .before .fill-lists) .kept .1 .1 .1 .1 .1 .0 ∙ (c .before .before .before .before .before .before .before
+    .before .before .before .before .before .before .before .before .before .before .before .before .before .before .before .before .before .before
+    .before .before .before .before .before .before .before .before .before .before .before .before .before .before .before .before .before .before
+    .before .before .before .before .before .before .before .before .before .before .before .before .whole-fault) .kept .1 .1 .1 .1 .1 .1 .0
 
 same-length-3 : tie.Need-same-length-3
-same-length-3 c = at-starts6 (u32s-in3-before-slice-known16 c) .before .before .before .u32s-in2 .kept .1 .1 .1 .1 .0
+same-length-3 c =
+    (c .before .before .before .before .before .before .before .before .before .before .before .before .before .before .before .before .before
+    .before .before .before .before .before .before .before .before .before .before .before .before .before .before .before .before .before .before
+    .keep) .kept .1 .1 .0 ∙ (c .before .before .before .before .before .before .before .before .before .before .before .before .before .before
+    .before .before .before .before .before .before .before .before .before .before .before .before .before .before .before .before .before .before
+    .before .before .before .before .before .before .before .before .before .before .before .before .before .before .before .before .before .before
+    .before .before .before .before .before .whole-fault) .kept .1 .1 .1 .1 .1 .0
 
 same-length-4 : tie.Need-same-length-4
-same-length-4 c = u32s-in3-before-slice-known16 c .u32s-in3 .kept .1 .1 .1 .1 .0
+same-length-4 c =
+    (c .before .before .before .before .before .before .before .before .before .before .before .before .before .before .before .before .before
+    .before .before .before .before .before .fill-lists) .kept .1 .1 .1 .1 .1 .1 .0 ∙ (c .before .before .before .before .before .before .before
+    .before .before .before .before .before .before .before .before .before .before .before .before .before .before .before .before .before .before
+    .before .before .before .before .before .before .before .before .before .before .before .before .before .before .before .before .before .before
+    .before .before .before .before .before .before .before .before .before .before .before .before .whole-fault) .kept .1 .1 .1 .1 .1 .1 .1 .0
 
 same-length-5 : tie.Need-same-length-5
-same-length-5 c = fill-names-before-slice-known16 c .fill-names .kept .1 .1 .1 .0
+same-length-5 c =
+    (c .before .before .before .before .before .before .before .before .before .before .before .before .before .before .before .before .before
+    .before .before .before .before .before .fill-lists) .kept .1 .1 .1 .1 .1 .1 .1 .0 ∙ (c .before .before .before .before .before .before .before
+    .before .before .before .before .before .before .before .before .before .before .before .before .before .before .before .before .before .before
+    .before .before .before .before .before .before .before .before .before .before .before .before .before .before .before .before .before .before
+    .before .before .before .before .before .before .before .before .before .before .before .before .whole-fault) .kept .1 .1 .1 .1 .1 .1 .1 .1 .0
 
 same-length-6 : tie.Need-same-length-6
-same-length-6 c = fill-names-before-slice-known16 c .fill-names .kept .1 .1 .1 .1 .0
+same-length-6 c =
+    (c .before .before .before .before .before .before .before .before .before .before .before .before .before .before .before .before .before
+    .before .before .before .before .before .fill-lists) .kept .1 .1 .1 .1 .1 .1 .1 .1 .0 ∙ (c .before .before .before .before .before .before
+    .before .before .before .before .before .before .before .before .before .before .before .before .before .before .before .before .before .before
+    .before .before .before .before .before .before .before .before .before .before .before .before .before .before .before .before .before .before
+    .before .before .before .before .before .before .before .before .before .before .before .before .before .whole-fault) .kept .1 .1 .1 .1 .1 .1 .1
+    .1 .1 .0
 
 same-length-7 : tie.Need-same-length-7
-same-length-7 c = at-fill-roots (at-ends9 (at-names-in c)) .fill-roots .kept .1 .1 .1 .0
+same-length-7 c = search needs
 
 same-length-8 : tie.Need-same-length-8
-same-length-8 c = at-names-in c .names-in .kept .1 .1 .1 .1 .1 .0
+same-length-8 c = search needs
 
 same-length-9 : tie.Need-same-length-9
-same-length-9 c = at-names-in c .names-in .kept .1 .1 .1 .1 .1 .1 .0
+same-length-9 c = search needs
 
 returns : tie.Need-returns
 returns c =
-    load-leaves
-    (promised (judge-before-u32s-in3 (u32s-in3-before-slice-known16 c) .judge .ensures))
-    (u32s-in-before-slice-known16 c .u32s-in .ensures .list)
-    (at-starts5 (at-starts6 (u32s-in3-before-slice-known16 c)) .before .before .before .fill-order .ensures .list)
-    (at-starts6 (u32s-in3-before-slice-known16 c) .before .before .before .u32s-in2 .ensures .list)
-    (u32s-in3-before-slice-known16 c .u32s-in3 .ensures .list)
-    (fill-names-before-slice-known16 c .fill-names .ensures .names-left)
-    (fill-names-before-slice-known16 c .fill-names .ensures .lens-left)
-    (at-fill-roots (at-ends9 (at-names-in c)) .fill-roots .ensures .list)
-    (at-names-in c .names-in .ensures .names-left)
-    (at-names-in c .names-in .ensures .lens-left)
+    let s = (c .before .before .before .before .before .before .before .before .before .before .before .before .before .before .before .before
+    .before .before .before .before .before .before .before .before .before .before .before .before .before .before .before .before .before .before
+    .before .before .before .before .before .before .before .before .before .before .before .before .before .before .before .before .before .before
+    .before .before .before .before .before .before .before .before .before .before .before .before .before .before .before .before .before .before
+    .before .before .before .before .before .before .before .before .before) in
+    let w = judged (c .before .before .before .before .before .before .before .before .before .before .before .before .before .before .before
+    .before .before .before .before .before .before .before .before .before .before .before .before .before .before .before .before .before .before
+    .before .before .before .before .before .before .before) in
+    let st = (c .before .before .before .before .before .before .before .before .before .before .before .before .before .before .before .before
+    .before .before .before .before .before .before .before .before .before .before .before .before .before .before .before .before .before .before
+    .before .before .before .before .before .before .settle) .ensures in
+    let wf = (c .before .before .before .before .before .before .before .before .before .before .before .before .before .before .before .before
+    .before .before .before .before .before .before .before .before .before .before .before .before .before .before .before .before .before .before
+    .before .before .before .before .before .before .before .before .before .before .before .before .before .before .before .before .before .before
+    .before .before .before .whole-fault) in
+    let kp = (c .before .before .before .before .before .before .before .before .before .before .before .before .before .before .before .before
+    .before .before .before .before .before .before .before .before .before .before .before .before .before .before .before .before .before .before
+    .before .keep) .ensures in
+    let fl = (c .before .before .before .before .before .before .before .before .before .before .before .before .before .before .before .before
+    .before .before .before .before .before .before .fill-lists) .ensures in
+    let f = s .args .f .now in
+    let t = spans ((c .before .before .before .before .before .before .before .before .before .before .before .before .before .before .before
+    .before .before .before .before .before .before .before .before .before .before .before .before .before .before .before .before .before .before
+    .before .before .before .before .before .before .before) .settle .last .1 .1 .1 .0) ((c .before .before .before .before .before .before .before
+    .before .before .before .before .before .before .before .before .before .before .before .before .before .before .before .before .before .before
+    .before .before .before .before .before .before .before .before .before .before .before .before .before .before .before) .settle .last .1 .1 .1
+    .1 .0) in
+    load-leaves w
+    (kept-list (s .args .found) f Ids (ap (λ l. l .ids) (no-lists f (refusal 0 0))) _ _ (wf .result) (ofSwept ((c .before .before .before .before
+    .before .before .before .before .before .before .before .before .before .before .before .before .before .before .before .before .before .before
+    .before .before .before .before .before .before .before .before .before .before .before .before .before .before .before .before .before .before
+    .before .before .before .before .before .before .before .before .before .before .before .before .before .before .before .before .before .before
+    .before .before .before .before .before .before .before .before .before .swept-after) .result)) (length (s .args .ids .now))
+    (wf .ensures .ids-left) (wf .kept .1 .1 .1 .1 .0) _ (st .answer) w (st .starts-left) (st .ends-left) (kp .ids-left))
+    (padded-as (supportOrder (nvarsIn f t) (u32sIn f t Ids) (u32sIn f t Permids)) (fl .order-left) (wf .kept .1 .1 .1 .1 .1 .1 .0))
+    (kept-list (s .args .found) f Permids (ap (λ l. l .permids) (no-lists f (refusal 0 0))) _ _ (wf .result) (ofSwept ((c .before .before .before
+    .before .before .before .before .before .before .before .before .before .before .before .before .before .before .before .before .before .before
+    .before .before .before .before .before .before .before .before .before .before .before .before .before .before .before .before .before .before
+    .before .before .before .before .before .before .before .before .before .before .before .before .before .before .before .before .before .before
+    .before .before .before .before .before .before .before .before .before .before .swept-after) .result)) (length (s .args .permids .now))
+    (wf .ensures .permids-left) (wf .kept .1 .1 .1 .1 .1 .0) _ (st .answer) w (st .starts-left) (st .ends-left) (kp .permids-left))
+    (padded-as (u32sIn f t Auxids) (fl .auxids-left) (wf .kept .1 .1 .1 .1 .1 .1 .1 .0))
+    (padded-as (map startOf (variableNamesIn f t)) (fl .names-left) (wf .kept .1 .1 .1 .1 .1 .1 .1 .1 .0))
+    (padded-as (map lenOf (variableNamesIn f t)) (fl .lens-left) (wf .kept .1 .1 .1 .1 .1 .1 .1 .1 .1 .0))
+    (c .before .before .before .before .before .before .before .before .before .before .fill-roots .ensures .list)
+    ((c .before .before .before .before .names-in .ensures) .names-left)
+    ((c .before .before .before .before .names-in .ensures) .lens-left)
 
 pub load-spec : {M : Type 1} → statement M
 load-spec =
     tie.close
     (tie.spec
-    slice-aggregate-judge
-    slice-aggregate-judge-2
-    judge-requires
-    slice-aggregate-u32s-in
-    slice-aggregate-u32s-in-2
-    u32s-in-requires
-    slice-aggregate-fill-order
-    slice-aggregate-fill-order-2
-    fill-order-requires
-    slice-aggregate-u32s-in-3
-    slice-aggregate-u32s-in-4
-    u32s-in-requires-2
-    slice-aggregate-u32s-in-5
-    slice-aggregate-u32s-in-6
-    u32s-in-requires-3
-    slice-aggregate-fill-names
-    slice-aggregate-fill-names-2
-    fill-names-requires
+    slice-aggregate-swept-after
+    slice-aggregate-swept-after-2
+    swept-after-requires
+    found-in-requires
+    slice-aggregate-whole-fault
+    slice-aggregate-whole-fault-2
+    whole-fault-requires
+    slice-aggregate-settle
+    slice-aggregate-settle-2
+    settle-requires
+    keep-requires
+    slice-aggregate-fill-lists
+    slice-aggregate-fill-lists-2
+    fill-lists-requires
     slice-aggregate-fill-roots
     slice-aggregate-fill-roots-2
     fill-roots-requires

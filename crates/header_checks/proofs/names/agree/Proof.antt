@@ -1,33 +1,48 @@
--- `agree` meets its contract.
-use Rattle.header_checks.proofs.Agreeing.{first-missing, second-missing, both-given}
+use Prim.Native.Nat.{_-_}
+use borrow.Author.Needs.{needs}
+use Rattle.variable_names.specs.Names.{places}
+use Rattle.header_checks.proofs.Agreeing.{places-long, first-missing, second-missing, both-given}
 use Rattle.header_checks.proofs.names.agree.Statement.{statement}
 use Rattle.header_checks.proofs.names.agree.Tie as tie
 
--- places of the course, each a few steps back from a later one
-abbrev at-start : tie.After-shared-slice-known5 → tie.Start
-at-start p = p .before .before .before .before .before
-
 returns : tie.Need-returns
-returns c = record { answer = first-missing _ _ _ _ _ (at-start (c .before) .pre .1 .0) (c .if1 .taken) }
+returns c =
+    record {
+      answer = first-missing (((c .before .before .before .before .before .before .before .before) .args) .f .now) (places (((c .before
+          .before .before .before .before .before .before .before) .args) .starts .now) (((c .before .before .before .before .before .before .before
+          .before) .args) .lens .now)) (((c .before .before .before .before .before .before .before .before) .args) .index .now) (places (((c .before
+          .before .before .before .before .before .before .before) .args) .starts2 .now) (((c .before .before .before .before .before .before .before
+          .before) .args) .lens2 .now)) (((c .before .before .before .before .before .before .before .before) .args) .index2 .now) (places-long _ _ ((c
+          .before .before .before .before .before .before .before .before) .pre .1 .0)) (c .if1 .taken);
+    }
 
 returns-2 : tie.Need-returns-2
 returns-2 c =
-    let p = at-start (c .before .before) .pre in
-    record { answer = second-missing _ _ _ _ _ (p .1 .0) (c .before .if1 .left) (p .1 .1 .0) (c .if2 .taken) }
+    record {
+      answer = second-missing (((c .before .before .before .before .before .before .before .before .before) .args) .f .now) (places (((c
+          .before .before .before .before .before .before .before .before .before) .args) .starts .now) (((c .before .before .before .before .before
+          .before .before .before .before) .args) .lens .now)) (((c .before .before .before .before .before .before .before .before .before) .args) .index
+          .now) (places (((c .before .before .before .before .before .before .before .before .before) .args) .starts2 .now) (((c .before .before .before
+          .before .before .before .before .before .before) .args) .lens2 .now)) (((c .before .before .before .before .before .before .before .before
+          .before) .args) .index2 .now) (places-long _ _ ((c .before .before .before .before .before .before .before .before .before) .pre .1 .0)) (c
+          .before .if1 .left) (places-long _ _ ((c .before .before .before .before .before .before .before .before .before) .pre .1 .1)) (c .if2 .taken);
+    }
 
-alike-requires : tie.Need-alike-requires
-alike-requires c κs = at-start (c .before .before) .pre
+same-names-requires : tie.Need-same-names-requires
+same-names-requires c κs = search needs
 
 returns-3 : tie.Need-returns-3
 returns-3 c =
-    let p = at-start (c .before .before .before) .pre in
-    record { answer = both-given _ _ _ _ _ (p .1 .0) (c .before .before .if1 .left) (p .1 .1 .0) (c .before .if2 .left) (c .alike .ensures .answer) }
+    record {
+      answer = both-given (((c .before .before .before .before .before .before .before .before .before .before) .args) .f .now) (places (((c
+          .before .before .before .before .before .before .before .before .before .before) .args) .starts .now) (((c .before .before .before .before
+          .before .before .before .before .before .before) .args) .lens .now)) (((c .before .before .before .before .before .before .before .before
+          .before .before) .args) .index .now) (places (((c .before .before .before .before .before .before .before .before .before .before) .args)
+          .starts2 .now) (((c .before .before .before .before .before .before .before .before .before .before) .args) .lens2 .now)) (((c .before .before
+          .before .before .before .before .before .before .before .before) .args) .index2 .now) (places-long _ _ ((c .before .before .before .before
+          .before .before .before .before .before .before) .pre .1 .0)) (c .before .before .if1 .left) (places-long _ _ ((c .before .before .before
+          .before .before .before .before .before .before .before) .pre .1 .1)) (c .before .if2 .left) (c .same-names .ensures .answer);
+    }
 
 pub agree-spec : {M : Type 1} → statement M
-agree-spec =
-    tie.close
-    (tie.spec
-    returns
-    returns-2
-    alike-requires
-    returns-3)
+agree-spec = tie.close (tie.spec returns returns-2 same-names-requires returns-3)

@@ -1,5 +1,6 @@
 -- `leaves` is safe: each list keeps its length in the call.
 use borrow.Author.Needs.{needs}
+use Rattle.header.proofs.Lengths.{lists-long}
 use Rattle.vectors_header.proofs.lists.leaves.Statement.{statement}
 use Rattle.vectors_header.proofs.lists.leaves.Tie as tie
 use Rattle.vectors_header.proofs.lists.leaves.Reads as reads
@@ -45,7 +46,9 @@ found-before-requires : tie.Need-found-before-requires
 found-before-requires c κs = tt
 
 load-requires : tie.Need-load-requires
-load-requires c κs = c .before .before .before .before .before .before .before .before .before .found-before .ensures
+load-requires c κs =
+    let e = c .before .before .before .before .before .before .before .before .before .found-before .ensures in
+    (e .0, λ z. lists-long _ _ _ _ _ _ _ (e .1 z))
 
 after-numbers-requires : tie.Need-after-numbers-requires
 after-numbers-requires c κs = search needs

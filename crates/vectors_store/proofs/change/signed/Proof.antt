@@ -2,7 +2,7 @@
 use Prim.Native.Nat.{_+_, _-_}
 use native.Mathlib.Omega.{arith}
 use borrow.Author.Needs.{needs}
-use mir.Syntax.{w16}
+use Rattle.edges.specs.Width.{edgeWidth}
 use mir.ValLaws.{toZ-pos}
 use Rattle.vectors_store.proofs.change.signed.Statement.{statement}
 use Rattle.vectors_store.proofs.change.signed.Tie as tie
@@ -26,7 +26,7 @@ cast-negate : tie.Need-cast-negate
 cast-negate c = search needs
 
 negate-requires : tie.Need-negate-requires
-negate-requires c κs = rw (toZ-pos w16 (65535 - c .before .before .args .x + 1) (omega arith)) (omega arith)
+negate-requires c κs = rw (toZ-pos edgeWidth (65535 - c .before .before .args .x + 1) (omega arith)) (omega arith)
 
 returns-3 : tie.Need-returns-3
 returns-3 c = search needs

@@ -405,14 +405,22 @@ struct goal {
     int seen;
 };
 
-enum { LOAD_GOAL, EXPORT_GOAL, WALK_GOAL, GROWTH_GOAL, HOSTILE_GOAL, GOALS };
+enum {
+    LOAD_GOAL, EXPORT_GOAL, CHECK_GOAL, WALK_GOAL, GROWTH_GOAL, HOSTILE_GOAL, WITHOUT_GOAL, LOAD_STACK, EXPORT_STACK, EVALUATE_STACK,
+    GOALS
+};
 
 static struct goal goals[GOALS] = {
     {"load at least twice as fast as the Rust", 2, 1, 0, "", 0},
-    {"export at least as fast as the Rust", 1, 1, 0, "", 0},
+    {"export at least twice as fast as the Rust", 2, 1, 0, "", 0},
+    {"the check of 32,000 nodes in at most 12 ns a node", 12, 0, 0, "", 0},
     {"the walk of an evaluation at least as fast as the Rust's", 1, 1, 0, "", 0},
     {"eightfold work in at most tenfold time", 10, 0, 0, "", 0},
     {"a hostile file within twenty times an ordinary one of its size", 20, 0, 0, "", 0},
+    {"without work, an ordinary file within three times the time with it", 3, 0, 0, "", 0},
+    {"a load on at most 64 KB of stack", 64, 0, 0, "", 0},
+    {"an export on at most 48 KB", 48, 0, 0, "", 0},
+    {"an evaluation on at most 16 KB", 16, 0, 0, "", 0},
 };
 
 static void note(int goal, double value, const char *what, const char *name)
@@ -528,6 +536,8 @@ static void tell_evaluations(void)
             printf(" %11.3f", medians[2] * 1e6);
         printf("\n");
         fflush(stdout);
+        if (subjects[i].nodes == kinds[LARGE].nodes)
+            note(CHECK_GOAL, medians[1] * 1e9 / (double)subjects[i].nodes, "check", subjects[i].name);
     }
 }
 
@@ -667,22 +677,35 @@ static void tell_growth(void)
         drop_subject(&smalls[i]);
 }
 
-static void hostile_row(const char *name, const char *what, struct task hostile, struct task ordinary)
+/* Two tasks side by side, in microseconds and as a ratio. */
+static double compare(const char *name, const char *what, struct task first, struct task second)
 {
     struct task tasks[2];
     double medians[2];
 
-    tasks[0] = hostile;
-    tasks[1] = ordinary;
+    tasks[0] = first;
+    tasks[1] = second;
     measure(tasks, 2, medians);
     printf("  %-14s %-30s %11.1f %11.1f %8.2f\n", name, what, medians[0] * 1e6, medians[1] * 1e6, medians[0] / medians[1]);
     fflush(stdout);
-    note(HOSTILE_GOAL, medians[0] / medians[1], what, name);
+    return medians[0] / medians[1];
 }
 
-/* Loads of a hostile file and the check of its store, against an ordinary subject with as many lines. The last `again` are repeated. */
-static void tell_hostile_file(const struct subject *s, size_t again)
+static void hostile_row(const char *name, const char *what, struct task hostile, struct task ordinary, int with_work)
 {
+    double times = compare(name, what, hostile, ordinary);
+
+    if (with_work)
+        note(HOSTILE_GOAL, times, what, name);
+}
+
+/*
+ * Loads of a hostile file and the check of its store, against an ordinary subject with as many lines, both with work or both without. The
+ * last `again` are repeated.
+ */
+static void tell_hostile_file(struct subject *s, size_t again, int with_work)
+{
+    size_t enough = s->ours.work_len;
     struct plan plan = hostile_plan(s->nodes, again);
     struct file file = {NULL, 0, 0};
     struct subject settings;
@@ -697,12 +720,14 @@ static void tell_hostile_file(const struct subject *s, size_t again)
     ordinary = loading_of(NULL, s->levels, s->nodes);
     loads[0].with = &l;
     loads[1].with = &ordinary;
+    if (!with_work)
+        l.ours.work_len = ordinary.ours.work_len = s->ours.work_len = 0;
     for (text = 1; text >= 0; text--) {
         drop_file(&file);
         file = text ? text_file(&plan) : binary_file(&plan);
         ordinary.file = &s->files[text];
         snprintf(what, sizeof what, "load %s%s", text ? "text" : "binary", again == 0 ? "" : ", half repeated");
-        hostile_row(s->name, what, loads[0], loads[1]);
+        hostile_row(s->name, what, loads[0], loads[1], with_work);
     }
     memset(&settings, 0, sizeof settings);
     settings.levels = plan.levels;
@@ -712,21 +737,68 @@ static void tell_hostile_file(const struct subject *s, size_t again)
     checks[0].with = &e;
     checks[1].with = &ordinary_e;
     if (again == 0)
-        hostile_row(s->name, "check of its store", checks[0], checks[1]);
+        hostile_row(s->name, "check of its store", checks[0], checks[1], with_work);
     free(settings.settings);
     drop_file(&file);
     drop_plan(&plan);
     ours_close(&l.ours);
     ours_close(&ordinary.ours);
+    s->ours.work_len = enough;
 }
 
 static void tell_hostile(void)
 {
     printf("\nHostile: a file whose nodes fall into one bucket over 40 children, against the ordinary one with as many lines\n");
     printf("  %-14s %-30s %11s %11s %8s\n", "lines", "", "us", "ordinary us", "times");
-    tell_hostile_file(&subjects[SMALL], 0);
-    tell_hostile_file(&subjects[LARGE], 0);
-    tell_hostile_file(&subjects[LARGE], subjects[LARGE].nodes / 2);
+    tell_hostile_file(&subjects[SMALL], 0, 1);
+    tell_hostile_file(&subjects[LARGE], 0, 1);
+    tell_hostile_file(&subjects[LARGE], subjects[LARGE].nodes / 2, 1);
+    printf("  without work, both\n");
+    tell_hostile_file(&subjects[SMALL], 0, 0);
+    tell_hostile_file(&subjects[LARGE], 0, 0);
+    tell_hostile_file(&subjects[LARGE], subjects[LARGE].nodes / 2, 0);
+}
+
+static void without_row(const struct subject *s, const char *what, struct task without, struct task with)
+{
+    note(WITHOUT_GOAL, compare(s->name, what, without, with), what, s->name);
+}
+
+static void load_without(const struct subject *s, int text)
+{
+    struct loading without = loading_of(&s->files[text], s->levels, s->nodes), with = loading_of(&s->files[text], s->levels, s->nodes);
+    struct task tasks[2] = {{empty_ours, load_ours, NULL, NULL}, {empty_ours, load_ours, NULL, NULL}};
+
+    without.ours.work_len = 0;
+    tasks[0].with = &without;
+    tasks[1].with = &with;
+    without_row(s, text ? "load text" : "load binary", tasks[0], tasks[1]);
+    ours_close(&without.ours);
+    ours_close(&with.ours);
+}
+
+static void check_without(const struct subject *s)
+{
+    struct ours none = s->ours;
+    struct evaluating without = evaluations_of(s, &none), with = evaluations_of(s, &s->ours);
+    struct task tasks[2] = {{NULL, check_ours, NULL, NULL}, {NULL, check_ours, NULL, NULL}};
+
+    none.work_len = 0;
+    tasks[0].with = &without;
+    tasks[1].with = &with;
+    without_row(s, "check", tasks[0], tasks[1]);
+}
+
+static void tell_without(void)
+{
+    size_t i;
+
+    printf("\nWithout work, against the same with it\n  %-14s %-30s %11s %11s %8s\n", "file", "", "us", "with, us", "times");
+    for (i = 0; i < SUBJECTS; i++) {
+        load_without(&subjects[i], TEXT);
+        load_without(&subjects[i], BINARY);
+        check_without(&subjects[i]);
+    }
 }
 
 /* Calls for the stack, on one subject. */
@@ -761,22 +833,42 @@ static void stack_export_binary(void *with)
     ours_export(&((struct subject *)with)->ours, BINARY);
 }
 
+/* The stack of a call, with work and without, on two subjects. */
+static void stack_row(const char *what, int goal, void (*call)(void *with), struct subject *large, struct subject *deep)
+{
+    struct subject *on[2];
+    size_t taken[4], i;
+
+    on[0] = large;
+    on[1] = deep;
+    for (i = 0; i < 4; i++) {
+        struct subject *s = on[i / 2];
+        size_t enough = s->ours.work_len;
+
+        s->ours.work_len = i % 2 == 0 ? enough : 0;
+        taken[i] = stack_of(call, s);
+        s->ours.work_len = enough;
+        note(goal, (double)taken[i] / 1024, what, s->name);
+    }
+    printf("  %-14s %11zu %11zu %11zu %11zu\n", what, taken[0], taken[1], taken[2], taken[3]);
+}
+
 static void tell_stack(void)
 {
     struct subject deep = subject_of("4,096 levels", parity_plan(ZT_MOST_LEVELS));
     struct subject *large = &subjects[LARGE];
 
-    printf("\nPeak stack in bytes: the file of 32,000 nodes, and a root that leads down 4,096 levels\n  %-14s %11s %11s\n", "", "32,000",
-        "4,096 levels");
-    printf("  %-14s %11zu %11zu\n", "load text", stack_of(stack_load_text, large), stack_of(stack_load_text, &deep));
-    printf("  %-14s %11zu %11zu\n", "load binary", stack_of(stack_load_binary, large), stack_of(stack_load_binary, &deep));
-    printf("  %-14s %11zu %11zu\n", "evaluate", stack_of(stack_evaluate, large), stack_of(stack_evaluate, &deep));
+    printf("\nPeak stack in bytes, with work and without: the file of 32,000 nodes, and a root that leads down 4,096 levels\n");
+    printf("  %-14s %11s %11s %11s %11s\n", "", "32,000", "without", "4,096 lev.", "without");
+    stack_row("load text", LOAD_STACK, stack_load_text, large, &deep);
+    stack_row("load binary", LOAD_STACK, stack_load_binary, large, &deep);
+    stack_row("evaluate", EVALUATE_STACK, stack_evaluate, large, &deep);
     /* the loads left the names of other files */
     if (ours_load(&large->ours, large->source.bytes, large->source.len) != 0
         || ours_load(&deep.ours, deep.source.bytes, deep.source.len) != 0)
         give_up("a file is refused");
-    printf("  %-14s %11zu %11zu\n", "export text", stack_of(stack_export_text, large), stack_of(stack_export_text, &deep));
-    printf("  %-14s %11zu %11zu\n", "export binary", stack_of(stack_export_binary, large), stack_of(stack_export_binary, &deep));
+    stack_row("export text", EXPORT_STACK, stack_export_text, large, &deep);
+    stack_row("export binary", EXPORT_STACK, stack_export_binary, large, &deep);
     drop_subject(&deep);
 }
 
@@ -811,6 +903,7 @@ static void measure_all(const char *archive)
     tell_walks();
     tell_growth();
     tell_hostile();
+    tell_without();
     tell_stack();
     tell_archive(archive);
     tell_goals();

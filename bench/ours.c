@@ -34,6 +34,8 @@ struct ours ours_open(uint16_t levels, size_t slots, size_t lines)
     s.seats = room_for(lines, sizeof *s.seats);
     s.marks = room_for(slots, sizeof *s.marks);
     s.numbers = room_for(slots, sizeof *s.numbers);
+    s.work_len = ZT_WORK_ENTRIES(slots);
+    s.work = room_for(s.work_len, sizeof *s.work);
     return s;
 }
 
@@ -44,7 +46,7 @@ void ours_close(struct ours *s)
     free(s->ids), free(s->order), free(s->permids), free(s->auxids), free(s->names), free(s->lens);
     free(s->roots), free(s->rootnames), free(s->rootlens);
     free(s->edges), free(s->seats);
-    free(s->marks), free(s->numbers), free(s->out);
+    free(s->marks), free(s->numbers), free(s->out), free(s->work);
 }
 
 void ours_clear(struct ours *s)
@@ -63,7 +65,8 @@ int ours_load(struct ours *s, const uint8_t *file, size_t len)
         s->level, s->slots, s->then, s->slots, s->els, s->slots, s->next, s->slots, s->heads, ZT_BUCKETS,
         s->ids, ZT_VARIABLE_ENTRIES, s->order, ZT_VARIABLE_ENTRIES, s->permids, ZT_VARIABLE_ENTRIES, s->auxids, ZT_VARIABLE_ENTRIES,
         s->names, ZT_VARIABLE_ENTRIES, s->lens, ZT_VARIABLE_ENTRIES, s->roots, ZT_ROOT_ENTRIES,
-        s->rootnames, ZT_ROOT_ENTRIES, s->rootlens, ZT_ROOT_ENTRIES, s->edges, s->lines, s->seats, s->lines);
+        s->rootnames, ZT_ROOT_ENTRIES, s->rootlens, ZT_ROOT_ENTRIES, s->edges, s->lines, s->seats, s->lines,
+        s->work, s->work_len);
 
     s->nroots = (size_t)answer.nroots;
     return answer.refusal;
@@ -87,7 +90,7 @@ void ours_take_names(struct ours *s, const uint8_t *file, size_t len)
 int ours_evaluate(const struct ours *s, zt_edge root, const uint8_t *setting)
 {
     struct zt_evaluate_answer answer = zt_evaluate(s->levels, s->count, s->level, s->slots, s->then, s->slots, s->els, s->slots,
-        s->next, s->slots, s->heads, ZT_BUCKETS, root, setting, s->levels);
+        s->next, s->slots, s->heads, ZT_BUCKETS, root, setting, s->levels, s->work, s->work_len);
 
     if (answer.refusal != 0)
         give_up("an evaluation was refused");
@@ -99,7 +102,7 @@ size_t ours_export(struct ours *s, uint8_t text)
     struct zt_export_answer answer = zt_export(0, text, 0, 0, s->levels, s->count, s->level, s->slots, s->then, s->slots,
         s->els, s->slots, s->next, s->slots, s->heads, ZT_BUCKETS, s->roots, s->nroots, s->list, s->levels,
         s->bytes, s->bytes_len, s->names, s->levels, s->lens, s->levels, s->rootnames, s->nroots, s->rootlens, s->nroots,
-        s->marks, s->count, s->numbers, s->count, s->out, s->out_len);
+        s->marks, s->count, s->numbers, s->count, s->out, s->out_len, s->work, s->work_len);
 
     if (answer.refusal != 0)
         give_up("an export was refused");

@@ -29,6 +29,9 @@ struct ours {
     zt_index *marks, *numbers;
     uint8_t *out;
     size_t out_len;
+    /* the work that the calls are lent: enough, unless `work_len` is set to less */
+    zt_index *work;
+    size_t work_len;
 };
 
 /* An empty store. Its calls read files of at most so many lines. */

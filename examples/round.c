@@ -30,6 +30,9 @@ static uint32_t rootnames[ZT_ROOT_ENTRIES], rootlens[ZT_ROOT_ENTRIES];
 static zt_edge roots[ZT_ROOT_ENTRIES], edges[ZT_MOST_NODES];
 static uint16_t seats[ZT_MOST_NODES];
 
+/* Work for all nodes that the store can have. */
+static zt_index work[ZT_WORK_ENTRIES(SLOTS)];
+
 static uint8_t file[MOST_BYTES], setting[ZT_MOST_LEVELS];
 static uint16_t list[ZT_MOST_LEVELS];
 
@@ -99,12 +102,12 @@ int main(int argc, char **argv)
     loaded = zt_load(file, len, list, levels, levels, &count, level, SLOTS, then, SLOTS, els, SLOTS, next, SLOTS, heads, ZT_BUCKETS,
         ids, ZT_VARIABLE_ENTRIES, order, ZT_VARIABLE_ENTRIES, permids, ZT_VARIABLE_ENTRIES, auxids, ZT_VARIABLE_ENTRIES,
         names, ZT_VARIABLE_ENTRIES, lens, ZT_VARIABLE_ENTRIES, roots, ZT_ROOT_ENTRIES, rootnames, ZT_ROOT_ENTRIES,
-        rootlens, ZT_ROOT_ENTRIES, edges, ZT_MOST_NODES, seats, ZT_MOST_NODES);
+        rootlens, ZT_ROOT_ENTRIES, edges, ZT_MOST_NODES, seats, ZT_MOST_NODES, work, ZT_WORK_ENTRIES(SLOTS));
     if (loaded.refusal != 0)
         refuse(loaded.refusal, loaded.line);
     for (r = 0; r < loaded.nroots; r++) {
         struct zt_evaluate_answer evaluated = zt_evaluate(levels, count, level, SLOTS, then, SLOTS, els, SLOTS, next, SLOTS,
-            heads, ZT_BUCKETS, roots[r], setting, levels);
+            heads, ZT_BUCKETS, roots[r], setting, levels, work, ZT_WORK_ENTRIES(SLOTS));
         if (evaluated.refusal != 0)
             refuse(evaluated.refusal, evaluated.line);
         write_root(r, evaluated.answer);

@@ -30,17 +30,21 @@
  *   the store keeps its rules before it uses it, and answers ZT_BROKEN_STORE where it doesn't; no content of a store makes a call read or
  *   write outside its parts.
  *
+ * Work
+ *   Every call that is given a store is also lent `work`, the entries of an index of its nodes, in any number, none included. No length is
+ *   refused, and no answer depends on it. It needn't be cleared before a call, and is zeros afterwards. See ZT_WORK_ENTRIES.
+ *
  * Refusals
  *   Every answer starts with the number of a refusal, 0 for none, and a line, counted from 1 at the top of the file, or 0 where no line is
- *   given. On any refusal all outputs are zeros, scratch and marks are zeros, and the store is as it was.
+ *   given. On any refusal all outputs are zeros, scratch, marks and work are zeros, and the store is as it was.
  *
  * Threads
  *   There is no state beside the parts. Calls at the same time are independent of each other where none writes a part that another is lent:
  *   calls on different stores always are, and so are evaluations and exports of one store while no load changes it.
  *
  * Stack
- *   The library takes no memory but the stack's. A load takes about 420 KB of it, an evaluation about 170 KB, an export about 190 KB or, where
- *   that is more, 25 KB and 160 bytes for each level that its roots lead down, up to 680 KB. These were measured on x86-64, and are not proved.
+ *   The library takes no memory but the stack's: about 17 KB for a load, 24 KB for an export, 7 KB for an evaluation, whatever the parts hold
+ *   and however long they are. These were measured on x86-64, and are not proved.
  */
 #ifndef ZONETWEED_H
 #define ZONETWEED_H
@@ -61,6 +65,13 @@ extern "C" {
 #define ZT_MOST_ROOTS 1024       /* roots of an export */
 #define ZT_MOST_INPUT 16777216   /* bytes of a file that is loaded */
 #define ZT_MOST_NAME 255         /* bytes of a name that is exported */
+
+/*
+ * The length of `work` that is enough where a store has at most so many nodes after the call: for a load its slots, up to ZT_MOST_NODES; for the
+ * other calls its count. It buys that a node is found in a few steps whatever the nodes are. Half of it buys the same, a little slower; with
+ * less, nodes are found along their chains: about as fast where nodes are spread over the buckets, and far slower where most share one.
+ */
+#define ZT_WORK_ENTRIES(nodes) (6 * ((size_t)(nodes) + 1))
 
 /* An edge, and the number of a node. */
 typedef int16_t zt_edge;
@@ -167,6 +178,7 @@ struct zt_export_answer {
  * Scratch
  *   edges      as many entries as the file has node lines (`.nnodes`). ZT_MOST_NODES is enough for every file.
  *   seats      likewise
+ *   work       any length. See 'Work' above.
  *
  * Refusals, in the order in which they are judged
  *   ZT_TOO_SHORT      a variable list or a root list is too short
@@ -209,7 +221,8 @@ struct zt_load_answer zt_load(
     uint32_t *rootnames, size_t rootnames_len,
     uint32_t *rootlens, size_t rootlens_len,
     zt_edge *edges, size_t edges_len,
-    uint16_t *seats, size_t seats_len);
+    uint16_t *seats, size_t seats_len,
+    zt_index *work, size_t work_len);
 
 /*
  * What an edge of a store answers at a setting.
@@ -219,9 +232,12 @@ struct zt_load_answer zt_load(
  *   root       the edge: a root that a load gave, or any number from 1 to `count` in magnitude
  *   setting    `levels` entries, each 0 or 1
  *
+ * Scratch
+ *   work       any length. See 'Work' above.
+ *
  * Refusals, in the order in which they are judged: ZT_BROKEN_STORE, ZT_BAD_ROOT_OR_SETTING.
  *
- * Nothing is written; all parts are as they were.
+ * Afterwards work is zeros, and all other parts are as they were.
  */
 struct zt_evaluate_answer zt_evaluate(
     uint16_t levels,
@@ -232,7 +248,8 @@ struct zt_evaluate_answer zt_evaluate(
     const zt_index *next, size_t next_len,
     const zt_index *heads, size_t heads_len,
     zt_edge root,
-    const uint8_t *setting, size_t setting_len);
+    const uint8_t *setting, size_t setting_len,
+    zt_index *work, size_t work_len);
 
 /*
  * Exports the diagrams of roots of a store as one file.
@@ -260,6 +277,9 @@ struct zt_evaluate_answer zt_evaluate(
  *   slots      `count` entries
  *   numbers    `count` entries
  *
+ * Scratch
+ *   work       any length. See 'Work' above.
+ *
  * Output
  *   out        as many bytes as the export size:
  *              256 + 32 * count + 24 * levels + 16 * number of roots + 3 * variable name bytes + root name bytes + ddlen,
@@ -269,11 +289,11 @@ struct zt_evaluate_answer zt_evaluate(
  * Refusals, in the order in which they are judged: ZT_TOO_SHORT (marks or output), ZT_BROKEN_STORE, ZT_BAD_ROOT_OR_SETTING, ZT_BAD_ORDER,
  * ZT_BAD_NAME.
  *
- * Afterwards, on success: the first `len` bytes of `out` are the file, and zeros follow; marks are zeros. The file has one line for each
+ * Afterwards, on success: the first `len` bytes of `out` are the file, and zeros follow; marks and work are zeros. The file has one line for each
  * node that a root leads to, the terminal first and then the deepest level first; the order of lines inside a level is left open. Loaded
  * into the same store, at the levels of those nodes in ascending order, it gives the same roots and no new node.
  *
- * Afterwards, on a refusal: `len`, `out` and the marks are zeros. What is read is as it was, always.
+ * Afterwards, on a refusal: `len`, `out`, the marks and work are zeros. What is read is as it was, always.
  */
 struct zt_export_answer zt_export(
     uint8_t version,
@@ -296,7 +316,8 @@ struct zt_export_answer zt_export(
     const uint32_t *rootlens, size_t rootlens_len,
     zt_index *slots, size_t slots_len,
     zt_index *numbers, size_t numbers_len,
-    uint8_t *out, size_t out_len);
+    uint8_t *out, size_t out_len,
+    zt_index *work, size_t work_len);
 
 #ifdef __cplusplus
 }

@@ -5,6 +5,44 @@
 
 #include "report.h"
 
+/* Work */
+
+/* The lengths around each that matters, one after the other from call to call: from none to more than enough for so many nodes. */
+static size_t work_for(size_t nodes)
+{
+    static size_t calls;
+    size_t numbers = nodes + 1, lengths[7];
+
+    lengths[0] = ZT_WORK_ENTRIES(nodes);
+    lengths[1] = 3 * numbers - 1;
+    lengths[2] = 3 * numbers;
+    lengths[3] = ZT_WORK_ENTRIES(nodes) - 1;
+    lengths[4] = ZT_WORK_ENTRIES(nodes) + 1;
+    lengths[5] = 1;
+    lengths[6] = 5 * numbers;
+    return lengths[calls++ % 7];
+}
+
+/* How many nodes a load may leave in a store. */
+static size_t most_nodes(const struct store *s)
+{
+    return s->level_len < ZT_MOST_NODES ? s->level_len : ZT_MOST_NODES;
+}
+
+/* Do two parts of the same call hold the same? */
+static int alike(const struct lent *a, const struct lent *b)
+{
+    return a->entries == 0 || memcmp(a->at, b->at, a->entries * a->width) == 0;
+}
+
+static int all_alike(const struct lent *a, const struct lent *b, size_t from, size_t to)
+{
+    for (; from <= to; from++)
+        if (!alike(&a[from], &b[from]))
+            return 0;
+    return 1;
+}
+
 /* Loads */
 
 static size_t width_of(enum load_part part)
@@ -12,6 +50,7 @@ static size_t width_of(enum load_part part)
     switch (part) {
     case LOAD_ROOTS: case LOAD_EDGES: return sizeof(zt_edge);
     case LOAD_SEATS: return sizeof(uint16_t);
+    case LOAD_WORK: return sizeof(zt_index);
     default: return sizeof(uint32_t);
     }
 }
@@ -66,7 +105,8 @@ static struct zt_load_answer load_with(const struct lent *p, uint16_t levels)
         p[LOAD_IDS].at, p[LOAD_IDS].entries, p[LOAD_ORDER].at, p[LOAD_ORDER].entries, p[LOAD_PERMIDS].at, p[LOAD_PERMIDS].entries,
         p[LOAD_AUXIDS].at, p[LOAD_AUXIDS].entries, p[LOAD_NAMES].at, p[LOAD_NAMES].entries, p[LOAD_LENS].at, p[LOAD_LENS].entries,
         p[LOAD_ROOTS].at, p[LOAD_ROOTS].entries, p[LOAD_ROOTNAMES].at, p[LOAD_ROOTNAMES].entries,
-        p[LOAD_ROOTLENS].at, p[LOAD_ROOTLENS].entries, p[LOAD_EDGES].at, p[LOAD_EDGES].entries, p[LOAD_SEATS].at, p[LOAD_SEATS].entries);
+        p[LOAD_ROOTLENS].at, p[LOAD_ROOTLENS].entries, p[LOAD_EDGES].at, p[LOAD_EDGES].entries, p[LOAD_SEATS].at, p[LOAD_SEATS].entries,
+        p[LOAD_WORK].at, p[LOAD_WORK].entries);
 }
 
 static int all_as_before(const struct lent *parts, size_t from, size_t to)
@@ -159,13 +199,36 @@ static void check_accepted(struct load *c, struct store *s)
         holds(magnitude_of(roots_of(c)[i]) >= 1 && magnitude_of(roots_of(c)[i]) <= s->count, "a root is an edge of the store");
 }
 
+static int same_load_answers(const struct zt_load_answer *a, const struct zt_load_answer *b)
+{
+    return a->refusal == b->refusal && a->line == b->line && a->ascii == b->ascii && a->varinfo == b->varinfo && a->ddstart == b->ddstart
+        && a->ddlen == b->ddlen && a->nnodes == b->nnodes && a->nvars == b->nvars && a->nsuppvars == b->nsuppvars && a->nroots == b->nroots
+        && a->next == b->next && a->lines == b->lines;
+}
+
+/* The same load without work gives the same. */
+static void load_without_work(const struct load *c, const struct store *s)
+{
+    struct load other = *c;
+
+    other.lens[LOAD_WORK] = 0;
+    lend_parts(&other, s);
+    other.answer = load_with(other.parts, s->levels);
+    holds(all_guards_hold(other.parts, LOAD_PARTS), "a load without work writes nothing beside its parts");
+    holds(same_load_answers(&c->answer, &other.answer), "a load without work answers the same");
+    holds(all_alike(c->parts, other.parts, LOAD_FILE, LOAD_SEATS), "a load without work leaves the same");
+    give_back(other.parts, LOAD_PARTS);
+}
+
 void call_load(struct load *c, struct store *s)
 {
+    c->lens[LOAD_WORK] = work_for(most_nodes(s));
     lend_parts(c, s);
     c->answer = load_with(c->parts, s->levels);
     holds(all_guards_hold(c->parts, LOAD_PARTS), "a load writes nothing beside its parts");
     holds(all_as_before(c->parts, LOAD_FILE, LOAD_LIST), "a load leaves the file and the level list as they were");
-    holds(all_zeros(c->parts, LOAD_EDGES, LOAD_SEATS), "scratch ends as zeros");
+    holds(all_zeros(c->parts, LOAD_EDGES, LOAD_WORK), "scratch and work end as zeros");
+    load_without_work(c, s);
     if (c->answer.refusal != 0)
         check_refused(c);
     else
@@ -202,24 +265,34 @@ static void lend_store(struct lent *p, const struct store *s)
 
 /* Evaluations */
 
-enum evaluate_part { EVALUATE_SETTING = STORE_PARTS, EVALUATE_PARTS };
+enum evaluate_part { EVALUATE_SETTING = STORE_PARTS, EVALUATE_WORK, EVALUATE_PARTS };
+
+static struct zt_evaluate_answer evaluate_with(const struct store *s, zt_edge root, const struct lent *p, const struct lent *work)
+{
+    return zt_evaluate(s->levels, s->count, p[STORE_LEVEL].at, p[STORE_LEVEL].entries, p[STORE_THEN].at, p[STORE_THEN].entries,
+        p[STORE_ELS].at, p[STORE_ELS].entries, p[STORE_NEXT].at, p[STORE_NEXT].entries, p[STORE_HEADS].at, p[STORE_HEADS].entries,
+        root, p[EVALUATE_SETTING].at, p[EVALUATE_SETTING].entries, work->at, work->entries);
+}
 
 struct zt_evaluate_answer call_evaluate(const struct store *s, zt_edge root, const uint8_t *setting, size_t setting_len)
 {
-    struct lent p[EVALUATE_PARTS];
-    struct zt_evaluate_answer a;
+    struct lent p[EVALUATE_PARTS], none = lend_room(0, sizeof(zt_index));
+    struct zt_evaluate_answer a, other;
 
     lend_store(p, s);
     p[EVALUATE_SETTING] = lend(setting, setting_len, sizeof *setting);
-    a = zt_evaluate(s->levels, s->count, p[STORE_LEVEL].at, p[STORE_LEVEL].entries, p[STORE_THEN].at, p[STORE_THEN].entries,
-        p[STORE_ELS].at, p[STORE_ELS].entries, p[STORE_NEXT].at, p[STORE_NEXT].entries, p[STORE_HEADS].at, p[STORE_HEADS].entries,
-        root, p[EVALUATE_SETTING].at, p[EVALUATE_SETTING].entries);
-    holds(all_guards_hold(p, EVALUATE_PARTS), "an evaluation writes nothing beside its parts");
-    holds(all_as_before(p, 0, EVALUATE_PARTS - 1), "an evaluation leaves all its parts as they were");
+    p[EVALUATE_WORK] = lend_room(work_for(s->count), sizeof(zt_index));
+    a = evaluate_with(s, root, p, &p[EVALUATE_WORK]);
+    other = evaluate_with(s, root, p, &none);
+    holds(all_guards_hold(p, EVALUATE_PARTS) && guards_hold(&none), "an evaluation writes nothing beside its parts");
+    holds(all_as_before(p, 0, EVALUATE_SETTING), "an evaluation leaves the store and the setting as they were");
+    holds(all_zeros(p, EVALUATE_WORK, EVALUATE_WORK), "work ends as zeros");
+    holds(a.refusal == other.refusal && a.line == other.line && a.answer == other.answer, "an evaluation without work answers the same");
     holds(a.line == 0, "an evaluation has line 0");
     holds(a.answer <= 1, "an evaluation answers 1 or 0");
     holds(a.refusal == 0 || a.answer == 0, "a refused evaluation answers 0");
     give_back(p, EVALUATE_PARTS);
+    give_back(&none, 1);
     return a;
 }
 
@@ -227,7 +300,7 @@ struct zt_evaluate_answer call_evaluate(const struct store *s, zt_edge root, con
 
 enum export_part {
     EXPORT_ROOTS = STORE_PARTS, EXPORT_ORDER, EXPORT_BYTES, EXPORT_STARTS, EXPORT_LENS, EXPORT_ROOTSTARTS, EXPORT_ROOTLENS,
-    EXPORT_SLOTS, EXPORT_NUMBERS, EXPORT_OUT,
+    EXPORT_SLOTS, EXPORT_NUMBERS, EXPORT_WORK, EXPORT_OUT,
     EXPORT_PARTS
 };
 
@@ -262,7 +335,7 @@ void fit_output(struct export *c, const struct store *s)
         + sum_of(n->rootlens, n->rootlens_len) + n->ddlen;
 }
 
-static void lend_export(const struct export *c, const struct store *s, struct lent *p)
+static void lend_export(const struct export *c, const struct store *s, size_t work, struct lent *p)
 {
     const struct names *n = &c->names;
 
@@ -276,6 +349,7 @@ static void lend_export(const struct export *c, const struct store *s, struct le
     p[EXPORT_ROOTLENS] = lend(n->rootlens, n->rootlens_len, sizeof *n->rootlens);
     p[EXPORT_SLOTS] = lend_room(c->slots_len, sizeof(zt_index));
     p[EXPORT_NUMBERS] = lend_room(c->numbers_len, sizeof(zt_index));
+    p[EXPORT_WORK] = lend_room(work, sizeof(zt_index));
     p[EXPORT_OUT] = lend_room(c->out_len, 1);
 }
 
@@ -288,18 +362,35 @@ static struct zt_export_answer export_with(const struct export *c, const struct 
         p[EXPORT_BYTES].at, p[EXPORT_BYTES].entries, p[EXPORT_STARTS].at, p[EXPORT_STARTS].entries,
         p[EXPORT_LENS].at, p[EXPORT_LENS].entries, p[EXPORT_ROOTSTARTS].at, p[EXPORT_ROOTSTARTS].entries,
         p[EXPORT_ROOTLENS].at, p[EXPORT_ROOTLENS].entries, p[EXPORT_SLOTS].at, p[EXPORT_SLOTS].entries,
-        p[EXPORT_NUMBERS].at, p[EXPORT_NUMBERS].entries, p[EXPORT_OUT].at, p[EXPORT_OUT].entries);
+        p[EXPORT_NUMBERS].at, p[EXPORT_NUMBERS].entries, p[EXPORT_OUT].at, p[EXPORT_OUT].entries,
+        p[EXPORT_WORK].at, p[EXPORT_WORK].entries);
+}
+
+/* The same export without work gives the same. */
+static void export_without_work(const struct export *c, const struct store *s, const struct lent *parts)
+{
+    struct lent p[EXPORT_PARTS];
+    struct zt_export_answer a;
+
+    lend_export(c, s, 0, p);
+    a = export_with(c, s, p);
+    holds(all_guards_hold(p, EXPORT_PARTS), "an export without work writes nothing beside its parts");
+    holds(a.refusal == c->answer.refusal && a.line == c->answer.line && a.len == c->answer.len, "an export without work answers the same");
+    holds(alike(&p[EXPORT_OUT], &parts[EXPORT_OUT]), "an export without work writes the same");
+    holds(all_zeros(p, EXPORT_SLOTS, EXPORT_NUMBERS), "marks of an export without work end as zeros");
+    give_back(p, EXPORT_PARTS);
 }
 
 void call_export(struct export *c, const struct store *s)
 {
     struct lent p[EXPORT_PARTS];
 
-    lend_export(c, s, p);
+    lend_export(c, s, work_for(s->count), p);
     c->answer = export_with(c, s, p);
+    export_without_work(c, s, p);
     holds(all_guards_hold(p, EXPORT_PARTS), "an export writes nothing beside its parts");
     holds(all_as_before(p, 0, EXPORT_ROOTLENS), "an export leaves what it reads as it was");
-    holds(all_zeros(p, EXPORT_SLOTS, EXPORT_NUMBERS), "marks end as zeros");
+    holds(all_zeros(p, EXPORT_SLOTS, EXPORT_WORK), "marks and work end as zeros");
     holds(c->answer.line == 0, "an export has line 0");
     holds(c->answer.refusal == 0 || c->answer.len == 0, "a refused export has length 0");
     if (holds(c->answer.len <= c->out_len, "a file lies inside its output"))

@@ -1,6 +1,7 @@
 /*
- * The three calls, each with all that holds of every call: guards stay, what is only read stays, scratch and marks end as zeros, a refusal
- * leaves zeros in every output and the store as it was, and an accepted load leaves a store that keeps the rules and has only grown.
+ * The three calls, each with all that holds of every call: guards stay, what is only read stays, scratch, marks and work end as zeros, a
+ * refusal leaves zeros in every output and the store as it was, and an accepted load leaves a store that keeps the rules and has only grown.
+ * Each is made once without work and once with some, of a length that changes from call to call: both give the same.
  */
 #ifndef CALLS_H
 #define CALLS_H
@@ -12,12 +13,12 @@
 #include "stores.h"
 #include "zonetweed.h"
 
-/* The parts of a load: those that are only read, the store's, the outputs, and the scratch. */
+/* The parts of a load: those that are only read, the store's, the outputs, the scratch, and the work. */
 enum load_part {
     LOAD_FILE, LOAD_LIST,
     LOAD_COUNT, LOAD_LEVEL, LOAD_THEN, LOAD_ELS, LOAD_NEXT, LOAD_HEADS,
     LOAD_IDS, LOAD_ORDER, LOAD_PERMIDS, LOAD_AUXIDS, LOAD_NAMES, LOAD_LENS, LOAD_ROOTS, LOAD_ROOTNAMES, LOAD_ROOTLENS,
-    LOAD_EDGES, LOAD_SEATS,
+    LOAD_EDGES, LOAD_SEATS, LOAD_WORK,
     LOAD_PARTS
 };
 

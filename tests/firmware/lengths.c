@@ -28,7 +28,7 @@ static void try_load_lengths(void)
 {
     size_t part;
 
-    for (part = LOAD_IDS; part < LOAD_PARTS; part++) {
+    for (part = LOAD_IDS; part <= LOAD_SEATS; part++) {
         load_with_part((enum load_part)part, -1, 1);
         load_with_part((enum load_part)part, 0, 0);
         load_with_part((enum load_part)part, 1, 0);

@@ -43,7 +43,7 @@
  *   calls on different stores always are, and so are evaluations and exports of one store while no load changes it.
  *
  * Stack
- *   The library takes no memory but the stack's: about 17 KB for a load, 24 KB for an export, 7 KB for an evaluation, whatever the parts hold
+ *   The library takes no memory but the stack's: about 16 KB for a load, 24 KB for an export, 7 KB for an evaluation, whatever the parts hold
  *   and however long they are. These were measured on x86-64, and are not proved.
  */
 #ifndef ZONETWEED_H

@@ -88,14 +88,14 @@ fn variable_code(p: u16, seat: u16) -> Code
 }
 
 // Writes the number that follows a code.
-fn put_number(out: &mut [u8], at: usize, code: Code, absolute: u16, distance: u16) -> usize
+fn put_number(out: &mut [u8], at: usize, code: Code, absolute: u64, distance: u64) -> usize
     requires { ⌜ FitsOut out at (numberFor code absolute distance) ⌝ }
     ensures { λ r. ⌜ Written out at (numberFor code absolute distance) r ⌝ }
 {
     match code {
         Code::Terminal => at,
-        Code::AbsoluteID => writers::binary::encode_7bit(out, at, absolute as u64),
-        Code::RelativeID => writers::binary::encode_7bit(out, at, distance as u64),
+        Code::AbsoluteID => writers::binary::encode_7bit(out, at, absolute),
+        Code::RelativeID => writers::binary::encode_7bit(out, at, distance),
         Code::Relative1 => at,
     }
 }
@@ -122,7 +122,13 @@ pub fn put_inner(out: &mut [u8], at: usize, n: Index, p: u16, t: Edge, e: Edge, 
     let else_by = child_code(n, els);
     let code = node_code(variable_by, then_by, edges::is_minus(e), else_by);
     let variable_at = writers::binary::write_escaped(out, at, code);
-    let then_at = put_number(out, variable_at, variable_by, p, distance(p, seat));
-    let else_at = put_number(out, then_at, then_by, then, n - then);
-    put_number(out, else_at, else_by, els, n - els)
+    let then_at = put_number(
+        out,
+        variable_at,
+        variable_by,
+        p as u64,
+        distance(p, seat) as u64,
+    );
+    let else_at = put_number(out, then_at, then_by, then as u64, (n - then) as u64);
+    put_number(out, else_at, else_by, els as u64, (n - els) as u64)
 }

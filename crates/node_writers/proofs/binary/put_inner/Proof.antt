@@ -103,8 +103,14 @@ write-escaped-requires c κs = omega (arith, long (c .before))
 distance-requires : tie.Need-distance-requires
 distance-requires c κs = search needs
 
+cast-put-number : tie.Need-cast-put-number
+cast-put-number c = search needs
+
 put-number-requires : tie.Need-put-number-requires
 put-number-requires c κs = rw (c .distance .ensures) (omega (arith, long (at-node-code (at-write-escaped c))))
+
+cast-put-number-2 : tie.Need-cast-put-number-2
+cast-put-number-2 c = search needs
 
 sub-put-number : tie.Need-sub-put-number
 sub-put-number c =
@@ -114,10 +120,16 @@ sub-put-number c =
       at-start (at-variable-code (node-code-before-put-number-arg2 c)) .pre .0,
     )
 
+cast-put-number-3 : tie.Need-cast-put-number-3
+cast-put-number-3 c = search needs
+
 put-number-requires-2 : tie.Need-put-number-requires-2
 put-number-requires-2 c κs =
     let v = rw (at-distance c .distance .ensures) at (c .before .before .before .put-number .ensures) in
     omega (arith, long (node-code-before-put-number-arg2 c))
+
+cast-put-number-4 : tie.Need-cast-put-number-4
+cast-put-number-4 c = search needs
 
 sub-put-number-2 : tie.Need-sub-put-number-2
 sub-put-number-2 c =
@@ -126,6 +138,9 @@ sub-put-number-2 c =
       else-is (at-variable-code (node-code-before-put-number-arg2 (at-put-number-arg2 c)) .before),
       start-before-put-number-arg3 c .pre .0,
     )
+
+cast-put-number-5 : tie.Need-cast-put-number-5
+cast-put-number-5 c = search needs
 
 put-number-requires-3 : tie.Need-put-number-requires-3
 put-number-requires-3 c κs =
@@ -158,10 +173,15 @@ put-inner-spec =
     node-code-requires
     write-escaped-requires
     distance-requires
+    cast-put-number
     put-number-requires
+    cast-put-number-2
     sub-put-number
+    cast-put-number-3
     put-number-requires-2
+    cast-put-number-4
     sub-put-number-2
+    cast-put-number-5
     put-number-requires-3
     same-length
     returns)

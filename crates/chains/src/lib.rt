@@ -1,9 +1,7 @@
 // The chains of a store: a node is found along the chain of its bucket, with no index.
 ghost use mathlib.Core.Path.{_≡_};
 ghost use Prim.Native.Nat.{ℕ, _≤_};
-ghost use lib.ListN.{length};
 ghost use Rattle.store.specs.Lent.{storeNow, oldStore};
-ghost use Rattle.store.specs.Store.{slots};
 ghost use Rattle.codes.specs.Limits.{limits};
 ghost use Rattle.store.specs.Rules.{Rules};
 ghost use Rattle.store.specs.Make as nodes;

@@ -1,5 +1,4 @@
 -- What today's limits hold to.
-use Prim.Native.Nat.{ℕ}
 use native.Mathlib.Omega.{arith}
 use Rattle.codes.specs.Limits.{limits, RoomForExports}
 

@@ -6,7 +6,6 @@ use mathlib.Core.List.{List}
 use lib.ListN.{length, replicate}
 use lib.IntN.{ℤ}
 use Rattle.codes.specs.Limits.{limits}
-use Rattle.store.specs.Store.{Store}
 use Rattle.codes.specs.Lent.{Part, old, new}
 use Rattle.store.specs.Lent.{oldStore, newStore}
 use Rattle.evaluation.specs.declared.Evaluation.{Evaluation}

@@ -7,7 +7,6 @@ use lib.Dec.{eqb}
 use Rattle.codes.specs.Limits.{varLimit}
 use Rattle.read_text.specs.Text.{Place}
 use Rattle.header_lines.specs.Sweep.{Span}
-use Rattle.header_keys.specs.declared.Key.{Key}
 use Rattle.header_keys.specs.declared.Key.the-variants.{Varnames, Suppvarnames, Orderedvarnames, Ids, Permids}
 use Rattle.variable_names.specs.Names.{sameNames, chosenPlaces, variableNames}
 use Rattle.header_values.specs.Values.{namesIn, u32sIn, nvarsIn, nsuppvarsIn}

@@ -1,6 +1,5 @@
 // Whether the lists of names agree about the support variables.
 ghost use mathlib.Core.Path.{_≡_};
-ghost use Prim.Native.Nat.{_≤_};
 ghost use lib.ListN.{length};
 ghost use mathlib.Core.List.{[], _∷_};
 ghost use Rattle.codes.specs.Faults.{firstFault, unless};

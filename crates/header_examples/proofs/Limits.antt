@@ -19,7 +19,7 @@ use Rattle.header_keys.specs.declared.Key.the-variants.{Nvars, Varnames, Ids, R
 use Rattle.header_faults.specs.Judge.{why, singleFault, u32ListFault, rootListFault, nameListFault, faultOf}
 use Rattle.header_values.specs.Values.{KnownKey}
 use Rattle.writers.specs.Words.{spaced}
-use Rattle.heading.specs.Lines.{HeaderLine, line}
+use Rattle.heading.specs.Lines.{HeaderLine}
 use Rattle.header.specs.Header.{refusal, readOf}
 use Rattle.reading_header.specs.Joined.{OnLine, withoutFront, withoutBack, trimmed}
 use Rattle.reading_header.specs.Spans.{lineValue}

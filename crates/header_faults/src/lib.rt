@@ -2,7 +2,7 @@
 ghost use mathlib.Core.Path.{_≡_};
 ghost use Prim.Native.Nat.{_+_, _<_, _^_};
 ghost use lib.ListN.{length};
-ghost use Rattle.header_faults.specs.Judge.{why, versionFault, modeFault, varinfoFault, textFault, singleFault, u32ListFault, rootListFault, nameListFault, faultOf};
+ghost use Rattle.header_faults.specs.Judge.{versionFault, modeFault, varinfoFault, textFault, singleFault, u32ListFault, rootListFault, nameListFault, faultOf};
 use codes::limits;
 use codes::refusal;
 use header_keys::Key;

@@ -1,8 +1,8 @@
 -- The lines of a header, and the last value of each key. Document 01, 'Header'.
 use mathlib.Core.Path.{_≡_}
 use Prim.Native.Nat.{ℕ, zero, suc, _+_, _-_, _≤_, _<_}
-use mathlib.Core.List.{List, [], _∷_, _++_, map}
-use mathlib.Core.Bool.{Bool, true, false, cond}
+use mathlib.Core.List.{List, [], _∷_, map}
+use mathlib.Core.Bool.{true, false, cond}
 use lib.ListN.{length, take, drop, getD}
 use lib.Dec.{ltb, eqb}
 use Rattle.read_lines.specs.Line.{lineOf, fieldOf}
@@ -10,7 +10,7 @@ use Rattle.read_lines.specs.declared.Field.{Field}
 use Rattle.header_keys.specs.Keys.{keyOf, slotOf}
 use Rattle.header_faults.specs.Judge.{faultOf}
 use Rattle.header_keys.specs.declared.Key.{Key}
-use Rattle.header_keys.specs.declared.Key.the-variants.{Ver, Mode, Varinfo, Dd, Nnodes, Nvars, Nsuppvars, Nroots, Nodes, Varnames, Suppvarnames, Orderedvarnames, Ids, Permids, Auxids, Rootids, Rootnames, Unknown}
+use Rattle.header_keys.specs.declared.Key.the-variants.{Ver, Mode, Varinfo, Dd, Nnodes, Nvars, Nsuppvars, Nroots, Nodes, Varnames, Suppvarnames, Orderedvarnames, Ids, Permids, Auxids, Rootids, Rootnames}
 use Rattle.header_lines.specs.declared.Step.{Step}
 use Rattle.header_lines.specs.declared.Step.the-variants as step
 

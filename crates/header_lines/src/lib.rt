@@ -3,7 +3,7 @@
 ghost use mathlib.Core.Path.{_≡_};
 ghost use mathlib.Core.List.{map};
 ghost use Prim.Native.Nat.{_+_, _≤_, _<_};
-ghost use lib.ListN.{length, set, replicate};
+ghost use lib.ListN.{length, replicate};
 ghost use Rattle.codes.specs.Limits.{inputLimit};
 ghost use Rattle.header_lines.specs.Kinds.{ofSwept};
 ghost use Rattle.header_lines.specs.Sweep.{keys, stepAt, linesOf, endOf, sound, lasts, spanStart, spanEnd, StepWithin, EndWithin, Table};

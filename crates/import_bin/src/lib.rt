@@ -1,6 +1,6 @@
 // Node lines in binary.
 ghost use mathlib.Core.Path.{_≡_};
-ghost use Prim.Native.Nat.{_-_, _≤_, _<_, _^_};
+ghost use Prim.Native.Nat.{_-_, _≤_, _<_};
 ghost use lib.ListN.{length, getD};
 ghost use Rattle.edges.specs.Width.{edgeLimit, positionLimit};
 ghost use Rattle.codes.specs.Answer.{then};

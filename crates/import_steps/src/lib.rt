@@ -1,7 +1,7 @@
 // The small steps of an import: a line of either mode, the edge of a child, the line of a refusal, the end of the file, the roots.
 ghost use mathlib.Core.Path.{_≡_};
 ghost use mathlib.Core.Bool.{cond};
-ghost use Prim.Native.Nat.{_≤_, _<_, _^_};
+ghost use Prim.Native.Nat.{_≤_, _<_};
 ghost use lib.IntN.{natAbs};
 ghost use lib.ListN.{length, drop};
 ghost use Rattle.edges.specs.Width.{edgeLimit, positionLimit};

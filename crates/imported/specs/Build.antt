@@ -1,8 +1,8 @@
 -- Node lines made into the store, one after the other. Document 01, 'Store and meaning', and 'Whoever filled the store': '40° a line needs a
 -- new node and every slot lent, or 32,767, is used'.
-use Prim.Native.Nat.{ℕ, suc, _+_, _-_, _^_, _≤_, _<_}
+use Prim.Native.Nat.{ℕ, _+_, _-_, _≤_, _<_}
 use mathlib.Core.Path.{_≡_}
-use mathlib.Core.Bool.{Bool, true}
+use mathlib.Core.Bool.{true}
 use mathlib.Core.List.{List, [], _∷_, _++_}
 use lib.ListN.{length, getD, replicate}
 use lib.IntN.{ℤ, pos, negsuc, negℤ, natAbs}

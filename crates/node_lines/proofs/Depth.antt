@@ -6,7 +6,7 @@ use Prim.Native.Nat.{ℕ, suc, _-_, _≤_, zero-le}
 use lib.Dec.{ltb}
 use lib.ListN.{length, getD, List·getD-eq-default}
 use borrow.Author.Tests.{le-ltb}
-use Rattle.node_lines.specs.Line.{deeper, seatDeeper}
+use Rattle.node_lines.specs.Line.{deeper}
 
 module _ (levels seats : List ℕ) (l n : ℕ) where
   -- a terminal line

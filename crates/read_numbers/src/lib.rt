@@ -1,7 +1,6 @@
 // Numbers in decimal digits.
 ghost use mathlib.Core.Path.{_≡_};
 ghost use Prim.Native.Nat.{_+_, _^_, _≤_};
-ghost use lib.ListN.{length};
 ghost use Rattle.read_numbers.specs.Number.{number, single, first};
 ghost use Rattle.read_numbers.specs.Kinds.{of32, of64, ofFirst32, ofFirst64, Fits32};
 use codes::refusal;

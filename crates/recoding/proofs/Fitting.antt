@@ -20,7 +20,7 @@ use Rattle.exported.proofs.Started.{exported}
 use Rattle.header.specs.Header as head
 use Rattle.calls.specs.Load.{Loaded}
 use Rattle.calls.specs.Calls.{Export, exportFaultOf, Exports}
-use Rattle.recoding.specs.Recode.{Recoded, written, refusal, inputMost, headRead, reloadOf, ofRead, RefusesFile, ExportingAgain, Reloads, Heads, Sized, Recodes}
+use Rattle.recoding.specs.Recode.{Recoded, written, refusal, inputMost, headRead, reloadOf, RefusesFile, ExportingAgain, Reloads, Heads, Sized, Recodes}
 
 module _ (x : Export) (σ : Store) (r : Exported) (out : List ℕ) {n : ℕ} (is : ofExported r ≡ value n) where
   -- a file that is written is no longer than the export size, which the output has

@@ -18,7 +18,7 @@ use Rattle.header.specs.declared.Loaded.the-variants as loaded
 use Rattle.calls.specs.Calls.{Export}
 use Rattle.calls.specs.Load.{Parts, parts, lengthsOf, Loaded, loadInto, partsOf, loadOf}
 use Rattle.recode_levels.specs.Levels.{JudgedLevels}
-use Rattle.recoding.specs.Recode.{slotsLent, longLists, loadAt, loadedAt, exportWith, exportOf, Recoded, refusal, ExportingAgain, RefusesFile, Reloads}
+use Rattle.recoding.specs.Recode.{slotsLent, longLists, loadAt, loadedAt, exportWith, exportOf, Recoded, refusal, ExportingAgain, Reloads}
 use Rattle.recoding.proofs.Said.{Says, load-says}
 
 -- the parts that are lent, and the store

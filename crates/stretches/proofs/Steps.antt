@@ -8,10 +8,10 @@ use lib.IntN.{ℤ}
 use Rattle.store.specs.Store.{Store, store, nextAt}
 use Rattle.store.specs.Rules.{bucket}
 use Rattle.store.proofs.Chain.{Linked, newest-le, newest-own, newest-gap}
-use Rattle.stretches.specs.Chained.{linkedSlots, Descends, Chained, nodeAfter, metAfter}
+use Rattle.stretches.specs.Chained.{linkedSlots, ChainsDescend, Chained, nodeAfter, metAfter}
 
 -- chains that hold just their buckets, newest first, fall so
-linked-falls : (σ : Store) → Linked σ → Descends σ
+linked-falls : (σ : Store) → Linked σ → ChainsDescend σ
 linked-falls σ L = record {
   lower = λ n p h. omega (arith, L .next n p h, newest-le σ (bucket σ n) (n - 1));
   node = λ n p h z. rw (L .next n p h) (newest-own σ (bucket σ n) (n - 1) (rw (L .next n p h) at z) .0);
@@ -21,7 +21,7 @@ linked-falls σ L = record {
 
 -- which is a matter of the slots only
 pub slots-fall : (count : ℕ) (level : List ℕ) (then els : List ℤ) (next heads : List ℕ)
-    → Linked (store 0 count level then els next heads) → Descends (linkedSlots count level then els next)
+    → Linked (store 0 count level then els next heads) → ChainsDescend (linkedSlots count level then els next)
 unfolding bucket
 slots-fall count level then els next heads L =
     let F = linked-falls (store 0 count level then els next heads) L in
@@ -34,7 +34,7 @@ module _ (σ : Store) where
   after-node zero h = absurd (omega arith)
   after-node (suc n) h = refl
 
-  after-low : Descends σ → (n : ℕ) → (0 < n → 2 ≤ n) → n ≤ σ .count → nodeAfter σ n ≤ n
+  after-low : ChainsDescend σ → (n : ℕ) → (0 < n → 2 ≤ n) → n ≤ σ .count → nodeAfter σ n ≤ n
   unfolding nodeAfter
   after-low F zero p h = omega arith
   after-low F (suc n) p h = omega (arith, F .lower (suc n) (p (omega arith)) h)

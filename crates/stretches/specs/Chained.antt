@@ -30,7 +30,7 @@ abbrev pub linkedOld : ℕ → Part (List ℕ) → Part (List ℤ) → Part (Lis
 linkedOld count level then els next = linkedSlots count (old level) (old then) (old els) (old next)
 
 -- After a node comes the next older node of its bucket, or 0.
-pub record Descends (σ : Store) : Type 0 where
+pub record ChainsDescend (σ : Store) : Type 0 where
   pub lower : (n : ℕ) → 2 ≤ n → n ≤ σ .count → nextAt σ n < n
   pub node : (n : ℕ) → 2 ≤ n → n ≤ σ .count → 0 < nextAt σ n → 2 ≤ nextAt σ n
   pub mine : (n : ℕ) → 2 ≤ n → n ≤ σ .count → 0 < nextAt σ n → bucket σ (nextAt σ n) ≡ bucket σ n
@@ -42,7 +42,7 @@ pub record Chained (σ : Store) (n : ℕ) : Type 0 where
   pub then-long : σ .count ≤ length (σ .then)
   pub els-long : σ .count ≤ length (σ .els)
   pub next-long : σ .count ≤ length (σ .next)
-  pub falls : Descends σ
+  pub falls : ChainsDescend σ
   pub high : n ≤ σ .count
   pub node : 0 < n → 2 ≤ n
 

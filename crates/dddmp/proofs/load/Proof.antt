@@ -1,10 +1,8 @@
 -- `load` meets its contract: what the functions of the stages promise, put together by the laws of `Loading`.
 use mathlib.Core.Path.{_≡_, refl, ap, _∙_}
-use mathlib.Core.List.{List, map}
+use mathlib.Core.List.{map}
 use lib.ListN.{length, replicate}
-use lib.IntN.{ℤ, pos}
 use Rattle.codes.specs.Limits.{limits}
-use Rattle.codes.specs.Lent.{laid}
 use Rattle.read_text.specs.Text.{startOf, lenOf}
 use Rattle.store.specs.Store.{Store, store}
 use Rattle.header.specs.Kinds.{ofLoaded}

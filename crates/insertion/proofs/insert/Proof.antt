@@ -1,6 +1,6 @@
 -- `insert` meets its contract: the three ways out are the three of its definition, by what was found and by whether there is room; and the
 -- index knows the node that is made.
-use mathlib.Core.Path.{_≡_, refl, sym, _∙_}
+use mathlib.Core.Path.{_≡_, sym, _∙_}
 use Prim.Native.Nat.{_≤_}
 use borrow.Author.Needs.{needs}
 use borrow.Author.Tests.{not-true, not-false}

@@ -1,5 +1,4 @@
 -- `look_up` meets its contract: a search of the index, or along the chain, finds what the definition's search finds.
-use mathlib.Core.Path.{_≡_, sym}
 use native.Mathlib.Omega.{arith}
 use borrow.Author.Needs.{needs}
 use Rattle.edges.specs.Width.{edgeWidth}

@@ -1,5 +1,5 @@
 -- `id_at` meets its contract: each arm is a case of `idAt`.
-use mathlib.Core.Path.{sym, ap, _∙_}
+use mathlib.Core.Path.{sym, _∙_}
 use borrow.Author.Needs.{needs}
 use Rattle.line_numbers.proofs.Children.{number-as, id-terminal, id-absolute, id-relative, id-one-before}
 use Rattle.line_numbers.proofs.id_at.Statement.{statement}

@@ -1,5 +1,5 @@
 -- `keeps_rules` meets its contract: a part that says no breaks a rule, and where all parts but the last say yes the last one decides.
-use mathlib.Core.Path.{_≡_, refl, sym, _∙_}
+use mathlib.Core.Path.{refl, sym}
 use mathlib.Core.Bool.{true≢false}
 use mathlib.Core.List.{[]}
 use borrow.Author.Needs.{needs}

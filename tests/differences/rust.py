@@ -21,7 +21,8 @@ inputs.tsv has an input a line, columns between tabs, `-` for none:
 tests/differences.test holds the table to the document, and the tests of the library for C load each input.
 
 In tests/export/differences.tsv the columns 20 and 23, 24 are: the entry; `ok` or `err`, what the Rust returns; and a line that the Rust's file
-has, or `no KEY` for a key that it doesn't have, or `-`. Where the judge, column 21, is the Rust, its file must be the stored one.
+has, or `no KEY` for a key that it doesn't have, or `-`. Where the judge, column 21, is the Rust, its file must be the stored one, up to the
+order inside a level: its lines are brought into the order of first meeting before (`in_order` of tests/export/lines.py).
 """
 import os
 import re
@@ -33,6 +34,7 @@ ROOT = os.path.dirname(os.path.dirname(HERE))
 sys.path[:0] = [os.path.join(ROOT, "tests", x) for x in ("cases", "export")]
 import oracle  # noqa: E402
 import rust_cases as export_cases  # noqa: E402
+from lines import in_order  # noqa: E402
 
 RUST_FOLDER = "build/oracle"
 NAMED = {"n": b"\n", "r": b"\r", "t": b"\t"}
@@ -135,7 +137,7 @@ def main():
             wrong += 1
             print("%s %s levels %s: the Rust %s, with overflow checks %s, document 01 %s" % (row[9], row[0], row[1], plain, checked, document))
     for row, result, file in exports(written):
-        same = row[20] != "rust" or file == bytes.fromhex(row[18])
+        same = row[20] != "rust" or in_order(file) == bytes.fromhex(row[18])
         if result != row[22] or not shows(file, row[23]) or not same:
             wrong += 1
             print("%s: the Rust returns %s, and writes %r" % (row[19], result, file))

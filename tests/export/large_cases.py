@@ -5,8 +5,9 @@
 
 ORACLE is the folder of the compiled Rust, OUTDIR the folder to write to. A store isn't stored but made by a rule, which this script and
 tests/firmware/replay_large.c follow; and of the file that the Rust writes from it only the length is stored, and the CRC-32 of each block of
-4,096 bytes, the last one perhaps shorter. The Rust's files are left in OUTDIR. Lines inside a level stand in the order of the walk's first
-meeting, which the Rust over its plain manager has too, so the digests are of the bytes as they are.
+4,096 bytes, the last one perhaps shorter. The files are left in OUTDIR. Document 02 fixes the order of lines inside a level; in the Rust it
+follows a hash map. So the Rust is matched up to that order: its lines of one level are brought into the order of first meeting (`in_order`
+of lines.py), and the digests are of the file in that form.
 
 The rule. A draw takes the next x = 1664525 x + 1013904223 modulo 2^32, starting from the seed, and draw(n) is (x / 65536) modulo n. Nodes are
 made from number 2 on, the first at the deepest level. Before each further node, where it or the node before it is pinned, or else where
@@ -46,6 +47,7 @@ import zlib
 sys.path.insert(0, os.path.join(os.path.dirname(os.path.abspath(__file__)), "..", "cases"))
 import oracle  # noqa: E402
 from binary import met  # noqa: E402
+from lines import in_order  # noqa: E402
 from record import DOCUMENT, RUST, Record  # noqa: E402
 
 BLOCK = 4096
@@ -247,7 +249,7 @@ def main():
     commands = [case.command("store%d.dddmp" % plans.index(case.plan)) for case in cases]
     for k, (case, said) in enumerate(zip(cases, oracle.answers(oracle.program(folder), commands, outdir))):
         assert said[0] == "ok", (case.source, said[0])
-        case.answer(bytes.fromhex(said[1][len("bytes "):]))
+        case.answer(in_order(bytes.fromhex(said[1][len("bytes "):])))
         assert case.refusal or case.nnodes == case.plan.count, "not every node is reached"
         with open(os.path.join(outdir, "file%d.dddmp" % k), "wb") as f:
             f.write(case.file)

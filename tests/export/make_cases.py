@@ -7,8 +7,8 @@ OUTDIR is the folder to write to. CASES are lists of exports, a case a line, col
 (level count, count, the slot lists level, then, else, next, the number of bucket heads, those that aren't 0 as `bucket:head`); the roots;
 the variable order; the mode, A or B; the version, 2 or 3; the variables' names and the roots' names, in hexadecimal, `empty` for an empty
 name; the diagram's name; the length of the output; the length of each list of marks; the refusal, 0 for none; the bytes written; the
-source, the judge and the reason, as tests/cases/record.py has them. Lines inside a level stand in the order of the walk's first meeting,
-which the Rust over its plain manager has too.
+source, the judge and the reason, as tests/cases/record.py has them. Lines inside a level stand in the order of the walk's first meeting, as
+document 02 wants them; rust_cases.py brings those of the Rust into that order.
 
 rust_cases.py makes such lists. differences.tsv, beside this script, has the inputs E1 to E7 of docs/DIFFERENCES.md; tests/differences/rust.py
 describes its further columns. The same lists give the same cases, byte for byte.

@@ -12,7 +12,11 @@ Left out of these are lenient exports, files outside the comparison (lines whose
 nodes differently), and exports with some unnamed variables, which the Rust writes without names and document 01 refuses.
 
 EXPORT is a list of exports from given stores, as tests/vectors/README.md describes it. Each that document 01 writes or refuses for a name
-is put to the Rust, which reads the store from a file; the Rust must write the same bytes, or return an error where document 01 refuses.
+is put to the Rust, which reads the store from a file; the Rust must write the same file up to the order inside a level, or return an error
+where document 01 refuses.
+
+Document 02 fixes the order of lines inside a level; in the Rust it follows a hash map. So the Rust is matched up to that order: its lines of
+one level are brought into the order of first meeting (`in_order` of lines.py) before its file is compared or stored.
 
 Two lists are written to OUTDIR: stored.tsv, which is EXPORT, and generated.tsv. Both have a case a line, in the columns that make_cases.py
 describes. The same files give the same lists.
@@ -24,6 +28,7 @@ import tempfile
 
 sys.path.insert(0, os.path.join(os.path.dirname(os.path.abspath(__file__)), "..", "cases"))
 import oracle  # noqa: E402
+from lines import in_order  # noqa: E402
 from record import DOCUMENT, RUST  # noqa: E402
 
 BUCKETS = 256
@@ -122,11 +127,16 @@ def are_texts(columns):
     return len(variables) in (0, int(columns[0])) and len(roots) in (0, wanted)
 
 
+def written(answer):
+    """The file that the Rust wrote, its lines of one level in the order of first meeting."""
+    return in_order(bytes.fromhex(answer[1][len("bytes "):]))
+
+
 def judge(columns, answer):
     """Who judges an export that was put to the Rust, and why. Stops where the Rust differs in a way that has no entry."""
     variables, roots, dd = (name_texts(x) for x in columns[12:15])
     if columns[17] == "0":
-        assert answer == ["ok", "bytes " + columns[18].replace("-", "", columns[18] == "-")], (columns, answer)
+        assert answer[0] == "ok" and written(answer).hex() == columns[18], (columns, answer)
         return [RUST, "-"]
     if answer[0].startswith("err export InvalidInput"):
         return [RUST, "-"]
@@ -206,7 +216,7 @@ def main():
         nexts, heads = linked(m["nodes"], slots)
         size = 256 + 32 * count + 24 * levels + 16 * len(m["edges"])
         size += 3 * sum(len(x) // 2 for x in variables) + sum(len(x) // 2 for x in roots) + len(dd) // 2
-        data = bytes.fromhex(answer[1][6:]) if answer[0] == "ok" else b""
+        data = written(answer) if answer[0] == "ok" else b""
         row = [levels, count, *map(listed, lists), listed(nexts), BUCKETS]
         row += [",".join("%d:%d" % x for x in enumerate(heads) if x[1]) or "-", listed(m["edges"]), listed(order)]
         row += [o.get("--mode", "B"), o.get("--version", "2"), named(variables), named(roots), dd or "-"]

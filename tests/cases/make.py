@@ -1,5 +1,5 @@
 #!/usr/bin/env python3
-"""Makes all stored cases again, with the Rust: those of the programs `vectors_*`, and those that tests/firmware replays.
+"""Makes all stored cases again, with the Rust: those of the programs `vectors_*`, those that tests/firmware replays, and what `recode` writes.
 
     python3 tests/cases/make.py ORACLE [install]
 
@@ -36,7 +36,7 @@ DATA = ("cases.bin", "falsified.bin", "cut.bin")
 # The generated files: folder, and the words for gen.py (seed, rounds).
 GENERATED = {"short": ("7", "1", "--short"), "seed7": ("7", "100")}
 LOAD, ROOM, STORES, EVALUATE, EXPORT = ("tests/vectors/%s.tsv" % x for x in ("load", "room", "stores", "evaluate", "export"))
-FILES = "tests/vectors/files"
+FILES, RECODED, ORDER = "tests/vectors/files", "tests/vectors/recoded", "tests/vectors/02/order.tsv"
 
 
 def run(script, *words, output=None):
@@ -81,6 +81,8 @@ def make():
     run("tests/export/rust_cases.py", RUST_FOLDER, folder("seed7"), LOAD, FILES, EXPORT, folder("exports"))
     made["exports"] = run("tests/export/make_cases.py", folder("exports"), *lists, "tests/export/differences.tsv")
     made["large"] = run("tests/export/large_cases.py", RUST_FOLDER, folder("large"))
+    run("tests/export/recode_cases.py", RUST_FOLDER, FILES, folder("recoded"))
+    run("tests/export/order_cases.py", os.path.join(folder("02"), "order.tsv"))
     return {name: falsified(report) for name, report in made.items()}
 
 
@@ -212,6 +214,8 @@ def placed(cases, false):
                 files[place + name] = f.read()
         count = sum(c.replay == replay for c in cases)
         files[output] = expected_output(output, count, false[replay]).encode()
+    files.update((os.path.join(RECODED, name), content(os.path.join(OUT, "recoded", name))) for name in sorted(os.listdir(FILES)))
+    files[ORDER] = content(os.path.join(OUT, "02", "order.tsv"))
     files["tests/cases/INDEX.tsv"] = index_text(cases).encode()
     files["tests/cases/COVERAGE.md"] = coverage_text(cases).encode()
     return files
@@ -242,8 +246,10 @@ def totals(cases):
 
 def report(cases, files, same):
     print("\n" + files["tests/cases/COVERAGE.md"].decode())
-    for path, is_same in same.items():
+    few = {path: is_same for path, is_same in same.items() if not (is_same and path.startswith(RECODED))}
+    for path, is_same in few.items():
         print("%s: %s, %d bytes" % (path, "as it stands in the repository" if is_same else "ANOTHER ONE stands in the repository", len(files[path])))
+    print("%s: %d files as they stand in the repository" % (RECODED, len(same) - len(few)))
     totals(cases)
 
 

@@ -46,6 +46,13 @@ void setting_of(size_t k, size_t levels, uint8_t *setting);
 /* vectors.c: makes a stored load, and holds it to what is stored */
 void hold_load(const struct load_vector *v);
 
+/* vectors.c: after `expect_failures`, something didn't hold of a changed case; one more was changed */
+void must_be_noticed(const char *change);
+
+/* lists.c: lists of calls on one store, and changed ones */
+void try_lists(void);
+void change_lists(void);
+
 /* replay_loads.c, replay_exports.c, replay_large.c: the stored cases in binary files, and falsified ones */
 void try_stored_loads(void);
 void try_stored_exports(void);
@@ -59,12 +66,22 @@ struct export_vector {
     struct export call;
     /* what the export must give */
     unsigned refusal;
+    size_t file_len;
     struct bytes file;
 };
 
-/* Reads the cases of `export.tsv`; 0 after the last one. */
+/* Reads the cases of `export.tsv` or of a table of `02`; 0 after the last one. */
 int next_export(struct table *t, struct export_vector *v);
 void drop_export(struct export_vector *v);
+
+/* Makes a stored export, and holds it to what is stored. */
+void hold_export(struct export_vector *v);
+
+/*
+ * swapped.c: a file of text in which two lines of one level change places, their numbers with them, in memory of its own. It says the same as
+ * before. A file that has no two such lines gives no bytes.
+ */
+struct bytes swapped_lines(const struct bytes *file);
 
 /* back.c */
 void try_reading_back(void);

@@ -49,23 +49,6 @@ static void read_load(char **column, struct load_vector *v)
     v->answers = column[8];
 }
 
-/* The store after an accepted load: count, the four slot lists, the heads. */
-static struct store store_after(char **column, const struct store *before)
-{
-    struct store s;
-
-    s.levels = before->levels;
-    s.count = (zt_index)number_in(column[0]);
-    s.level = unsigned_list(column[1], &s.level_len);
-    s.then = signed_list(column[2], &s.then_len);
-    s.els = signed_list(column[3], &s.els_len);
-    s.next = unsigned_list(column[4], &s.next_len);
-    s.heads_len = ZT_BUCKETS;
-    s.heads = room(s.heads_len * sizeof *s.heads);
-    heads_in(column[5], s.heads, s.heads_len);
-    return s;
-}
-
 /* The list that is too short is another one for each line. */
 static void read_room(char **column, size_t line, struct load_vector *v)
 {
@@ -79,7 +62,7 @@ static void read_room(char **column, size_t line, struct load_vector *v)
     v->refusal = (unsigned)number_in(column[12]);
     v->line = (size_t)number_in(column[13]);
     v->roots = signed_list(column[14], &v->roots_len);
-    v->after = v->refusal == 0 ? store_after(column + 15, &v->before) : copy_of(&v->before);
+    v->after = v->refusal == 0 ? store_after(column + 15, v->before.levels) : copy_of(&v->before);
     v->answers = "-";
 }
 

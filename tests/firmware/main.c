@@ -38,6 +38,7 @@ static void try_all(size_t damaged)
     try_stores();
     try_evaluations();
     try_exports();
+    try_lists();
     try_stored_loads();
     try_stored_exports();
     try_large_exports();

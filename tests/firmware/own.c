@@ -170,11 +170,33 @@ static void try_rules(void)
     drop_store(&s);
 }
 
+/* The lines 9 and 10 share a level. They change places, and with them their numbers, which aren't equally long. */
+static void try_swapping(void)
+{
+    static const char text[] = ".mode A\n.rootids 11 -9 10\n.nodes\n1 T 0 0\n2 9 1 -1\n3 8 2 1\n4 7 3 1\n5 6 4 1\n6 5 5 1\n7 4 6 1\n8 3 7 1\n"
+        "9 2 8 1\n10 2 8 -1\n11 1 10 -9\n.end\n";
+    static const char swapped[] = ".mode A\n.rootids 11 -10 9\n.nodes\n1 T 0 0\n2 9 1 -1\n3 8 2 1\n4 7 3 1\n5 6 4 1\n6 5 5 1\n7 4 6 1\n"
+        "8 3 7 1\n9 2 8 -1\n10 2 8 1\n11 1 9 -10\n.end\n";
+    struct bytes file, other, none;
+
+    case_is("two lines of one level that are swapped");
+    file.at = (uint8_t *)text;
+    file.len = sizeof text - 1;
+    other = swapped_lines(&file);
+    holds(other.len == sizeof swapped - 1 && memcmp(other.at, swapped, other.len) == 0, "the file is the one that is expected");
+    free(other.at);
+    file.at = (uint8_t *)plan;
+    file.len = strlen(plan);
+    none = swapped_lines(&file);
+    holds(none.len == 0, "the example has no two lines of one level");
+}
+
 void try_own_tools(void)
 {
     try_parts();
     try_rules();
+    try_swapping();
     try_plan();
     try_header();
-    group_done("own tools, document 01's example, a header", 4);
+    group_done("own tools, document 01's example, a header", 5);
 }

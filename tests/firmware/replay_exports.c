@@ -1,9 +1,5 @@
 /* The stored exports of `exports`: every byte that each writes, and what comes back when the file is loaded again. */
-#include <stdlib.h>
-#include <string.h>
-
 #include "groups.h"
-#include "report.h"
 #include "stored.h"
 
 /* Numbers of a head, after those of the store, and the parts that follow it. */
@@ -50,29 +46,15 @@ static void read_export(const struct stored *c, struct export_vector *v)
     v->call.out_len = wide_in(head + OUT_LEN);
     v->refusal = head[REFUSAL];
     v->file = take_bytes(&file, file.len);
+    v->file_len = v->file.len;
 }
 
-static int has_bytes(const struct export *e, const struct bytes *file)
-{
-    return e->answer.len == file->len && (file->len == 0 || memcmp(e->out.at, file->at, file->len) == 0);
-}
-
-/* The stored files have the order of lines that the Rust gives them, and so has the library: bytes are compared as they are. */
 static void hold_stored_export(const struct stored *c)
 {
     struct export_vector v;
-    struct export *e = &v.call;
 
     read_export(c, &v);
-    call_export(e, &v.store);
-    holds(e->answer.refusal == v.refusal, "the refusal is the stored one");
-    if (v.refusal == 0)
-        holds(has_bytes(e, &v.file), "the file is the stored one, byte for byte");
-    if (e->answer.refusal == 0) {
-        hold_back(&v.store, v.roots, e->roots_len, e->out.at, e->answer.len);
-        hold_header_back(e, &v.store);
-    }
-    done_exporting(e);
+    hold_export(&v);
     drop_export(&v);
 }
 

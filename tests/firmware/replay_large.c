@@ -233,7 +233,7 @@ static uint32_t digest_of(const uint8_t *bytes, size_t len)
     return crc ^ 0xffffffff;
 }
 
-/* Has each block of the file the stored digest? The bytes are compared as they are, so the order of lines inside a level is the Rust's. */
+/* Has each block of the file the stored digest? These are of the Rust's file with its lines of one level in the order of first meeting. */
 static int has_digests(const struct export *e, struct bytes part, size_t blocks)
 {
     uint32_t *digests = take_wide_list(&part, blocks);

@@ -53,8 +53,7 @@ struct table open_table(const char *folder, const char *name)
     return t;
 }
 
-/* The text up to a mark, which becomes its end. Moves behind the mark. */
-static char *cut(char **rest, char mark)
+char *cut(char **rest, char mark)
 {
     char *from = *rest, *end = strchr(from, mark);
 
@@ -147,6 +146,20 @@ uint16_t *unsigned_list(const char *column, size_t *count)
 int16_t *signed_list(const char *column, size_t *count)
 {
     return (int16_t *)unsigned_list(column, count);
+}
+
+uint32_t *wide_list(const char *column, size_t *count)
+{
+    size_t n = entries_in(column), i;
+    uint32_t *list = room(n * sizeof *list);
+
+    for (i = 0; i < n; i++) {
+        list[i] = (uint32_t)number_in(column);
+        if (i + 1 < n)
+            column = entry_after(column);
+    }
+    *count = n;
+    return list;
 }
 
 static uint8_t digit_in(char c)
@@ -274,5 +287,21 @@ struct store store_in(char **columns)
     s.heads_len = (size_t)number_in(columns[6]);
     s.heads = room(s.heads_len * sizeof *s.heads);
     heads_in(columns[7], s.heads, s.heads_len);
+    return s;
+}
+
+struct store store_after(char **columns, uint16_t levels)
+{
+    struct store s;
+
+    s.levels = levels;
+    s.count = (zt_index)number_in(columns[0]);
+    s.level = unsigned_list(columns[1], &s.level_len);
+    s.then = signed_list(columns[2], &s.then_len);
+    s.els = signed_list(columns[3], &s.els_len);
+    s.next = unsigned_list(columns[4], &s.next_len);
+    s.heads_len = ZT_BUCKETS;
+    s.heads = room(s.heads_len * sizeof *s.heads);
+    heads_in(columns[5], s.heads, s.heads_len);
     return s;
 }

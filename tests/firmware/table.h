@@ -7,7 +7,7 @@
 
 #include "stores.h"
 
-enum { MOST_COLUMNS = 24 };
+enum { MOST_COLUMNS = 32 };
 
 /* A whole file in memory. */
 struct bytes {
@@ -34,6 +34,9 @@ struct table open_table(const char *folder, const char *name);
 int next_line(struct table *t, size_t width, size_t other_width);
 void close_table(struct table *t);
 
+/* The text up to a mark, which becomes its end, or all that is left. Moves behind the mark. */
+char *cut(char **rest, char mark);
+
 /* What a column says. */
 long number_in(const char *column);
 size_t entries_in(const char *column);
@@ -41,6 +44,7 @@ size_t entries_in(const char *column);
 /* A list between commas. Answers its entries in memory of their own, and how many there are. */
 uint16_t *unsigned_list(const char *column, size_t *count);
 int16_t *signed_list(const char *column, size_t *count);
+uint32_t *wide_list(const char *column, size_t *count);
 
 /* Bytes in hexadecimal digits; `empty` and `-` for none. */
 struct bytes bytes_in(const char *column, size_t len);
@@ -50,6 +54,9 @@ struct bytes spelled_in(const char *column);
 
 /* A store in eight columns from this one on. */
 struct store store_in(char **columns);
+
+/* A store after a call, in six columns: its count, the four slot lists, the heads. It has so many levels. */
+struct store store_after(char **columns, uint16_t levels);
 
 /* Heads that aren't 0, as `bucket:head` between commas, into a list of so many. */
 void heads_in(const char *column, zt_index *heads, size_t heads_len);

@@ -210,99 +210,12 @@ void try_evaluations(void)
 
 /* Exports */
 
-/* A line of a file: the bytes up to LF, and where the next one starts. */
-static struct bytes line_at(const struct bytes *f, size_t *at)
+static const char *const export_tables[] = {"export.tsv", "02/01_export.tsv", "02/order.tsv"};
+enum { EXPORT_TABLES = sizeof export_tables / sizeof *export_tables };
+
+static size_t try_export_table(const char *name)
 {
-    struct bytes line;
-    uint8_t *end;
-
-    line.at = f->at + *at;
-    end = memchr(line.at, '\n', f->len - *at);
-    line.len = end == NULL ? f->len - *at : (size_t)(end - line.at);
-    *at += line.len + (end != NULL);
-    return line;
-}
-
-static int starts_with(const struct bytes *line, const char *text)
-{
-    return line->len >= strlen(text) && memcmp(line->at, text, strlen(text)) == 0;
-}
-
-static int same_bytes(const struct bytes *a, const struct bytes *b)
-{
-    return a->len == b->len && (a->len == 0 || memcmp(a->at, b->at, a->len) == 0);
-}
-
-/* The second word of a node line: the variable's position. */
-static struct bytes second_word(const struct bytes *line)
-{
-    uint8_t *first = memchr(line->at, ' ', line->len), *second;
-    struct bytes word = {line->at, 0};
-
-    if (first == NULL)
-        return word;
-    word.at = first + 1;
-    second = memchr(word.at, ' ', line->len - (size_t)(word.at - line->at));
-    word.len = second == NULL ? 0 : (size_t)(second - word.at);
-    return word;
-}
-
-/* Header lines are the stored ones, but for `.rootids`: the numbers in it hang on the order of lines inside a level. */
-static void hold_header(const struct bytes *stored, const struct bytes *written, size_t *stored_at, size_t *written_at)
-{
-    struct bytes a, b;
-
-    do {
-        if (!holds(*stored_at < stored->len && *written_at < written->len, "both files have `.nodes`"))
-            return;
-        a = line_at(stored, stored_at);
-        b = line_at(written, written_at);
-        if (starts_with(&a, ".rootids"))
-            holds(starts_with(&b, ".rootids"), "`.rootids` stands where it is stored");
-        else
-            holds(same_bytes(&a, &b), "a header line is the stored one");
-    } while (!starts_with(&a, ".nodes"));
-}
-
-/* Text lines have the stored positions, one by one: so the deepest level comes first, and each level has as many lines as stored. */
-static void hold_positions(const struct bytes *stored, const struct bytes *written, size_t stored_at, size_t written_at)
-{
-    while (stored_at < stored->len && written_at < written->len) {
-        struct bytes a = line_at(stored, &stored_at), b = line_at(written, &written_at), x = second_word(&a), y = second_word(&b);
-
-        holds(same_bytes(&x, &y), "a node line has the stored position");
-    }
-    holds(stored_at == stored->len && written_at == written->len, "there are as many node lines as stored");
-}
-
-/* 'Order inside a level is left open': a file is held to the stored one up to that order. */
-static void hold_file(const struct export_vector *v, const struct bytes *written)
-{
-    size_t stored_at = 0, written_at = 0;
-
-    hold_header(&v->file, written, &stored_at, &written_at);
-    if (v->call.text)
-        hold_positions(&v->file, written, stored_at, written_at);
-    hold_back(&v->store, v->roots, v->call.roots_len, written->at, written->len);
-    hold_back(&v->store, v->roots, v->call.roots_len, v->file.at, v->file.len);
-}
-
-static void hold_export(struct export_vector *v)
-{
-    struct bytes written;
-
-    call_export(&v->call, &v->store);
-    written.at = v->call.out.at;
-    written.len = v->call.answer.len;
-    holds(v->call.answer.refusal == v->refusal, "the refusal is the stored one");
-    if (v->call.answer.refusal == 0 && v->refusal == 0)
-        hold_file(v, &written);
-    done_exporting(&v->call);
-}
-
-void try_exports(void)
-{
-    struct table t = open_table(vectors, "export.tsv");
+    struct table t = open_table(vectors, name);
     struct export_vector v;
     size_t cases = 0;
 
@@ -311,14 +224,22 @@ void try_exports(void)
         drop_export(&v);
     }
     close_table(&t);
-    group_done("export.tsv", cases);
+    return cases;
+}
+
+void try_exports(void)
+{
+    size_t i;
+
+    for (i = 0; i < EXPORT_TABLES; i++)
+        group_done(export_tables[i], try_export_table(export_tables[i]));
 }
 
 /* Changed cases: one stored value is another, and the comparison must say so */
 
 static size_t changed_cases;
 
-static void must_be_noticed(const char *change)
+void must_be_noticed(const char *change)
 {
     changed_cases++;
     holds(failures_met() > 0, change);
@@ -407,35 +328,73 @@ static void try_changed_export(struct export_vector *v, const char *change)
     must_be_noticed(change);
 }
 
-static void change_exports(void)
+/* The change is the file's order inside a level alone: what it says is the same, as loading it shows. */
+static int change_order(struct export_vector *v)
 {
-    struct table t = open_table(vectors, "export.tsv");
+    struct bytes stored = v->file, swapped = {NULL, 0};
+
+    if (v->call.text)
+        swapped = swapped_lines(&v->file);
+    if (swapped.len > 0) {
+        hold_back(&v->store, v->roots, v->call.roots_len, swapped.at, swapped.len);
+        v->file = swapped;
+        v->file_len = swapped.len;
+        try_changed_export(v, "two lines of one level that are swapped are noticed");
+        v->file = stored;
+        v->file_len = stored.len;
+    }
+    free(swapped.at);
+    return swapped.len > 0;
+}
+
+static void change_bytes(struct export_vector *v)
+{
+    v->file.at[v->file.len / 4] ^= 1;
+    try_changed_export(v, "another header of a file is noticed");
+    v->file.at[v->file.len / 4] ^= 1;
+    v->file.at[v->file.len - 2] ^= 1;
+    try_changed_export(v, "another end of a file is noticed");
+    v->file.at[v->file.len - 2] ^= 1;
+    v->file.len--;
+    try_changed_export(v, "a file that is cut off is noticed");
+    v->file.len++;
+}
+
+static void change_exports(const char *name)
+{
+    struct table t = open_table(vectors, name);
     struct export_vector v;
+    size_t swapped = 0;
 
     while (next_export(&t, &v)) {
         v.refusal++;
         try_changed_export(&v, "another refusal of an export is noticed");
         v.refusal--;
+        v.file_len++;
+        try_changed_export(&v, "another length of a file is noticed");
+        v.file_len--;
         if (v.refusal == 0) {
-            v.file.at[v.file.len / 4] ^= 1;
-            try_changed_export(&v, "another header of a file is noticed");
-            v.file.at[v.file.len / 4] ^= 1;
-            v.file.at[v.file.len - 2] ^= 1;
-            try_changed_export(&v, "another end of a file is noticed");
+            change_bytes(&v);
+            swapped += (size_t)change_order(&v);
         }
         drop_export(&v);
     }
+    holds(swapped > 0, "there are files with two lines of one level");
     close_table(&t);
 }
 
 void try_changed_cases(void)
 {
+    size_t i;
+
     changed_cases = 0;
     change_loads(vectors, "load.tsv");
     change_loads(vectors, "room.tsv");
     change_loads(differences, "inputs.tsv");
     change_stores();
     change_evaluations();
-    change_exports();
+    for (i = 0; i < EXPORT_TABLES; i++)
+        change_exports(export_tables[i]);
+    change_lists();
     group_done("changed cases, which must be noticed", changed_cases);
 }

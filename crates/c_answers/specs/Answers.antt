@@ -1,16 +1,9 @@
 -- The answers as C gets them: the number of a refusal, 0 of none, and its line; then the values, zeros on a refusal. Document 01, 'Answers, by
 -- who can cause them'.
 use Prim.Native.Nat.{ℕ}
-use mathlib.Core.Path.{_≡_}
 use mathlib.Core.Bool.{Bool}
-use mathlib.Core.List.{List}
-use Rattle.codes.specs.Limits.{limits}
 use Rattle.codes.specs.Answer.{Read, value, refused}
-use Rattle.store.specs.Store.{Store}
 use Rattle.header.specs.Header as head
-use Rattle.exporter.specs.Promise.{ofExported}
-use Rattle.exporter.specs.declared.Exported.{Exported}
-use Rattle.calls.specs.Calls.{Export, Exports}
 use Rattle.evaluation.specs.SettingBytes.{byteOf}
 use Rattle.c_answers.specs.declared.LoadAnswer.{LoadAnswer}
 use Rattle.c_answers.specs.declared.EvaluateAnswer.{EvaluateAnswer}
@@ -53,9 +46,3 @@ ofEvaluated (refused n) = record { refusal = n; line = 0; answer = 0 }
 abbrev pub ofLength : Read ℕ → ExportAnswer
 ofLength (value n) = record { refusal = 0; line = 0; len = n }
 ofLength (refused k) = record { refusal = k; line = 0; len = 0 }
-
--- what an export answers and leaves in its output, as `dddmp` promises it: the answer is that of such an export
-pub record ExportingForC (x : Export) (σ : Store) (a : ExportAnswer) (out : List ℕ) : Type 0 where
-  pub exported : Exported
-  pub exports : Exports limits x σ exported out
-  pub answer : a ≡ ofLength (ofExported exported)

@@ -20,16 +20,18 @@ use Rattle.store.specs.Empty.{empty}
 use Rattle.store.proofs.Growth.{grow-edge, grow-answer}
 use Rattle.store.proofs.Canonicity.{canonicity}
 use Rattle.calls.specs.Load.{loadOf}
-use Rattle.calls.specs.Lists.{Call, leaves, before}
+use Rattle.calls.specs.Calls.{Call}
+use Rattle.calls.specs.Outcome.{leaves}
+use Rattle.calls.specs.Lists.{before}
 use Rattle.calls.specs.Roots.{Meaning, loadSays, Means, Gives, loaded, Root, SameAnswer, Alike}
 use Rattle.calls.proofs.RootsAnswer.{roots-answer}
 use Rattle.calls.proofs.Growing.{run-grows, after-grows, after-rules}
 
 -- a call that gives a root leaves a store that keeps the rules, where the root has its meaning
-gives-rules : {m : Limits} {c : Call} {σ : Store} {e : ℤ} {x : Meaning} → Gives m c σ e x → Rules m (leaves m c σ)
+gives-rules : {m : Limits} {c : Call} {σ : Store} {e : ℤ} {x : Meaning} → Gives m c σ e x → Rules m (leaves m c σ .after)
 gives-rules {m} (loaded c σ h i e q k t) = roots-answer m c σ h q .rules
 
-gives-means : {m : Limits} {c : Call} {σ : Store} {e : ℤ} {x : Meaning} → Gives m c σ e x → Means (leaves m c σ) e x
+gives-means : {m : Limits} {c : Call} {σ : Store} {e : ℤ} {x : Meaning} → Gives m c σ e x → Means (leaves m c σ .after) e x
 gives-means {m} (loaded c σ h i e q k t) =
     let w = roots-answer m c σ h q .root i k in
     subst (λ (r : ℤ). Means (loadOf m c σ .after) r (loadSays m c σ i)) (Option·some-injective (w .root) e (sym (w .there) ∙ t)) (w .means)

@@ -18,8 +18,8 @@ use Rattle.store.specs.Meaning.{answer}
 use Rattle.store.specs.Settings.{chosen}
 use Rattle.evaluation.specs.Evaluation.{evaluation}
 use Rattle.store.specs.Empty.{empty}
-use Rattle.calls.specs.Lists.{Call, runCalls}
-use Rattle.calls.specs.Calls.{evaluateOf}
+use Rattle.calls.specs.Calls.{Call, evaluateOf}
+use Rattle.calls.specs.Lists.{runCalls}
 use Rattle.calls.specs.Roots.{Meaning, Means, Root}
 use Rattle.evaluation.specs.SettingBytes.{bytesOf}
 use Rattle.calls.proofs.Growing.{at-below}

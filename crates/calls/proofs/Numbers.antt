@@ -24,13 +24,10 @@ use Rattle.header.specs.Header.{tableOf}
 use Rattle.level_list.proofs.LevelLists.{list-levels, list-allowed}
 use Rattle.imported.proofs.NodesRefused.{refused-nodes, nodes-numbers}
 use Rattle.variable_order.specs.Order.{isOrder}
-use Rattle.exported.specs.Export.{rootsFit, longEnough, namesFit, exportFault}
-use Rattle.exporter.specs.Promise as promise
-use Rattle.exporter.specs.declared.Exported.{Exported}
+use Rattle.exported.specs.Export.{rootsFit, longEnough, namesFit, exportFault, Export, exportBy, exportFaultOf, exportFileOf, exportOf}
 use Rattle.calls.specs.Load.{Load, setupOf, loadOf}
-use Rattle.calls.specs.Calls.{Export, Exports, exportFaultOf, evaluateOf}
-use Rattle.calls.specs.Lists.{Call, load, evaluate, export}
-use Rattle.calls.specs.Outcome.{Verdict, accepted, refusal, Tells, verdictOf, verdictRead, Outcome, Leaves, loads, evaluates, exports}
+use Rattle.calls.specs.Calls.{Call, load, evaluate, export, evaluateOf}
+use Rattle.calls.specs.Outcome.{Verdict, accepted, refusal, Tells, verdictOf, verdictRead, leaves}
 use Rattle.calls.specs.Refusals.{RefusalNumber, LoadRefused, lists-short, store-broken, input-long, line-refused, whole-refused, scratch-short, list-refused, nodes-refused, CarriesLine, RefusedFor}
 use Rattle.calls.proofs.Refusals.{refused-exactly}
 
@@ -84,27 +81,26 @@ fault-number m x σ =
     (checked 5 (namesFit σ (x .roots) (x .names)) _ (inr (omega arith))
     (none-in ExportNumber (inl refl))))))
 
-export-refuses : (m : Limits) (x : Export) (σ : Store) (r : Exported) (out : List ℕ) (n line : ℕ) → Exports m x σ r out
-    → verdictRead (promise.ofExported r) ≡ refusal n line → ((n ≡ 1) ⊎ ((3 ≤ n) × (n ≤ 6))) × (line ≡ 0)
-export-refuses m x σ r out n line w q = go (exportFaultOf m x σ) (fault-number m x σ) w
+export-refuses : (m : Limits) (x : Export) (σ : Store) (n line : ℕ) → verdictRead (exportOf m x σ .answer) ≡ refusal n line
+    → ((n ≡ 1) ⊎ ((3 ≤ n) × (n ≤ 6))) × (line ≡ 0)
+export-refuses m x σ n line q = go (exportFaultOf m x σ) (fault-number m x σ) q
   where
     some : (k : ℕ) → ExportNumber (suc k) → (suc k ≡ 1) ⊎ ((3 ≤ suc k) × (suc k ≤ 6))
     some k (inl z) = absurd (omega arith)
     some k (inr z) = z
 
-    go : (k : ℕ) → ExportNumber k → promise.ExportsBy k (x .settings) σ (x .roots) (x .order) (x .names) (x .out) r out
+    go : (k : ℕ) → ExportNumber k → verdictRead (exportBy k (exportFileOf x σ) (x .out) .answer) ≡ refusal n line
         → ((n ≡ 1) ⊎ ((3 ≤ n) × (n ≤ 6))) × (line ≡ 0)
-    go zero N w = not-refused (rw (w .answer) at q)
-    go (suc k) N w =
-        let s = same-verdict (rw (w .answer) at q) in
+    go zero N q = not-refused q
+    go (suc k) N q =
+        let s = same-verdict q in
         (subst (λ (i : ℕ). (i ≡ 1) ⊎ ((3 ≤ i) × (i ≤ 6))) (s .0) (some k N), sym (s .1))
 
 -- Every call is refused by a rule that is broken, and at the line that document 01 names.
-pub refused-for : {m : Limits} {c : Call} {σ : Store} {o : Outcome} → Leaves m c σ o → (n line : ℕ) → o .verdict ≡ refusal n line
-    → RefusedFor m c σ n line
-refused-for {m} (loads c σ) n line q = load-refuses m c σ n line q
-refused-for {m} (evaluates e s σ) n line q = evaluate-refuses m e s σ n line q
-refused-for {m} (exports x σ r out w) n line q = export-refuses m x σ r out n line w q
+pub refused-for : (m : Limits) (c : Call) (σ : Store) (n line : ℕ) → leaves m c σ .verdict ≡ refusal n line → RefusedFor m c σ n line
+refused-for m (load c) σ n line q = load-refuses m c σ n line q
+refused-for m (evaluate e s) σ n line q = evaluate-refuses m e s σ n line q
+refused-for m (export x) σ n line q = export-refuses m x σ n line q
 
 -- the numbers of a load's refusals
 load-number : {m : Limits} (c : Load) (σ : Store) {n line : ℕ} → LoadRefused m c σ n line → RefusalNumber n
@@ -159,13 +155,13 @@ number-some (inr (inl z)) = omega (arith, z .0)
 number-some (inr (inr z)) = omega (arith, z .0)
 
 -- So C is told 0 exactly where a call isn't refused.
-pub told-zero : {m : Limits} {c : Call} {σ : Store} {o : Outcome} → Leaves m c σ o → (n line : ℕ) → Tells n line (o .verdict)
-    → (n ≡ 0) ↔ (o .verdict ≡ accepted)
-told-zero {m} {c} {σ} {o} L n line t = go (o .verdict) refl t
+pub told-zero : (m : Limits) (c : Call) (σ : Store) (n line : ℕ) → Tells n line (leaves m c σ .verdict)
+    → (n ≡ 0) ↔ (leaves m c σ .verdict ≡ accepted)
+told-zero m c σ n line t = go (leaves m c σ .verdict) refl t
   where
-    go : (v : Verdict) → o .verdict ≡ v → Tells n line v → (n ≡ 0) ↔ (v ≡ accepted)
+    go : (v : Verdict) → leaves m c σ .verdict ≡ v → Tells n line v → (n ≡ 0) ↔ (v ≡ accepted)
     go accepted q t = (λ z. refl, λ z. t .0)
     go (refusal k at) q t = (
-      λ z. absurd (omega (arith, number-some (refusal-number m c σ k at (refused-for L k at q)), t .0)),
+      λ z. absurd (omega (arith, number-some (refusal-number m c σ k at (refused-for m c σ k at q)), t .0)),
       λ z. not-refused (sym z),
     )

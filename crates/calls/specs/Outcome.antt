@@ -9,11 +9,9 @@ use Rattle.codes.specs.Limits.{Limits}
 use Rattle.codes.specs.Answer.{Read, value, refused}
 use Rattle.store.specs.Store.{Store}
 use Rattle.header.specs.Header as head
-use Rattle.exporter.specs.Promise.{ofExported}
-use Rattle.exporter.specs.declared.Exported.{Exported}
-use Rattle.calls.specs.Load.{Load, Parts, partsOf, loadOf}
-use Rattle.calls.specs.Calls.{Export, Exports, evaluateOf}
-use Rattle.calls.specs.Lists.{Call, load, evaluate, export}
+use Rattle.exported.specs.Export.{exportOf}
+use Rattle.calls.specs.Load.{Parts, partsOf, loadOf}
+use Rattle.calls.specs.Calls.{Call, load, evaluate, export, evaluateOf}
 
 -- 'A refusal is a number and a line.'
 pub data Verdict : Type 0 where
@@ -67,13 +65,13 @@ outputsOf p =
 abbrev pub scratchOf : Parts → List LentPart
 scratchOf p = edges (p .edges) ∷ numbers (p .seats) ∷ []
 
--- What a call on a store may leave, as the calls promise it: of a load or an evaluation one outcome; of an export one for each file that it
--- may write, with the marks, which are its scratch, as zeros.
-pub data Leaves (m : Limits) : Call → Store → Outcome → Type 0 where
-  loads : (c : Load) (σ : Store)
-      → Leaves m (load c) σ (outcome (verdictOf (loadOf m c σ .answer)) (loadOf m c σ .after)
-      (outputsOf (partsOf (c .lent) (loadOf m c σ))) (scratchOf (partsOf (c .lent) (loadOf m c σ))))
-  evaluates : (e : ℤ) (s : List ℕ) (σ : Store) → Leaves m (evaluate e s) σ (outcome (verdictRead (evaluateOf m e s σ)) σ [] [])
-  exports : (x : Export) (σ : Store) (r : Exported) (out : List ℕ) → Exports m x σ r out
-      → Leaves m (export x) σ (outcome (verdictRead (ofExported r)) σ (numbers out ∷ [])
-      (numbers (replicate (x .slots) 0) ∷ numbers (replicate (x .numbers) 0) ∷ []))
+-- What a call leaves, as the calls promise it: of an export the marks, which are its scratch, as zeros.
+abbrev pub leaves : Limits → Call → Store → Outcome
+leaves m (load c) σ =
+    let r = loadOf m c σ in
+    let lists = partsOf (c .lent) r in
+    outcome (verdictOf (r .answer)) (r .after) (outputsOf lists) (scratchOf lists)
+leaves m (evaluate e s) σ = outcome (verdictRead (evaluateOf m e s σ)) σ [] []
+leaves m (export x) σ =
+    let r = exportOf m x σ in
+    outcome (verdictRead (r .answer)) σ (numbers (r .out) ∷ []) (numbers (replicate (x .slots) 0) ∷ numbers (replicate (x .numbers) 0) ∷ [])

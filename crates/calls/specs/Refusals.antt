@@ -19,7 +19,7 @@ use Rattle.header.specs.Header.{Header, tableOf}
 use Rattle.header.specs.HeaderSaid.{HeaderSaid}
 use Rattle.imported.specs.Refused.{NodesRefused, crowded, early, text, binary, unended}
 use Rattle.calls.specs.Load.{Lengths, Load, variableLists, rootLists, setupOf}
-use Rattle.calls.specs.Lists.{Call, load, evaluate, export}
+use Rattle.calls.specs.Calls.{Call, load, evaluate, export}
 
 -- document 01's numbers: 1 to 6, 10 to 26, and 30 to 40; 0 is none of them
 abbrev pub RefusalNumber : ℕ → Type 0

@@ -19,7 +19,8 @@ use Rattle.imported.specs.Import.{linesIn}
 use Rattle.node_lines.specs.Line.{Line}
 use Rattle.node_lines.specs.Says.{says}
 use Rattle.calls.specs.Load.{Load, Loaded, setupFor, loadOf}
-use Rattle.calls.specs.Lists.{Call, load, before}
+use Rattle.calls.specs.Calls.{Call, load}
+use Rattle.calls.specs.Lists.{before}
 
 -- what a root means: yes or no at each setting, or nothing where a file says nothing
 abbrev pub Meaning : Type 0

@@ -12,14 +12,14 @@ use Rattle.evaluation.specs.declared.Evaluation.{Evaluation}
 use Rattle.evaluation.specs.Evaluated.{ofEvaluation}
 use Rattle.header.specs.declared.Loaded.{Loaded}
 use Rattle.header.specs.Kinds.{ofLoaded}
-use Rattle.heading.specs.Tables.{lent}
-use Rattle.exported.specs.Settings.{Settings}
+use Rattle.exported.specs.Export.{ExportLeft}
 use Rattle.exporter.specs.Settings.{ofSettings}
 use Rattle.exporter.specs.declared.ExportSettings.{ExportSettings}
 use Rattle.exporter.specs.declared.Exported.{Exported}
+use Rattle.exporter.specs.Promise.{ofExported, exportLeaves}
 use Rattle.calls.specs.Load as calls
 use Rattle.calls.specs.Load.{Parts, parts, lengthsOf, loadInto, partsOf, loadOf}
-use Rattle.calls.specs.Calls.{evaluateOf, Export, exportInto, Exports}
+use Rattle.calls.specs.Calls.{evaluateOf}
 
 module _ (f list : Part (List ℕ)) (levels : ℕ) (count : Part ℕ) (level : Part (List ℕ)) (then els : Part (List ℤ))
     (next heads ids order permids auxids names lens : Part (List ℕ)) (roots : Part (List ℤ)) (rootnames rootlens : Part (List ℕ))
@@ -53,22 +53,19 @@ pub record EvaluatePromise (levels count : ℕ) (level : Part (List ℕ)) (then 
   -- 'Scratch ends as zeros.'
   pub work-left : new work ≡ replicate (length (old work)) 0
 
-module _ (s : Settings) (levels count : ℕ) (level : Part (List ℕ)) (then els : Part (List ℤ)) (next heads : Part (List ℕ)) (roots : Part (List ℤ))
-    (order bytes starts lens rootstarts rootlens slots numbers out : Part (List ℕ)) where
-  -- an export by these settings, with everything that it is lent
-  abbrev pub exporting : Export
-  exporting =
-      exportInto s (old roots) (old order) (lent (old bytes) (old starts) (old lens) (old rootstarts) (old rootlens) (s .dd)) (length (old slots))
-      (length (old numbers)) (length (old out))
+module _ (settings : ExportSettings) (levels count : ℕ) (level : Part (List ℕ)) (then els : Part (List ℤ)) (next heads : Part (List ℕ))
+    (roots : Part (List ℤ)) (order bytes starts lens rootstarts rootlens slots numbers out : Part (List ℕ)) where
+  -- 'Export gives 1, 3, 4, 6, 5'
+  abbrev left : ExportLeft
+  left =
+      exportLeaves (ofSettings settings) levels count level then els next heads roots order bytes starts lens rootstarts rootlens slots numbers out
 
-pub record ExportPromise (settings : ExportSettings) (levels count : ℕ) (level : Part (List ℕ)) (then els : Part (List ℤ))
-    (next heads : Part (List ℕ)) (roots : Part (List ℤ)) (order bytes starts lens rootstarts rootlens slots numbers out work : Part (List ℕ))
-    (r : Exported) : Type 0 where
-  -- 'Export gives 1, 3, 4, 6, 5'; 'order inside a level is left open'
-  pub file : Exports limits
-      (exporting (ofSettings settings) levels count level then els next heads roots order bytes starts lens rootstarts rootlens slots numbers out)
-      (oldStore levels count level then els next heads) r (new out)
-  -- 'Scratch ends as zeros.'
-  pub slots-left : new slots ≡ replicate (length (old slots)) 0
-  pub numbers-left : new numbers ≡ replicate (length (old numbers)) 0
-  pub work-left : new work ≡ replicate (length (old work)) 0
+  pub record ExportPromise (work : Part (List ℕ)) (r : Exported) : Type 0 where
+    -- the length of the file, or the number of a refusal
+    pub answer : ofExported r ≡ left .answer
+    -- 'On any refusal outputs are all zeros ..; on success unused output is zero.'
+    pub out-left : new out ≡ left .out
+    -- 'Scratch ends as zeros.'
+    pub slots-left : new slots ≡ replicate (length (old slots)) 0
+    pub numbers-left : new numbers ≡ replicate (length (old numbers)) 0
+    pub work-left : new work ≡ replicate (length (old work)) 0

@@ -15,10 +15,10 @@ use Rattle.store.specs.Settings.{chosen}
 use Rattle.header.specs.Header.{header}
 use Rattle.store.specs.Empty.{empty}
 use Rattle.calls.specs.Load.{loadOf}
-use Rattle.calls.specs.Lists.{load, runCalls}
-use Rattle.calls.specs.Calls.{evaluateOf}
+use Rattle.calls.specs.Calls.{load, evaluateOf}
+use Rattle.calls.specs.Lists.{runCalls}
 use Rattle.calls.specs.Roots.{rootsOf, fileSays, loadSays, Gives, loaded, here, later, Root}
-use Rattle.calls.specs.Outcome.{verdictOf, loads}
+use Rattle.calls.specs.Outcome.{verdictOf}
 use Rattle.evaluation.specs.SettingBytes.{byteOf}
 use Rattle.demands.specs.Examples.{exampleLoad, exampleHeader, twice}
 use Rattle.demands.proofs.Examples.{example-loads, example-roots, example-ids, example-says, example-crowded, again-loads}
@@ -91,4 +91,4 @@ evaluates-both a b =
 
 -- with a slot less than it needs the example leaves the store as it was, though its second line was made before its third found no room
 pub crowded-unchanged : loadOf limits exampleLoad (empty 2 2) .after ≡ empty 2 2
-crowded-unchanged = demand-1 (loads exampleLoad (empty 2 2)) 40 0 (ap (λ r. verdictOf (r .answer)) example-crowded) .0
+crowded-unchanged = demand-1 limits (load exampleLoad) (empty 2 2) 40 0 (ap (λ r. verdictOf (r .answer)) example-crowded) .0

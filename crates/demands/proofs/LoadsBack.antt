@@ -3,10 +3,10 @@
 use mathlib.Core.Path.{_≡_, refl, ap, _∙_}
 use mathlib.Core.Bool.{true}
 use mathlib.Core.List.{List}
-use Prim.Native.Nat.{ℕ, zero, suc, _≤_}
+use Prim.Native.Nat.{ℕ, _≤_}
 use native.Mathlib.Omega.{arith}
 use lib.Dec.{leb}
-use lib.ListN.{length}
+use lib.ListN.{length, take}
 use lib.IntN.{ℤ}
 use borrow.Author.Tests.{leb-true}
 use Rattle.codes.specs.Answer.{value}
@@ -14,27 +14,26 @@ use Rattle.codes.specs.Limits.{Limits, RoomForExports, rootLimit}
 use Rattle.codes.proofs.Bytes.{both}
 use Rattle.store.specs.Store.{Store}
 use Rattle.store.specs.Rules.{Rules}
+use Rattle.store.specs.Growth.{Grows}
 use Rattle.store.specs.Keeps.{rules-keeps}
 use Rattle.header.specs.Header as head
 use Rattle.header.specs.Header.{Header, header, answerOf, atLeast}
-use Rattle.numbering.specs.Support.{supportOf}
+use Rattle.numbering.specs.Numbering.{numbering}
 use Rattle.imported.specs.Import.{nodes}
 use Rattle.heading.specs.Tables.{Lent}
 use Rattle.exported.specs.Settings.{Settings}
-use Rattle.exported.specs.Export.{exportFault, headingOf}
-use Rattle.exporter.specs.Promise.{ofExported, Writes, ExportsBy}
-use Rattle.exporter.specs.declared.Exported.{Exported}
-use Rattle.exported.proofs.Accepted.{accepted}
-use Rattle.exported.proofs.Started.{exported}
+use Rattle.exported.specs.Export.{headingOf, Export, exportFileOf, exportOf}
+use Rattle.exported.proofs.Accepted.{Accepted, exported}
+use Rattle.exported.proofs.Answered.{answered-accepted, answered}
 use Rattle.exported.proofs.Grown.{heading-grown}
-use Rattle.export_nodes.proofs.Grown.{levels-grown}
+use Rattle.export_nodes.specs.Exported.{Exported}
+use Rattle.export_nodes.proofs.Grown.{nodes-grown, levels-grown}
 use Rattle.reading_header.specs.HeaderBack.{headerFor, loadedFrom}
-use Rattle.reading_back.specs.ReadsBack.{ReadsBack, importBy, GivesBack}
+use Rattle.reading_back.specs.ReadsBack.{ownLevels, ReadsBack, importBy, GivesBack}
 use Rattle.reading_back.proofs.ReadsBack.{later-back}
 use Rattle.reading_back.proofs.ImportedAlike.{led-back}
-use Rattle.reading_back.proofs.OutputBack.{written-file}
 use Rattle.calls.specs.Load.{Lengths, Load, rootLists, headerOf, nodesOf, loadOf}
-use Rattle.demands.specs.LoadsBack.{ownLoad, LongEnough, LoadsBack, OutputLoads, OutputLoadsLater}
+use Rattle.demands.specs.LoadsBack.{LongEnough, LoadsBack, LoadsInto, OutputLoads, OutputLoadsLater}
 use Rattle.calls.specs.Lists.{runCalls}
 use Rattle.calls.proofs.Growing.{run-grows, run-rules}
 use Rattle.calls.proofs.HeaderStands.{length-left, lists-answer}
@@ -45,13 +44,13 @@ roots-room : (l : Lengths) → atLeast rootLimit (rootLists l) ≡ true → root
 unfolding atLeast
 roots-room l q = leb-true rootLimit (l .roots) (both (leb rootLimit (l .roots)) _ q .0)
 
-module _ {m : Limits} {s : Settings} {τ : Store} {roots : List ℤ} {order : List ℕ} {p : Lent} {ns f : List ℕ} {l : Lengths} (R : Rules m τ)
-    (few : length roots ≤ rootLimit) (long : LongEnough (length ns) l) (b : ReadsBack m s τ roots order p ns f (l .roots)) where
+module _ {m : Limits} {s : Settings} {τ : Store} {roots : List ℤ} {order : List ℕ} {p : Lent} {f : List ℕ} {l : Lengths} (R : Rules m τ)
+    (few : length roots ≤ rootLimit) (long : LongEnough (length (numbering τ roots)) l) (b : ReadsBack m s τ roots order p f (l .roots)) where
   abbrev c : Load
-  c = ownLoad τ ns f l
+  c = record { file = f; list = ownLevels τ roots; lent = l }
 
   abbrev h : Header
-  h = headerFor (headingOf s τ roots order p ns) (b .header-back .dd)
+  h = headerFor (headingOf s τ roots order p) (b .header-back .dd)
 
   -- neither lists nor store are refused: what is read is the file's header by itself
   header-lists : headerOf m c τ ≡ loadedFrom m f
@@ -62,7 +61,7 @@ module _ {m : Limits} {s : Settings} {τ : Store} {roots : List ℤ} {order : Li
   header-read = ap (λ r. r .answer) header-lists ∙ lists-answer f (answerOf m f) ∙ b .header-back .answer
 
   -- the import of its nodes, as the header leads to it
-  import-given : GivesBack τ roots (l .roots) (importBy m f h τ (supportOf τ ns) (l .roots))
+  import-given : GivesBack τ roots (l .roots) (importBy m f h τ (ownLevels τ roots) (l .roots))
   import-given = led-back b (b .header-back .answer)
 
   -- and that is the import of the load
@@ -79,7 +78,7 @@ module _ {m : Limits} {s : Settings} {τ : Store} {roots : List ℤ} {order : Li
   }
 
   -- A file that reads back loads back.
-  pub loads-back : LoadsBack m (headingOf s τ roots order p ns) roots τ f l (loadOf m c τ)
+  loads-back : LoadsBack m (headingOf s τ roots order p) roots τ f l (loadOf m c τ)
   loads-back =
       rw (passes-load m c τ h passes, header-lists) (record {
         header-back = b .header-back;
@@ -95,49 +94,30 @@ module _ {m : Limits} {s : Settings} {τ : Store} {roots : List ℤ} {order : Li
         rootnames = refl;
       })
 
-module _ {m : Limits} (W : RoomForExports m) {s : Settings} {σ : Store} {roots : List ℤ} {order : List ℕ} {p : Lent}
-    (slots numbers lent : ℕ) (r : Exported) {out : List ℕ} {n : ℕ} (is : ofExported r ≡ value n) where
-  -- a file that is written is the front of the output, and loads back
-  pub writes-loads : exportFault m σ roots order p slots numbers lent ≡ 0 → Writes s σ roots order p lent r out
-      → OutputLoads m s σ roots order p n out
-  writes-loads e w =
-      let A = accepted σ roots order p slots numbers lent e in
-      let file = written-file W slots numbers lent r is A w in
-      let E = exported A (w .allowed) in
-      record {
-        nodes = w .nodes;
-        allowed = w .allowed;
-        file = file;
-        loads = λ τ G R l long.
-            rw (← heading-grown G s order p E, ← levels-grown G E)
-            (loads-back R (A .roots-few) long (rw file (later-back W A (w .allowed) G R s (l .roots))));
-      }
+module _ {m : Limits} (W : RoomForExports m) (x : Export) (σ : Store) (n : ℕ) (q : exportOf m x σ .answer ≡ value n) where
+  A : Accepted m σ (x .roots) (x .order) (x .names) (x .slots) (x .numbers) (x .out)
+  A = answered-accepted m x σ n q
 
-  -- an export that answers a length isn't refused
-  unrefused : ExportsBy (exportFault m σ roots order p slots numbers lent) s σ roots order p lent r out
-      → (exportFault m σ roots order p slots numbers lent ≡ 0) × Writes s σ roots order p lent r out
-  unrefused w = go (exportFault m σ roots order p slots numbers lent) refl w
-    where
-      go : (k : ℕ) → exportFault m σ roots order p slots numbers lent ≡ k → ExportsBy k s σ roots order p lent r out
-          → (exportFault m σ roots order p slots numbers lent ≡ 0) × Writes s σ roots order p lent r out
-      go zero e w = (e, w)
-      go (suc k) e w = let a = w .answer in absurd (let z : _≡_ {A = ℕ} 0 1 = cc in omega arith)
+  E : Exported m σ (x .roots)
+  E = exported A
+
+  -- the file is the front of the output
+  output-file : take n (exportOf m x σ .out) ≡ exportFileOf x σ
+  output-file = answered m x σ n q W .front
+
+  -- its file loads back into every store that this one has grown into
+  loads-into : (τ : Store) → Grows σ τ → Rules m τ → LoadsInto m x σ τ
+  loads-into τ G R l long =
+      rw (← heading-grown G (x .settings) (x .order) (x .names) E, ← levels-grown G E)
+      (loads-back R (A .roots-few) (rw (nodes-grown G E) long) (later-back W A G R (x .settings) (l .roots)))
 
   -- Demand 2, for the call load: where the answer of an export is a length, so many bytes of its output load back,
-  pub exports-loads : ExportsBy (exportFault m σ roots order p slots numbers lent) s σ roots order p lent r out
-      → OutputLoads m s σ roots order p n out
-  exports-loads w = let u = unrefused w in writes-loads (u .0) (u .1)
+  pub export-loads : OutputLoads m x σ n
+  export-loads = record { file = output-file; loads = loads-into }
 
   -- after any calls too: the store has only grown, and keeps the rules that the export has shown.
-  pub exports-loads-later : ExportsBy (exportFault m σ roots order p slots numbers lent) s σ roots order p lent r out
-      → OutputLoadsLater m s σ roots order p n out
-  exports-loads-later w =
-      let u = unrefused w in
-      let b = writes-loads (u .0) (u .1) in
-      let R = accepted σ roots order p slots numbers lent (u .0) .rules in
-      record {
-        nodes = b .nodes;
-        allowed = b .allowed;
-        file = b .file;
-        loads = λ cs. b .loads (runCalls m σ cs) (run-grows m σ cs) (run-rules m σ cs R);
-      }
+  pub export-loads-later : OutputLoadsLater m x σ n
+  export-loads-later = record {
+    file = output-file;
+    loads = λ cs. loads-into (runCalls m σ cs) (run-grows m σ cs) (run-rules m σ cs (A .rules));
+  }

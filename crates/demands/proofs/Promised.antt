@@ -1,8 +1,8 @@
--- One law for each public call: what its function promises is what `Leaves` says of the call, so that the demands speak of the functions. A
--- list that is added to a call is a parameter of its promise, and so can't be forgotten here. `Leaves` doesn't speak of the work: no answer
+-- One law for each public call: what its function promises is what `leaves` says of the call, so that the demands speak of the functions. A
+-- list that is added to a call is a parameter of its promise, and so can't be forgotten here. `leaves` doesn't speak of the work: no answer
 -- depends on it, and that it ends as zeros each promise says itself.
 use Prim.Native.Nat.{ℕ}
-use mathlib.Core.Path.{refl, sym, subst}
+use mathlib.Core.Path.{_≡_, refl, sym, subst}
 use mathlib.Core.Bool.{Bool}
 use mathlib.Core.List.{List, [], _∷_}
 use lib.IntN.{ℤ}
@@ -16,22 +16,22 @@ use Rattle.evaluation.specs.Evaluated.{ofEvaluation}
 use Rattle.header.specs.declared.Loaded.{Loaded}
 use Rattle.header.specs.Kinds.{ofLoaded}
 use Rattle.header.specs.Header as head
+use Rattle.exported.specs.Settings.{Settings}
 use Rattle.exporter.specs.declared.ExportSettings.{ExportSettings}
 use Rattle.exporter.specs.declared.Exported.{Exported}
-use Rattle.exporter.specs.Promise.{ofExported}
+use Rattle.exporter.specs.Promise.{ofExported, exporting, exportLeaves}
 use Rattle.exporter.specs.Settings.{ofSettings}
 use Rattle.calls.specs.Load.{Parts, loadInto}
-use Rattle.calls.specs.Calls.{evaluateOf}
-use Rattle.dddmp.specs.Promises.{oldParts, newParts, loaded, exporting, LoadPromise, EvaluatePromise, ExportPromise}
+use Rattle.calls.specs.Calls.{Call, load, evaluate, export, evaluateOf}
+use Rattle.dddmp.specs.Promises.{oldParts, newParts, loaded, LoadPromise, EvaluatePromise, ExportPromise}
 use Rattle.firmware.specs.Promises.{ZtLoadPromise, ZtEvaluatePromise, ZtExportPromise}
 use Rattle.c_answers.specs.declared.LoadAnswer.{LoadAnswer}
 use Rattle.c_answers.specs.declared.EvaluateAnswer.{EvaluateAnswer}
 use Rattle.c_answers.specs.declared.ExportAnswer.{ExportAnswer}
 use Rattle.c_answers.specs.Settings.{settingsOf}
 use Rattle.c_answers.specs.Answers as C
-use Rattle.calls.specs.Lists.{Call, load, evaluate, export}
 use Rattle.calls.specs.Outcome as outcomes
-use Rattle.calls.specs.Outcome.{Tells, Verdict, Outcome, outcome, verdictOf, verdictRead, outputsOf, scratchOf, Leaves, loads, evaluates, exports}
+use Rattle.calls.specs.Outcome.{Tells, Verdict, Outcome, outcome, verdictOf, verdictRead, outputsOf, scratchOf, leaves}
 
 -- `dddmp::load`
 module _ (f list : Part (List ℕ)) (levels : ℕ) (count : Part ℕ) (level : Part (List ℕ)) (then els : Part (List ℤ))
@@ -59,9 +59,8 @@ module _ (f list : Part (List ℕ)) (levels : ℕ) (count : Part ℕ) (level : P
 
   pub load-leaves : {r : Loaded}
       → LoadPromise f list levels count level then els next heads ids order permids auxids names lens roots rootnames rootlens edges seats work r
-      → Leaves limits this before (left (verdictOf (ofLoaded r)) lists)
-  load-leaves {r} p =
-      subst (λ q. Leaves limits this before (left (verdictOf (ofLoaded r)) q)) (sym (p .lists)) (rw (p .answer, p .store) (loads _ _))
+      → leaves limits this before ≡ left (verdictOf (ofLoaded r)) lists
+  load-leaves {r} p = subst (λ q. leaves limits this before ≡ left (verdictOf (ofLoaded r)) q) (sym (p .lists)) (rw (p .answer, p .store))
 
   -- `zt_load`: number and line are those of the verdict
   zt-tells : (a : head.HeaderAnswer) → Tells (C.ofLoadAnswer a .refusal) (C.ofLoadAnswer a .line) (verdictOf a)
@@ -74,21 +73,24 @@ module _ (f list : Part (List ℕ)) (levels : ℕ) (count : Part ℕ) (level : P
 
   pub zt-load-leaves : {r : LoadAnswer}
       → ZtLoadPromise f list levels count level then els next heads ids order permids auxids names lens roots rootnames rootlens edges seats work r
-      → Leaves limits this before (left (verdictOf answered) lists) × Tells (r .refusal) (r .line) (verdictOf answered)
+      → (leaves limits this before ≡ left (verdictOf answered) lists) × Tells (r .refusal) (r .line) (leaves limits this before .verdict)
   zt-load-leaves p = (
-    subst (λ q. Leaves limits this before (left (verdictOf answered) q)) (sym (p .lists)) (rw (p .store) (loads _ _)),
+    subst (λ q. leaves limits this before ≡ left (verdictOf answered) q) (sym (p .lists)) (rw (p .store)),
     rw (p .answer) (zt-tells answered),
   )
 
 -- `dddmp::evaluate`
 module _ (levels count : ℕ) (level : Part (List ℕ)) (then els : Part (List ℤ)) (next heads : Part (List ℕ)) (root : ℤ)
     (setting work : Part (List ℕ)) where
+  abbrev evaluating : Call
+  evaluating = evaluate root (old setting)
+
+  abbrev read : Store
+  read = oldStore levels count level then els next heads
+
   pub evaluate-leaves : {r : Evaluation} → EvaluatePromise levels count level then els next heads root setting work r
-      → Leaves limits
-      (evaluate root (old setting))
-      (oldStore levels count level then els next heads)
-      (outcome (verdictRead (ofEvaluation r)) (oldStore levels count level then els next heads) [] [])
-  evaluate-leaves p = rw (p .answer) (evaluates _ _ _)
+      → leaves limits evaluating read ≡ outcome (verdictRead (ofEvaluation r)) read [] []
+  evaluate-leaves p = rw (p .answer)
 
   -- `zt_evaluate`
   zt-evaluated : (a : Read Bool) → Tells (C.ofEvaluated a .refusal) (C.ofEvaluated a .line) (verdictRead a)
@@ -96,47 +98,55 @@ module _ (levels count : ℕ) (level : Part (List ℕ)) (then els : Part (List �
   zt-evaluated (refused n) = (refl, refl)
 
   pub zt-evaluate-leaves : {r : EvaluateAnswer} → ZtEvaluatePromise levels count level then els next heads root setting work r
-      → Leaves limits
-      (evaluate root (old setting))
-      (oldStore levels count level then els next heads)
-      (outcome
-      (verdictRead (evaluateOf limits root (old setting) (oldStore levels count level then els next heads)))
-      (oldStore levels count level then els next heads) [] [])
-      × Tells (r .refusal) (r .line) (verdictRead (evaluateOf limits root (old setting) (oldStore levels count level then els next heads)))
-  zt-evaluate-leaves p = (evaluates _ _ _, rw (p .answer) (zt-evaluated (evaluateOf limits root (old setting) (oldStore levels count level then els next heads))))
+      → (leaves limits evaluating read ≡ outcome (verdictRead (evaluateOf limits root (old setting) read)) read [] [])
+      × Tells (r .refusal) (r .line) (leaves limits evaluating read .verdict)
+  zt-evaluate-leaves p = (refl, rw (p .answer) (zt-evaluated (evaluateOf limits root (old setting) read)))
+
+-- an export by these settings, from a store, with everything that it is lent
+module _ (s : Settings) (levels count : ℕ) (level : Part (List ℕ)) (then els : Part (List ℤ)) (next heads : Part (List ℕ)) (roots : Part (List ℤ))
+    (order bytes starts lens rootstarts rootlens slots numbers out : Part (List ℕ)) where
+  abbrev writing : Call
+  writing = export (exporting s levels count level then els next heads roots order bytes starts lens rootstarts rootlens slots numbers out)
+
+  abbrev kept : Store
+  kept = oldStore levels count level then els next heads
+
+  -- what it answers, and the lists as it leaves them
+  abbrev leaving : Read ℕ → Outcome
+  leaving a =
+      outcome (verdictRead a) kept (outcomes.numbers (new out) ∷ []) (outcomes.numbers (new slots) ∷ outcomes.numbers (new numbers) ∷ [])
 
 -- `dddmp::export`
-module _ (settings : ExportSettings) (levels count : ℕ) (level : Part (List ℕ)) (then els : Part (List ℤ)) (next heads : Part (List ℕ)) (roots : Part (List ℤ))
-    (order bytes starts lens rootstarts rootlens slots numbers out work : Part (List ℕ)) where
-  pub export-leaves : {r : Exported} → ExportPromise settings levels count level then els next heads roots order bytes starts lens rootstarts rootlens slots numbers out work r
-      → Leaves limits
-      (export (exporting (ofSettings settings) levels count level then els next heads roots order bytes starts lens rootstarts rootlens slots numbers out))
+module _ (settings : ExportSettings) (levels count : ℕ) (level : Part (List ℕ)) (then els : Part (List ℤ)) (next heads : Part (List ℕ))
+    (roots : Part (List ℤ)) (order bytes starts lens rootstarts rootlens slots numbers out work : Part (List ℕ)) where
+  abbrev s : Settings
+  s = ofSettings settings
+
+  pub export-leaves : {r : Exported}
+      → ExportPromise settings levels count level then els next heads roots order bytes starts lens rootstarts rootlens slots numbers out work r
+      → leaves limits (writing s levels count level then els next heads roots order bytes starts lens rootstarts rootlens slots numbers out)
       (oldStore levels count level then els next heads)
-      (outcome
-      (verdictRead (ofExported r))
-      (oldStore levels count level then els next heads)
-      (outcomes.numbers (new out) ∷ [])
-      (outcomes.numbers (new slots) ∷ outcomes.numbers (new numbers) ∷ []))
-  export-leaves {r} p = rw (p .slots-left, p .numbers-left) (exports _ _ r (new out) (p .file))
+      ≡ leaving s levels count level then els next heads roots order bytes starts lens rootstarts rootlens slots numbers out (ofExported r)
+  export-leaves p = rw (p .answer, p .out-left, p .slots-left, p .numbers-left)
 
 -- `zt_export`
-module _ (version text ddstart ddlen : ℕ) (levels count : ℕ) (level : Part (List ℕ)) (then els : Part (List ℤ)) (next heads : Part (List ℕ)) (roots : Part (List ℤ))
-    (order bytes starts lens rootstarts rootlens slots numbers out work : Part (List ℕ)) where
+module _ (version text ddstart ddlen : ℕ) (levels count : ℕ) (level : Part (List ℕ)) (then els : Part (List ℤ)) (next heads : Part (List ℕ))
+    (roots : Part (List ℤ)) (order bytes starts lens rootstarts rootlens slots numbers out work : Part (List ℕ)) where
+  abbrev t : Settings
+  t = settingsOf version text ddstart ddlen
+
+  abbrev answer : Read ℕ
+  answer = exportLeaves t levels count level then els next heads roots order bytes starts lens rootstarts rootlens slots numbers out .answer
+
   zt-exported : (a : Read ℕ) → Tells (C.ofLength a .refusal) (C.ofLength a .line) (verdictRead a)
   zt-exported (value n) = (refl, refl)
   zt-exported (refused k) = (refl, refl)
 
-  pub zt-export-leaves : {r : ExportAnswer} → (p : ZtExportPromise version text ddstart ddlen levels count level then els next heads roots order bytes starts lens rootstarts rootlens slots numbers out work r)
-      → Leaves limits
-      (export (exporting (settingsOf version text ddstart ddlen) levels count level then els next heads roots order bytes starts lens rootstarts rootlens slots numbers out))
+  pub zt-export-leaves : {r : ExportAnswer}
+      → ZtExportPromise version text ddstart ddlen levels count level then els next heads roots order bytes starts lens rootstarts rootlens slots
+      numbers out work r
+      → (leaves limits (writing t levels count level then els next heads roots order bytes starts lens rootstarts rootlens slots numbers out)
       (oldStore levels count level then els next heads)
-      (outcome
-      (verdictRead (ofExported (p .file .exported)))
-      (oldStore levels count level then els next heads)
-      (outcomes.numbers (new out) ∷ [])
-      (outcomes.numbers (new slots) ∷ outcomes.numbers (new numbers) ∷ []))
-      × Tells (r .refusal) (r .line) (verdictRead (ofExported (p .file .exported)))
-  zt-export-leaves p = (
-    rw (p .slots-left, p .numbers-left) (exports _ _ (p .file .exported) (new out) (p .file .exports)),
-    rw (p .file .answer) (zt-exported (ofExported (p .file .exported))),
-  )
+      ≡ leaving t levels count level then els next heads roots order bytes starts lens rootstarts rootlens slots numbers out answer)
+      × Tells (r .refusal) (r .line) (verdictRead answer)
+  zt-export-leaves p = (rw (p .out-left, p .slots-left, p .numbers-left), rw (p .answer) (zt-exported answer))

@@ -43,7 +43,7 @@ use Rattle.import_bin.specs.Bin.{binLineAt}
 use Rattle.imported.specs.Build.{edgeFor, addLine, buildOn, build}
 use Rattle.imported.specs.Import.{lineBy, linesIn, linesAnswer, blankAll, endsWell, importOf}
 use Rattle.level_list.specs.List.{listFits}
-use Rattle.reached.specs.Walk.{meetBy, meet, meetAll}
+use Rattle.reached.specs.Walk.{walkBy, walk, without, firstOnes, firstMet}
 use Rattle.numbering.specs.Numbering.{atDepth, deepestFirst, numbering}
 use Rattle.numbering.specs.Support.{supportFrom}
 use Rattle.export_nodes.specs.Lines.{renumbered, lineOfNode, linesFor}
@@ -71,7 +71,7 @@ lines = terminal ∷ inner 1 (pos 1) (negsuc 0) ∷ inner 0 (pos 2) (negsuc 0) �
 
 -- so numbered as an export numbers them, they have the lines of the text
 lines-again : linesFor (exampleLeft .after) (numbering (exampleLeft .after) exampleRoots) ≡ lines
-unfolding run isBlank isDigit isLineEnd isWhitespace isOf seek trim feedAt lineOf digit number single first wordsFrom words entryStep edgeAt edgeEnd edgeList children alike ascending lastBelow idsFit deeper childFault decodeFrom wordFrom numbered afterExtra variableWord textLine textLineAt minus eqZ empty findUpTo find added insert make edgeFor addLine buildOn build lineBy linesIn linesAnswer blankAll endsWell importOf seatOf meetBy meet meetAll atDepth deepestFirst numbering supportFrom renumbered lineOfNode linesFor
+unfolding run isBlank isDigit isLineEnd isWhitespace isOf seek trim feedAt lineOf digit number single first wordsFrom words entryStep edgeAt edgeEnd edgeList children alike ascending lastBelow idsFit deeper childFault decodeFrom wordFrom numbered afterExtra variableWord textLine textLineAt minus eqZ empty findUpTo find added insert make edgeFor addLine buildOn build lineBy linesIn linesAnswer blankAll endsWell importOf seatOf walkBy walk without firstOnes firstMet atDepth deepestFirst numbering supportFrom renumbered lineOfNode linesFor
 lines-again =
     ap (λ rs. linesFor (exampleLeft .after) (numbering (exampleLeft .after) rs)) two-roots
     ∙ ap (λ σ. linesFor σ (numbering σ (pos 3 ∷ negsuc 2 ∷ []))) left-by-nodes

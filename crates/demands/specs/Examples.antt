@@ -8,7 +8,7 @@ use Rattle.read_text.specs.Text.{place}
 use Rattle.header.specs.Header.{Header}
 use Rattle.header.specs.Examples as head
 use Rattle.calls.specs.Load.{Lengths, Load}
-use Rattle.calls.specs.Lists.{Call, load, evaluate}
+use Rattle.calls.specs.Calls.{Call, load, evaluate}
 
 -- lists that are just long enough, with scratch for n nodes
 abbrev pub enoughFor : ℕ → Lengths

@@ -12,19 +12,18 @@ use Rattle.store.specs.Store.{Store}
 use Rattle.store.specs.Rules.{Rules}
 use Rattle.store.specs.Growth.{Grows}
 use Rattle.header.specs.Header.{header, atLeast}
-use Rattle.numbering.specs.Allowed.{Allowed}
-use Rattle.numbering.specs.Support.{supportOf}
+use Rattle.numbering.specs.Numbering.{numbering}
 use Rattle.heading.specs.Heading.{Heading}
-use Rattle.heading.specs.Tables.{Lent}
-use Rattle.exported.specs.Settings.{Settings}
-use Rattle.exported.specs.Export.{headingOf, fileOf}
+use Rattle.exported.specs.Export.{headingOf, Export, exportFileOf, exportOf}
 use Rattle.reading_header.specs.HeaderBack.{headerFor, loadedFrom, HeaderBack}
+use Rattle.reading_back.specs.ReadsBack.{ownLevels}
 use Rattle.calls.specs.Load.{Lengths, variableLists, rootLists, Load, Loaded, loadOf}
-use Rattle.calls.specs.Lists.{Call, runCalls}
+use Rattle.calls.specs.Calls.{Call}
+use Rattle.calls.specs.Lists.{runCalls}
 
--- a load of a file at the levels of its own nodes ns, lent lists of these lengths
-abbrev pub ownLoad : Store → List ℕ → List ℕ → Lengths → Load
-ownLoad σ ns f l = record { file = f; list = supportOf σ ns; lent = l }
+-- a load of an export's file at the levels of its own nodes, lent lists of these lengths
+abbrev pub ownLoad : Export → Store → Lengths → Load
+ownLoad x σ l = record { file = exportFileOf x σ; list = ownLevels σ (x .roots); lent = l }
 
 -- '1 a lent part too short: 4,096 entries for each variable list, 1,024 for each root list, `.nnodes` for node scratch' isn't met, where
 -- `.nnodes` is n
@@ -53,23 +52,26 @@ pub record LoadsBack (m : Limits) (h : Heading) (roots : List ℤ) (τ : Store) 
   pub names : r .names ≡ loadedFrom m f .names
   pub rootnames : r .rootnames ≡ loadedFrom m f .rootnames
 
--- Every load into the store τ, lent long enough parts, of a file f of the nodes ns that was exported from the store σ, gives back what was
--- exported. The file's `.nnodes` is the number of its nodes.
-abbrev pub LoadsInto : Limits → Settings → Store → List ℤ → List ℕ → Lent → List ℕ → List ℕ → Store → Type 0
-LoadsInto m s σ roots order p ns f τ =
-    (l : Lengths) → LongEnough (length ns) l → LoadsBack m (headingOf s σ roots order p ns) roots τ f l (loadOf m (ownLoad σ ns f l) τ)
+-- Every load into the store τ, lent long enough parts, of the file of an export from the store σ, gives back what was exported. The file's
+-- `.nnodes` is the number of its nodes.
+abbrev pub LoadsInto : Limits → Export → Store → Store → Type 0
+LoadsInto m x σ τ =
+    (l : Lengths) → LongEnough (length (numbering σ (x .roots))) l
+    → LoadsBack m (headingOf (x .settings) σ (x .roots) (x .order) (x .names)) (x .roots) τ (exportFileOf x σ) l (loadOf m (ownLoad x σ l) τ)
 
--- The first n bytes of an export's output are a file, whose lines stand in an order that document 01 allows, and it loads back into every
--- store that the exporting one has grown into.
-pub record OutputLoads (m : Limits) (s : Settings) (σ : Store) (roots : List ℤ) (order : List ℕ) (p : Lent) (n : ℕ) (out : List ℕ) : Type 0 where
-  pub nodes : List ℕ
-  pub allowed : Allowed σ roots nodes
-  pub file : take n out ≡ fileOf s σ roots order p nodes
-  pub loads : (τ : Store) → Grows σ τ → Rules m τ → LoadsInto m s σ roots order p nodes (take n out) τ
+-- The first n bytes of an export's output are its file, and it loads back into every store that the exporting one has grown into.
+pub record OutputLoads (m : Limits) (x : Export) (σ : Store) (n : ℕ) : Type 0 where
+  pub file : take n (exportOf m x σ .out) ≡ exportFileOf x σ
+  pub loads : (τ : Store) → Grows σ τ → Rules m τ → LoadsInto m x σ τ
 
 -- The same after any calls: export, load other files, load back.
-pub record OutputLoadsLater (m : Limits) (s : Settings) (σ : Store) (roots : List ℤ) (order : List ℕ) (p : Lent) (n : ℕ) (out : List ℕ) : Type 0 where
-  pub nodes : List ℕ
-  pub allowed : Allowed σ roots nodes
-  pub file : take n out ≡ fileOf s σ roots order p nodes
-  pub loads : (cs : List Call) → LoadsInto m s σ roots order p nodes (take n out) (runCalls m σ cs)
+pub record OutputLoadsLater (m : Limits) (x : Export) (σ : Store) (n : ℕ) : Type 0 where
+  pub file : take n (exportOf m x σ .out) ≡ exportFileOf x σ
+  pub loads : (cs : List Call) → LoadsInto m x σ (runCalls m σ cs)
+
+-- Two exports of the same roots, by the same settings, with the same variable order and names, whatever lengths they are lent.
+pub record SamePlan (x y : Export) : Type 0 where
+  pub settings : x .settings ≡ y .settings
+  pub roots : x .roots ≡ y .roots
+  pub order : x .order ≡ y .order
+  pub names : x .names ≡ y .names

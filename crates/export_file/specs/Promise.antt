@@ -14,8 +14,6 @@ use Rattle.header_values.specs.Kinds.{ofPlace}
 use Rattle.store.specs.Store.{Store}
 use Rattle.store.specs.Lent.{storeNow, oldStore}
 use Rattle.seats.specs.Seats.{Seats}
-use Rattle.reached.specs.Reached.{bare}
-use Rattle.numbering.specs.Numbering.{numbering}
 use Rattle.heading.specs.Tables.{lent}
 use Rattle.exported.specs.Settings.{settings}
 use Rattle.exported.specs.Export.{exportFault, fileOf}
@@ -37,11 +35,11 @@ module _ (version : DDDMPVersion) (ascii : Bool) (dd : Place) (levels count : �
   abbrev takenStore : Store
   takenStore = oldStore levels count level then els next heads
 
-  -- the file of the nodes as `numbering` lists them
+  -- the file
   abbrev written : List ℕ
   written =
       fileOf (settings version ascii (ofPlace dd)) takenStore (old roots) (old order)
-      (lent (old bytes) (old starts) (old lens) (old rootstarts) (old rootlens) (ofPlace dd)) (numbering (bare takenStore) (old roots))
+      (lent (old bytes) (old starts) (old lens) (old rootstarts) (old rootlens) (ofPlace dd))
 
   -- the file, and zeros after it
   pub record FilePromise (out : Part (List ℕ)) (r : ℕ) : Type 0 where

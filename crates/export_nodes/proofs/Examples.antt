@@ -7,7 +7,7 @@ use Rattle.seats.specs.Seats.{seatOf}
 use Rattle.writers.specs.Decimal.{digits, decimal, edgeText}
 use Rattle.writers.specs.Words.{spaced}
 use Rattle.writers.specs.Binary.{escaped, escapedAll, groupsBy, groups, sevenBit}
-use Rattle.reached.specs.Walk.{meetBy, meet, meetAll}
+use Rattle.reached.specs.Walk.{walkBy, walk, without, firstOnes, firstMet}
 use Rattle.numbering.specs.Numbering.{atDepth, deepestFirst, numbering}
 use Rattle.numbering.specs.Support.{supportFrom}
 use Rattle.export_nodes.specs.Lines.{renumbered, lineOfNode, linesFor}
@@ -16,7 +16,7 @@ use Rattle.export_nodes.specs.Examples.{exampleStore, exampleNodes, exam
 
 -- document 01's example: its lines, as text and in binary
 pub example-lines : linesFor exampleStore exampleNodes ≡ exampleLines
-unfolding seatOf meetBy meet meetAll atDepth deepestFirst numbering supportFrom minus renumbered lineOfNode linesFor
+unfolding seatOf walkBy walk without firstOnes firstMet atDepth deepestFirst numbering supportFrom minus renumbered lineOfNode linesFor
 example-lines = refl
 
 pub example-text : nodeBytes true exampleLines ≡ exampleText
@@ -29,5 +29,5 @@ example-binary = refl
 
 -- deepest level first, and inside a level the order of the walk's first meeting
 pub mixed-numbered : numbering mixed mixedRoots ≡ 1 ∷ 2 ∷ 5 ∷ 6 ∷ 3 ∷ []
-unfolding seatOf meetBy meet meetAll atDepth deepestFirst numbering supportFrom
+unfolding seatOf walkBy walk without firstOnes firstMet atDepth deepestFirst numbering supportFrom
 mixed-numbered = refl

@@ -12,7 +12,7 @@ use Rattle.store.specs.Store.{Store, levelAt, thenAt, elseAt, slots}
 use Rattle.seats.specs.Seats.{Seats}
 use Rattle.seats.proofs.Seating.{seat-most}
 use Rattle.node_lines.specs.Line.{terminal}
-use Rattle.numbering.specs.Numbering.{Numbers}
+use Rattle.numbering.specs.Numbering.{numbering, Numbers}
 use Rattle.numbering.specs.Support.{supportOf}
 use Rattle.export_nodes.specs.Lines.{renumbered, lineOfNode, linesFor}
 use Rattle.node_writers.specs.Encoded.{nodeBytes}
@@ -31,7 +31,10 @@ pub record Filled (σ : Store) (ns numbers seats : List ℕ) : Type 0 where
   pub numbers-long : σ .count ≤ length numbers
   pub seats-long : varLimit ≤ length seats
 
-module _ {σ : Store} {roots : List ℤ} {ns numbers seats : List ℕ} (E : Exported limits σ roots ns) (F : Filled σ ns numbers seats) where
+module _ {σ : Store} {roots : List ℤ} {numbers seats : List ℕ} (E : Exported limits σ roots) (F : Filled σ (numbering σ roots) numbers seats) where
+  abbrev ns : List ℕ
+  ns = numbering σ roots
+
   -- the level of a node has an entry in the table of seats
   level-held : (n : ℕ) → 2 ≤ n → n ≤ σ .count → levelAt σ n < length seats
   level-held n h k = omega (arith, E .rules .nodes .fits n h k .level-low, E .rules .sizes .levels-limit, F .seats-long)
@@ -50,8 +53,8 @@ module _ {σ : Store} {roots : List ℤ} {ns numbers seats : List ℕ} (E : Expo
       }
 
   -- Its lines can be written by the tables ..
-  pub allowed-lined : Lined (slots (σ .level) (σ .then) (σ .els)) ns numbers seats
-  allowed-lined =
+  pub export-lined : Lined (slots (σ .level) (σ .then) (σ .els)) ns numbers seats
+  export-lined =
       let Z = E .rules .sizes in
       record {
         few = omega (arith, lines-few E, Z .count-limit);
@@ -75,12 +78,12 @@ module _ {σ : Store} {roots : List ℤ} {ns numbers seats : List ℕ} (E : Expo
       }
 
   -- .. and are those of its nodes.
-  pub allowed-lines : linesBy (slots (σ .level) (σ .then) (σ .els)) numbers seats ns ≡ linesFor σ ns
+  pub export-lines : linesBy (slots (σ .level) (σ .then) (σ .els)) numbers seats ns ≡ linesFor σ ns
   unfolding lineBy linesBy
-  allowed-lines =
+  export-lines =
       lines-by-tables σ ns numbers seats (F .numbered) (F .seated)
       (λ i h f.
-      let I = allowed-lined .inner i h (omega (arith, f, entry-node E i h .some)) in
+      let I = export-lined .inner i h (omega (arith, f, entry-node E i h .some)) in
       record {
         level = I .seated;
         then-some = I .then .some;
@@ -89,31 +92,34 @@ module _ {σ : Store} {roots : List ℤ} {ns numbers seats : List ℕ} (E : Expo
         else-there = I .els .there;
       })
 
-module _ {m : Limits} (W : RoomForExports m) {σ : Store} {roots : List ℤ} {ns : List ℕ} (E : Exported m σ roots ns) where
-  -- the number of a line has seven digits at most
-  edge-small : (c : ℤ) → natAbs (renumbered ns c) < 10 ^ 7
-  edge-small c = omega (arith, renumbered-abs ns c, seat-most (natAbs c) ns, lines-few E, E .rules .sizes .count-limit, W .few-digits)
+module _ {m : Limits} (W : RoomForExports m) {σ : Store} {roots : List ℤ} (E : Exported m σ roots) where
+  abbrev nodes : List ℕ
+  nodes = numbering σ roots
 
-  line-small : {i n : ℕ} → NodeAt σ ns i n → Small (lineOfNode σ (supportOf σ ns) ns n)
+  -- the number of a line has seven digits at most
+  edge-small : (c : ℤ) → natAbs (renumbered nodes c) < 10 ^ 7
+  edge-small c = omega (arith, renumbered-abs nodes c, seat-most (natAbs c) nodes, lines-few E, E .rules .sizes .count-limit, W .few-digits)
+
+  line-small : {i n : ℕ} → NodeAt σ nodes i n → Small (lineOfNode σ (supportOf σ nodes) nodes n)
   unfolding lineOfNode
   line-small terminalAt = tt
   line-small {i} {n} (innerAt I) =
       rw (ne-eqb n 1 (λ z. omega (arith, I .node))) (
-        omega (arith, position-low I, support-few σ ns, E .rules .sizes .levels-limit, W .few-levels),
+        omega (arith, position-low I, support-few σ nodes, E .rules .sizes .levels-limit, W .few-levels),
         edge-small (thenAt σ n),
         edge-small (elseAt σ n),
       )
 
   -- The lines of an export are within the limits ..
-  pub lines-small : (i : ℕ) → i < length (linesFor σ ns) → Small (getD (linesFor σ ns) i terminal)
+  pub lines-small : (i : ℕ) → i < length (linesFor σ nodes) → Small (getD (linesFor σ nodes) i terminal)
   unfolding linesFor
   lines-small i h =
-      let k : i < length ns = rw (length-map ns (lineOfNode σ (supportOf σ ns) ns)) at h in
-      rw (mapped-at (lineOfNode σ (supportOf σ ns) ns) ns i 0 terminal k) (line-small (node-at E i (getD ns i 0) k refl))
+      let k : i < length nodes = rw (length-map nodes (lineOfNode σ (supportOf σ nodes) nodes)) at h in
+      rw (mapped-at (lineOfNode σ (supportOf σ nodes) nodes) nodes i 0 terminal k) (line-small (node-at E i (getD nodes i 0) k refl))
 
   -- .. so they are short.
-  pub lines-short : (ascii : Bool) → length (nodeBytes ascii (linesFor σ ns)) ≤ 32 * length ns
+  pub lines-short : (ascii : Bool) → length (nodeBytes ascii (linesFor σ nodes)) ≤ 32 * length nodes
   unfolding linesFor
   lines-short ascii =
-      let long = length-map ns (lineOfNode σ (supportOf σ ns) ns) in
-      omega (arith, nodes-short ascii (linesFor σ ns) (omega (arith, lines-few E, E .rules .sizes .count-limit, W .few-digits)) lines-small)
+      let long = length-map nodes (lineOfNode σ (supportOf σ nodes) nodes) in
+      omega (arith, nodes-short ascii (linesFor σ nodes) (omega (arith, lines-few E, E .rules .sizes .count-limit, W .few-digits)) lines-small)

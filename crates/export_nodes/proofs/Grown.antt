@@ -9,8 +9,9 @@ use Rattle.codes.specs.Limits.{Limits}
 use Rattle.store.specs.Store.{Store}
 use Rattle.store.specs.Growth.{Grows}
 use Rattle.node_lines.specs.Line.{Line}
+use Rattle.numbering.specs.Numbering.{numbering}
 use Rattle.numbering.specs.Support.{supportOf}
-use Rattle.numbering.proofs.Grown.{support-grown}
+use Rattle.numbering.proofs.Grown.{numbering-grown, support-grown}
 use Rattle.export_nodes.specs.Lines.{lineOfNode, linesFor}
 use Rattle.export_nodes.specs.Exported.{Exported}
 use Rattle.export_nodes.proofs.Renumbered.{entry-node}
@@ -30,14 +31,21 @@ module _ {σ τ : Store} (G : Grows σ τ) where
       let two : 2 ≤ suc (suc k) = omega arith in
       rw (G .level (suc (suc k)) two there, G .then (suc (suc k)) two there, G .els (suc (suc k)) two there)
 
-  module _ {m : Limits} {roots : List ℤ} {ns : List ℕ} (E : Exported m σ roots ns) where
-    -- the levels of the support are the same ..
-    pub levels-grown : supportOf τ ns ≡ supportOf σ ns
-    levels-grown = support-grown G ns (λ i h. entry-node E i h .there)
+  module _ {m : Limits} {roots : List ℤ} (E : Exported m σ roots) where
+    abbrev ns : List ℕ
+    ns = numbering σ roots
+
+    -- the same nodes have lines, in the same order ..
+    pub nodes-grown : numbering τ roots ≡ ns
+    nodes-grown = numbering-grown G roots (E .rules .nodes) (E .roots-there)
+
+    -- .. their levels are the same ..
+    pub levels-grown : supportOf τ (numbering τ roots) ≡ supportOf σ ns
+    levels-grown = rw nodes-grown (support-grown G ns (λ i h. entry-node E i h .there))
 
     -- .. and so is each line
-    pub lines-grown : linesFor τ ns ≡ linesFor σ ns
+    pub lines-grown : linesFor τ (numbering τ roots) ≡ linesFor σ ns
     unfolding linesFor
     lines-grown =
-        rw levels-grown
+        rw (levels-grown, nodes-grown)
         (map-same _ _ ns (λ i h. node-grown (supportOf σ ns) ns (getD ns i 0) (entry-node E i h .some) (entry-node E i h .there)))

@@ -16,10 +16,10 @@ use Rattle.store.proofs.Meaning.{depth-node}
 use Rattle.seats.specs.Seats.{seatOf}
 use Rattle.seats.proofs.Seating.{seat-most}
 use Rattle.reached.specs.Reached.{Reached, root, then, els}
-use Rattle.reached.proofs.Members.{Among}
-use Rattle.reached.proofs.Few.{few}
 use Rattle.reached.proofs.Grown.{reached-node}
-use Rattle.reached.proofs.EntrySeats.{seat-entry, of-entry}
+use Rattle.reached.proofs.EntrySeats.{seat-entry}
+use Rattle.numbering.specs.Numbering.{numbering}
+use Rattle.numbering.proofs.Lines.{lines-all, lines-only, lines-fall, lines-count}
 use Rattle.export_nodes.specs.Lines.{renumbered}
 use Rattle.export_nodes.specs.Exported.{Exported}
 use Rattle.export_nodes.proofs.EdgeNumbers.{signed-abs}
@@ -58,25 +58,36 @@ pub data NodeAt (σ : Store) (ns : List ℕ) (i : ℕ) : ℕ → Type 0 where
   terminalAt : NodeAt σ ns i 1
   innerAt : {n : ℕ} → InnerAt σ ns i n → NodeAt σ ns i n
 
-module _ {m : Limits} {σ : Store} {roots : List ℤ} {ns : List ℕ} (E : Exported m σ roots ns) where
+module _ {m : Limits} {σ : Store} {roots : List ℤ} (E : Exported m σ roots) where
+  abbrev ns : List ℕ
+  ns = numbering σ roots
+
   -- the roots lead to nodes of the store
   met-node : {n : ℕ} → Reached σ roots n → EdgeOf σ (pos n)
   met-node = reached-node (E .rules .nodes) (E .roots-there)
 
-  -- so each line has one
+  -- each that they lead to has a line ..
+  all : (n : ℕ) → Reached σ roots n → 1 ≤ seatOf n ns
+  all = lines-all σ roots (E .rules .nodes) (E .roots-there)
+
+  -- .. and no other
+  only : (i : ℕ) → i < length ns → Reached σ roots (getD ns i 0)
+  only = lines-only σ roots (E .rules .nodes) (E .roots-there)
+
+  -- so each line has a node of the store
   pub entry-node : (i : ℕ) → i < length ns → EdgeOf σ (pos (getD ns i 0))
-  entry-node i h = met-node (E .allowed .only i h)
+  entry-node i h = met-node (only i h)
 
   -- and there are no more lines than nodes
   pub lines-few : length ns ≤ σ .count
-  lines-few = few (σ .count) ns (of-entry (Among (σ .count)) ns (λ i h. (entry-node i h .some, entry-node i h .there))) (E .allowed .once)
+  lines-few = lines-count σ roots (E .rules .nodes) (E .roots-there)
 
   -- 'deepest level first'
   deepest : (i k : ℕ) → i + k < length ns → depth σ (getD ns (i + k) 0) ≤ depth σ (getD ns i 0)
   deepest i zero h = let e : i + 0 ≡ i = omega arith in rw e (omega arith)
   deepest i (suc k) h =
       let e : i + suc k ≡ i + k + 1 = omega arith in
-      rw e (omega (arith, E .allowed .deepest-first (i + k) (omega arith), deepest i k (omega arith)))
+      rw e (omega (arith, lines-fall σ roots (E .rules .nodes) (E .roots-there) (i + k) (omega arith), deepest i k (omega arith)))
 
   -- a node that lies deeper than another has an earlier line
   deeper-early : (i n : ℕ) → i < length ns → 1 ≤ seatOf n ns → depth σ (getD ns i 0) < depth σ n → seatOf n ns ≤ i
@@ -92,12 +103,12 @@ module _ {m : Limits} {σ : Store} {roots : List ℤ} {ns : List ℕ} (E : Expor
   -- so children, which lie deeper than their node, have earlier lines
   pub inner-at : (i n : ℕ) → i < length ns → getD ns i 0 ≡ n → 2 ≤ n → InnerAt σ ns i n
   inner-at i n h e p =
-      let r : Reached σ roots n = rw e at (E .allowed .only i h) in
+      let r : Reached σ roots n = rw e at (only i h) in
       let F = E .rules .nodes .fits n p (met-node r .there) in
       record {
         node = p;
         there = met-node r .there;
-        seated = E .allowed .all n r;
+        seated = all n r;
         fits = F;
         then = child (thenAt σ n) (then p r) (F .then-deep);
         els = child (elseAt σ n) (els p r) (F .else-deep);
@@ -105,7 +116,7 @@ module _ {m : Limits} {σ : Store} {roots : List ℤ} {ns : List ℕ} (E : Expor
     where
       child : (c : ℤ) → Reached σ roots (natAbs c) → levelAt σ n < depth σ (natAbs c) → Numbered ns i c
       child c r d =
-          let s = E .allowed .all (natAbs c) r in
+          let s = all (natAbs c) r in
           record { some = s; early = deeper-early i (natAbs c) h s (rw e (omega (arith, depth-node σ n p))) }
 
   -- the node of a line
@@ -123,7 +134,7 @@ module _ {m : Limits} {σ : Store} {roots : List ℤ} {ns : List ℕ} (E : Expor
 
   -- a root has a line
   pub root-numbered : (i : ℕ) → i < length roots → Numbered ns (length ns) (getD roots i (pos 0))
-  root-numbered i h = record { some = E .allowed .all _ (root i h); early = seat-most _ ns }
+  root-numbered i h = record { some = all _ (root i h); early = seat-most _ ns }
 
   -- every node leads to the terminal
   to-terminal : (f n : ℕ) → n ≤ f → Reached σ roots n → Reached σ roots 1
@@ -143,6 +154,6 @@ module _ {m : Limits} {σ : Store} {roots : List ℤ} {ns : List ℕ} (E : Expor
       go : (n : ℕ) → getD ns 0 0 ≡ n → NodeAt σ ns 0 n → n ≡ 1
       go n e terminalAt = refl
       go n e (innerAt I) =
-          let s = E .allowed .all 1 (to-terminal n n (omega arith) (rw e at (E .allowed .only 0 h))) in
+          let s = all 1 (to-terminal n n (omega arith) (rw e at (only 0 h))) in
           let low = I .fits .level-low in
           absurd (omega (arith, deeper-early 0 1 h s (rw e (omega (arith, depth-node σ n (I .node))))))

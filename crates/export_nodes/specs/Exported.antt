@@ -7,10 +7,8 @@ use Rattle.store.specs.Store.{Store}
 use Rattle.codes.specs.Limits.{Limits}
 use Rattle.store.specs.Rules.{Rules}
 use Rattle.store.specs.Growth.{EdgeOf}
-use Rattle.numbering.specs.Allowed.{Allowed}
 
--- a store that keeps the rules, roots that are its edges, and a numbering that document 01 allows
-pub record Exported (m : Limits) (σ : Store) (roots : List ℤ) (ns : List ℕ) : Type 0 where
+-- a store that keeps the rules, and roots that are its edges
+pub record Exported (m : Limits) (σ : Store) (roots : List ℤ) : Type 0 where
   pub rules : Rules m σ
   pub roots-there : (i : ℕ) → i < length roots → EdgeOf σ (getD roots i (pos 0))
-  pub allowed : Allowed σ roots ns

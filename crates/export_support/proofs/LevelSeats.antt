@@ -13,7 +13,7 @@ use borrow.Author.Tests.{eq-eqb, ne-eqb}
 use Rattle.store.specs.Store.{Store}
 use Rattle.store.specs.Rules.{depth}
 use Rattle.seats.specs.Seats.{seatOf, Seats}
-use Rattle.reached.specs.Walk.{isIn}
+use Rattle.reached.specs.Meet.{isIn}
 use Rattle.numbering.specs.Numbering.{atDepth}
 use Rattle.numbering.specs.Support.{some, supportFrom}
 use Rattle.numbering.specs.Depths.{Marked}

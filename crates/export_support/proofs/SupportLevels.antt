@@ -13,7 +13,7 @@ use Rattle.store.specs.Rules.{depth}
 use Rattle.seats.specs.Seats.{seatOf}
 use Rattle.seats.specs.Ordered.{ascending}
 use Rattle.support.specs.Support.{lastBelow, idsFit}
-use Rattle.reached.specs.Walk.{isIn}
+use Rattle.reached.specs.Meet.{isIn}
 use Rattle.numbering.specs.Numbering.{atDepth}
 use Rattle.numbering.specs.Support.{some, supportFrom, leveled, supportOf}
 use Rattle.reached.proofs.Entries.{never, in-cons, in-here, in-rest, in-seat}

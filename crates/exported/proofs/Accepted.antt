@@ -20,6 +20,7 @@ use Rattle.support.specs.Support.{permidsFit}
 use Rattle.variable_order.specs.Order.{isOrder}
 use Rattle.export_names.specs.Names.{fitPlace, nameListFits}
 use Rattle.export_size.specs.Size.{exportSize}
+use Rattle.export_nodes.specs.Exported.{Exported}
 use Rattle.heading.specs.Tables.{Lent, NamesFit}
 use Rattle.exported.specs.Export.{allRoots, rootsFit, longEnough, namesFit, exportFault}
 
@@ -33,6 +34,11 @@ pub record Accepted (m : Limits) (σ : Store) (roots : List ℤ) (order : List �
   pub order-long : length order ≡ σ .levels
   pub is-order : isOrder (length order) order ≡ true
   pub names : NamesFit p (length order) (length roots)
+
+-- what it starts from
+pub exported : {m : Limits} {σ : Store} {roots : List ℤ} {order : List ℕ} {p : Lent} {slots numbers out : ℕ}
+    → Accepted m σ roots order p slots numbers out → Exported m σ roots
+exported A = record { rules = A .rules; roots-there = A .roots-there }
 
 -- three tests in a row that hold
 all-three : (a b c : Bool) → (a && b && c) ≡ true → (a ≡ true) × (b ≡ true) × (c ≡ true)

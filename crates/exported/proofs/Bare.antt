@@ -1,16 +1,13 @@
--- A store without its chains: what numbering leans on, and what it allows.
-use mathlib.Core.Path.{_≡_, refl}
+-- A store without its chains: what numbering leans on.
 use mathlib.Core.List.{List}
-use Prim.Native.Nat.{ℕ, zero, suc}
+use Prim.Native.Nat.{ℕ}
 use native.Mathlib.Omega.{arith}
 use native.Mathlib.Nat.{le-refl}
 use lib.IntN.{ℤ}
 use Rattle.codes.specs.Limits.{limits}
 use Rattle.store.specs.Store.{Store}
-use Rattle.store.specs.Rules.{depth}
 use Rattle.store.proofs.Lower.{nodes-lower}
-use Rattle.reached.specs.Reached.{bare, Reached, root, then, els}
-use Rattle.numbering.specs.Allowed.{Allowed}
+use Rattle.reached.specs.Reached.{bare}
 use Rattle.numbering.specs.Numbering.{Walkable}
 use Rattle.heading.specs.Tables.{Lent}
 use Rattle.exported.proofs.Accepted.{Accepted}
@@ -33,30 +30,3 @@ bare-walkable {σ} A =
       slots-long = A .slots-long;
       numbers-long = A .numbers-long;
     }
-
-module _ (σ : Store) (roots : List ℤ) where
-  -- its nodes lie as deep
-  bare-depth : (n : ℕ) → depth (bare σ) n ≡ depth σ n
-  bare-depth zero = refl
-  bare-depth (suc zero) = refl
-  bare-depth (suc (suc n)) = refl
-
-  -- the roots lead to the same ones
-  from-bare : {n : ℕ} → Reached (bare σ) roots n → Reached σ roots n
-  from-bare (root i h) = root i h
-  from-bare (then h r) = then h (from-bare r)
-  from-bare (els h r) = els h (from-bare r)
-
-  to-bare : {n : ℕ} → Reached σ roots n → Reached (bare σ) roots n
-  to-bare (root i h) = root i h
-  to-bare (then h r) = then h (to-bare r)
-  to-bare (els h r) = els h (to-bare r)
-
-  -- so it allows the same lists of them
-  pub bare-allowed : (ns : List ℕ) → Allowed (bare σ) roots ns → Allowed σ roots ns
-  bare-allowed ns A = record {
-    all = λ n r. A .all n (to-bare r);
-    once = A .once;
-    only = λ i h. from-bare (A .only i h);
-    deepest-first = λ i h. simp bare-depth at (A .deepest-first i h);
-  }

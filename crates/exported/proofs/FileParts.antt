@@ -15,6 +15,7 @@ use Rattle.export_size.specs.Size.{exportSize}
 use Rattle.export_names.proofs.FitLists.{place-length, list-count, list-sum}
 use Rattle.writers.specs.Written.{Wrote}
 use Rattle.writers.proofs.Sets.{wrote-then, sets-laid}
+use Rattle.numbering.specs.Numbering.{numbering}
 use Rattle.export_nodes.specs.Exported.{Exported}
 use Rattle.export_nodes.specs.Lines.{renumbered, linesFor}
 use Rattle.node_writers.specs.Encoded.{nodeBytes, endText}
@@ -28,21 +29,27 @@ use Rattle.heading.specs.Tables.{Lent}
 use Rattle.heading.proofs.Short.{head-short}
 use Rattle.exported.specs.Settings.{Settings}
 use Rattle.exported.specs.Export.{headingOf, fileOf}
-use Rattle.exported.proofs.Accepted.{Accepted}
+use Rattle.exported.proofs.Accepted.{Accepted, exported}
 
 module _ (s : Settings) {m : Limits} (W : RoomForExports m) {σ : Store} {roots : List ℤ} {order : List ℕ} {p : Lent} {slots numbers out : ℕ}
-    (A : Accepted m σ roots order p slots numbers out) {ns : List ℕ} (E : Exported m σ roots ns) where
+    (A : Accepted m σ roots order p slots numbers out) where
+  abbrev ns : List ℕ
+  ns = numbering σ roots
+
+  E : Exported m σ roots
+  E = exported A
+
   -- the lengths of the parts
-  file-length : length (fileOf s σ roots order p ns)
-      ≡ length (headText (headingOf s σ roots order p ns)) + (length (nodeBytes (s .ascii) (linesFor σ ns)) + 5)
+  file-length : length (fileOf s σ roots order p)
+      ≡ length (headText (headingOf s σ roots order p)) + (length (nodeBytes (s .ascii) (linesFor σ ns)) + 5)
   unfolding fileOf
   file-length =
-      let h = headText (headingOf s σ roots order p ns) in
+      let h = headText (headingOf s σ roots order p) in
       let b = nodeBytes (s .ascii) (linesFor σ ns) in
       length-append h (b ++ endText) ∙ ap (λ n. length h + n) (length-append b endText)
 
   -- the header is within the limits
-  heading-small : SmallHeading (headingOf s σ roots order p ns)
+  heading-small : SmallHeading (headingOf s σ roots order p)
   unfolding headingOf
   heading-small =
       let few = lines-few E in
@@ -63,13 +70,13 @@ module _ (s : Settings) {m : Limits} (W : RoomForExports m) {σ : Store} {roots 
       }
 
   -- document 01, 'Limits': the export size
-  pub file-short : length (fileOf s σ roots order p ns) ≤ exportSize (σ .count) (σ .levels) (length roots) (p .lens) (p .rootlens) (p .dd .len)
+  pub file-short : length (fileOf s σ roots order p) ≤ exportSize (σ .count) (σ .levels) (length roots) (p .lens) (p .rootlens) (p .dd .len)
   unfolding exportSize headingOf
   file-short =
       omega (
         arith,
         file-length,
-        head-short (headingOf s σ roots order p ns) heading-small,
+        head-short (headingOf s σ roots order p) heading-small,
         lines-short W E (s .ascii),
         lines-few E,
         A .order-long,
@@ -80,7 +87,7 @@ module _ (s : Settings) {m : Limits} (W : RoomForExports m) {σ : Store} {roots 
       )
 
   -- the parts as they are written: there is room for the header h ..
-  module _ {h : List ℕ} (hq : h ≡ headText (headingOf s σ roots order p ns)) where
+  module _ {h : List ℕ} (hq : h ≡ headText (headingOf s σ roots order p)) where
     pub head-room : 0 + length h ≤ out
     head-room = rw hq (omega (arith, file-length, file-short, A .out-long))
 
@@ -99,7 +106,7 @@ module _ (s : Settings) {m : Limits} (W : RoomForExports m) {σ : Store} {roots 
       -- written one after another they are the file
       pub file-written : {l k n o : List ℕ} {at next end : ℕ} → Wrote l 0 h at k → Wrote k at b next n → Wrote n next endText end o
           → l ≡ replicate out 0
-          → (end ≡ length (fileOf s σ roots order p ns)) × (o ≡ laid (fileOf s σ roots order p ns) (replicate out 0))
+          → (end ≡ length (fileOf s σ roots order p)) × (o ≡ laid (fileOf s σ roots order p) (replicate out 0))
       unfolding fileOf
       file-written {l} u v w z =
           let f = wrote-then l 0 h (b ++ endText) u (wrote-then _ _ b endText v w) in

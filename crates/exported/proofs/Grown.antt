@@ -12,21 +12,21 @@ use Rattle.store.specs.Growth.{Grows}
 use Rattle.store.proofs.Growth.{grow-edge}
 use Rattle.export_size.specs.Size.{exportSize}
 use Rattle.export_nodes.specs.Exported.{Exported}
-use Rattle.export_nodes.proofs.Grown.{levels-grown, lines-grown}
+use Rattle.export_nodes.proofs.Grown.{nodes-grown, levels-grown, lines-grown}
 use Rattle.heading.specs.Tables.{Lent}
 use Rattle.exported.specs.Settings.{Settings}
 use Rattle.exported.specs.Export.{headingOf, fileOf}
 use Rattle.exported.proofs.Accepted.{Accepted}
 
 module _ {σ τ : Store} (G : Grows σ τ) {roots : List ℤ} where
-  module _ {m : Limits} (s : Settings) (order : List ℕ) (p : Lent) {ns : List ℕ} (E : Exported m σ roots ns) where
+  module _ {m : Limits} (s : Settings) (order : List ℕ) (p : Lent) (E : Exported m σ roots) where
     -- the header says the same
-    pub heading-grown : headingOf s τ roots order p ns ≡ headingOf s σ roots order p ns
+    pub heading-grown : headingOf s τ roots order p ≡ headingOf s σ roots order p
     unfolding headingOf
-    heading-grown = rw (levels-grown G E)
+    heading-grown = rw (levels-grown G E, nodes-grown G E)
 
     -- so the file is the same, byte by byte
-    pub file-grown : fileOf s τ roots order p ns ≡ fileOf s σ roots order p ns
+    pub file-grown : fileOf s τ roots order p ≡ fileOf s σ roots order p
     unfolding fileOf
     file-grown = rw (heading-grown, lines-grown G E)
 

@@ -1,6 +1,6 @@
 pub mod Accepted
+pub mod Answered
 pub mod Bare
 pub mod FileParts
 pub mod Prepared
-pub mod Started
 pub mod Grown

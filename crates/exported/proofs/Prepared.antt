@@ -1,5 +1,5 @@
 -- The lines of an accepted export and the tables that it fills: each part of the file can be written by them.
-use mathlib.Core.Path.{_≡_, refl, _∙_}
+use mathlib.Core.Path.{_≡_, refl, ap, _∙_}
 use mathlib.Core.Bool.{Bool}
 use mathlib.Core.List.{List, [], _∷_, map}
 use Prim.Native.Nat.{ℕ, suc, _≤_, _<_}
@@ -19,31 +19,25 @@ use Rattle.numbering.specs.Numbering.{numbering, Numbers}
 use Rattle.numbering.specs.Support.{supportOf, Placed}
 use Rattle.reached.proofs.Laid.{take-laid}
 use Rattle.export_support.proofs.SupportLevels.{support-fits}
-use Rattle.numbering.proofs.Allowed.{numbering-allowed}
+use Rattle.numbering.proofs.Numbered.{numbering-bare}
 use Rattle.export_nodes.specs.Exported.{Exported}
 use Rattle.export_nodes.specs.Lines.{renumbered, linesFor}
 use Rattle.export_nodes.specs.Tables.{lineNumberOf, linesBy, Lined}
 use Rattle.export_nodes.proofs.Renumbered.{entry-node, lines-few}
 use Rattle.export_nodes.proofs.FilledTables.{number-seat, number-line}
-use Rattle.export_nodes.proofs.ExportLines.{Filled, allowed-lined, allowed-lines}
+use Rattle.export_nodes.proofs.ExportLines.{Filled, export-lined, export-lines}
 use Rattle.heading.specs.Tables.{Lent, seatedLevels, headingBy, Ordered, Rooted}
 use Rattle.heading.proofs.Support.{seated-support}
 use Rattle.exported.specs.Settings.{settings}
 use Rattle.exported.specs.Export.{headingOf}
-use Rattle.exported.proofs.Accepted.{Accepted}
-use Rattle.exported.proofs.Bare.{bare-walkable, bare-allowed}
+use Rattle.exported.proofs.Accepted.{Accepted, exported}
 
 module _ {σ : Store} {roots : List ℤ} {order : List ℕ} {p : Lent} {room marks out : ℕ} (A : Accepted limits σ roots order p room marks out) where
   abbrev ns : List ℕ
-  ns = numbering (bare σ) roots
+  ns = numbering σ roots
 
-  -- the numbering is one that document 01 allows
-  pub exported : Exported limits σ roots ns
-  exported = record {
-    rules = A .rules;
-    roots-there = A .roots-there;
-    allowed = bare-allowed σ roots ns (numbering-allowed (bare σ) roots room marks (bare-walkable A));
-  }
+  E : Exported limits σ roots
+  E = exported A
 
   -- what the lines of variables lean on
   pub ordered : (vars seats : List ℕ) → length order ≤ length vars → Seats order vars → varLimit ≤ length seats → Ordered order vars seats
@@ -73,7 +67,7 @@ module _ {σ : Store} {roots : List ℤ} {order : List ℕ} {p : Lent} {room mar
             some = some;
             there = root-there i h;
             small =
-                let most = lines-few exported in
+                let most = lines-few E in
                 omega (arith, number-seat ns numbers m (F .numbered) some (root-there i h), seat-most m ns, A .rules .sizes .count-limit);
           };
     }
@@ -91,26 +85,34 @@ module _ {σ : Store} {roots : List ℤ} {order : List ℕ} {p : Lent} {room mar
 
     -- the header by them is that of the nodes
     pub heading-same : (version : DDDMPVersion) (ascii : Bool) {n : ℕ} → n ≡ length ns
-        → headingBy version ascii p n order seats roots numbers ≡ headingOf (settings version ascii (p .dd)) σ roots order p ns
+        → headingBy version ascii p n order seats roots numbers ≡ headingOf (settings version ascii (p .dd)) σ roots order p
     unfolding headingOf
     heading-same version ascii e = rw (e, seated-same, roots-same roots (A .roots-there))
 
-  -- the list that holds the nodes of the n lines, as numbering leaves it
-  module _ {n : ℕ} {nodes : List ℕ} (e : n ≡ length ns) (l : nodes ≡ laid ns (replicate room 0)) where
+  -- the list that holds the nodes of the n lines, as numbering leaves it, which looks at no chain
+  module _ {n : ℕ} {nodes : List ℕ} (e : n ≡ length (numbering (bare σ) roots)) (l : nodes ≡ laid (numbering (bare σ) roots) (replicate room 0)) where
+    -- they are counted ..
+    pub nodes-many : n ≡ length ns
+    nodes-many = e ∙ ap length (numbering-bare σ roots)
+
+    -- .. and laid over it
+    nodes-laid : nodes ≡ laid ns (replicate room 0)
+    nodes-laid = l ∙ ap (λ t. laid t (replicate room 0)) (numbering-bare σ roots)
+
     nodes-long : length nodes ≡ room
-    nodes-long = rw l (length-laid ns (replicate room 0) ∙ length-replicate room 0)
+    nodes-long = rw nodes-laid (length-laid ns (replicate room 0) ∙ length-replicate room 0)
 
     -- they are its front
     pub nodes-room : n ≤ length nodes
-    nodes-room = omega (arith, lines-few exported, A .slots-long, nodes-long)
+    nodes-room = omega (arith, nodes-many, lines-few E, A .slots-long, nodes-long)
 
     nodes-front : take n nodes ≡ ns
-    nodes-front = rw (e, l) (take-laid ns (replicate room 0) (omega (arith, lines-few exported, A .slots-long, length-replicate {A = ℕ} room 0)))
+    nodes-front = rw (nodes-many, nodes-laid) (take-laid ns (replicate room 0) (omega (arith, lines-few E, A .slots-long, length-replicate {A = ℕ} room 0)))
 
     -- each has its place
     pub nodes-placed : Placed (σ .levels) (σ .level) (take n nodes)
     nodes-placed = rw nodes-front (λ i h.
-        let N = entry-node exported i h in
+        let N = entry-node E i h in
         record {
           some = N .some;
           there = omega (arith, N .there, A .rules .sizes .count-slots);
@@ -118,17 +120,17 @@ module _ {σ : Store} {roots : List ℤ} {order : List ℕ} {p : Lent} {room mar
         })
 
     -- the tables are filled
-    pub filled : {numbers seats : List ℕ} → Numbers ns numbers → length numbers ≡ marks → Seats (supportOf σ (take n nodes)) seats
+    pub filled : {numbers seats : List ℕ} → Numbers (numbering (bare σ) roots) numbers → length numbers ≡ marks → Seats (supportOf σ (take n nodes)) seats
         → varLimit ≤ length seats → Filled σ ns numbers seats
-    filled N long S more = record { numbered = N; seated = rw nodes-front at S; numbers-long = omega (arith, A .numbers-long); seats-long = more }
+    filled N long S more = record { numbered = rw (numbering-bare σ roots) at N; seated = rw nodes-front at S; numbers-long = omega (arith, A .numbers-long); seats-long = more }
 
     -- the lines can be written by them, and are those of the nodes
     pub lined : {numbers seats : List ℕ} → Filled σ ns numbers seats → Lined (slots (σ .level) (σ .then) (σ .els)) (take n nodes) numbers seats
-    lined F = rw nodes-front (allowed-lined exported F)
+    lined F = rw nodes-front (export-lined E F)
 
     pub lines-same : (numbers seats : List ℕ) → Filled σ ns numbers seats
         → linesBy (slots (σ .level) (σ .then) (σ .els)) numbers seats (take n nodes) ≡ linesFor σ ns
-    lines-same numbers seats F = rw nodes-front (allowed-lines exported F)
+    lines-same numbers seats F = rw nodes-front (export-lines E F)
 
     -- as many levels have a seat as the support has
     pub seats-count : {k : ℕ} {numbers seats : List ℕ} → Filled σ ns numbers seats → k ≡ length (supportOf σ (take n nodes)) → k ≡ length (seatedLevels seats)

@@ -1,19 +1,21 @@
--- What an export promises.
 -- An export: its refusals, and the file that it writes. Document 01, 'Export'.
 use Prim.Native.Nat.{ℕ, zero, suc}
 use mathlib.Core.List.{List, [], _∷_, _++_, map}
 use Rattle.seats.specs.Seats.{Seats}
 use mathlib.Core.Bool.{Bool, true, _&&_}
 use lib.Dec.{leb}
-use lib.ListN.{length}
+use lib.ListN.{length, replicate}
 use lib.IntN.{ℤ, natAbs}
 use Rattle.codes.specs.Limits.{Limits, rootLimit}
+use Rattle.codes.specs.Answer.{Read, value, refused}
 use Rattle.codes.specs.Faults.{firstFault, unless}
+use Rattle.codes.specs.Lent.{laid}
 use Rattle.store.specs.Store.{Store}
 use Rattle.store.specs.Keeps.{keeps}
 use Rattle.variable_order.specs.Order.{isOrder}
 use Rattle.export_names.specs.Names.{nameAt, fitPlace, nameListFits}
 use Rattle.export_size.specs.Size.{exportSize}
+use Rattle.numbering.specs.Numbering.{numbering}
 use Rattle.numbering.specs.Support.{supportOf}
 use Rattle.export_nodes.specs.Lines.{renumbered, linesFor}
 use Rattle.node_writers.specs.Encoded.{nodeBytes, endText}
@@ -60,20 +62,64 @@ exportFault m σ roots order p slots numbers out =
     ∷ unless (namesFit σ roots p) 5
     ∷ [])
 
--- what the header says, where the lines are those of the nodes ns
-unfoldable pub headingOf : Settings → Store → List ℤ → List ℕ → Lent → List ℕ → Heading
-headingOf s σ roots order p ns = record {
+-- what the header says: the lines are those of the nodes as `numbering` lists them
+unfoldable pub headingOf : Settings → Store → List ℤ → List ℕ → Lent → Heading
+headingOf s σ roots order p = record {
   version = s .version;
   ascii = s .ascii;
   dd = nameAt (p .bytes) (p .dd);
-  nnodes = length ns;
-  support = supportOf σ ns;
+  nnodes = length (numbering σ roots);
+  support = supportOf σ (numbering σ roots);
   order = order;
   names = namesOf p;
-  rootids = map (renumbered ns) roots;
+  rootids = map (renumbered (numbering σ roots)) roots;
   rootnames = rootnamesOf p;
 }
 
--- The file of an export whose lines are those of the nodes ns: the header, the node lines, and the end.
-unfoldable pub fileOf : Settings → Store → List ℤ → List ℕ → Lent → List ℕ → List ℕ
-fileOf s σ roots order p ns = headText (headingOf s σ roots order p ns) ++ (nodeBytes (s .ascii) (linesFor σ ns) ++ endText)
+-- the file: the header, the node lines, and the end
+unfoldable pub fileOf : Settings → Store → List ℤ → List ℕ → Lent → List ℕ
+fileOf s σ roots order p = headText (headingOf s σ roots order p) ++ (nodeBytes (s .ascii) (linesFor σ (numbering σ roots)) ++ endText)
+
+-- an export: its settings, roots, variable order and names, and the lengths of the marks and of the output
+pub record Export : Type 0 where
+  pub settings : Settings
+  pub roots : List ℤ
+  pub order : List ℕ
+  pub names : Lent
+  pub slots : ℕ
+  pub numbers : ℕ
+  pub out : ℕ
+
+abbrev pub exportInto : Settings → List ℤ → List ℕ → Lent → ℕ → ℕ → ℕ → Export
+exportInto s roots order names slots numbers out = record {
+  settings = s;
+  roots = roots;
+  order = order;
+  names = names;
+  slots = slots;
+  numbers = numbers;
+  out = out;
+}
+
+-- What an export leaves: the length of its file or the number of a refusal, and what its output holds.
+pub record ExportLeft : Type 0 where
+  pub answer : Read ℕ
+  pub out : List ℕ
+
+-- By its refusal, 0 of none, its file, and the length of its output: 'On any refusal outputs are all zeros ..; on success unused output is
+-- zero.'
+abbrev pub exportBy : ℕ → List ℕ → ℕ → ExportLeft
+exportBy zero f lent = record { answer = value (length f); out = laid f (replicate lent 0) }
+exportBy (suc k) f lent = record { answer = refused (suc k); out = replicate lent 0 }
+
+-- 'Export gives 1, 3, 4, 6, 5'
+abbrev pub exportFaultOf : Limits → Export → Store → ℕ
+exportFaultOf m x σ = exportFault m σ (x .roots) (x .order) (x .names) (x .slots) (x .numbers) (x .out)
+
+-- its file
+abbrev pub exportFileOf : Export → Store → List ℕ
+exportFileOf x σ = fileOf (x .settings) σ (x .roots) (x .order) (x .names)
+
+-- The call export, as a whole.
+abbrev pub exportOf : Limits → Export → Store → ExportLeft
+exportOf m x σ = exportBy (exportFaultOf m x σ) (exportFileOf x σ) (x .out)

@@ -1,2 +1,3 @@
 pub mod Export
+pub mod Answered
 pub mod Settings

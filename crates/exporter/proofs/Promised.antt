@@ -5,25 +5,26 @@ use Prim.Native.Nat.{ℕ, zero, suc, _≤_}
 use native.Mathlib.Omega.{arith}
 use lib.ListN.{length, replicate}
 use lib.IntN.{ℤ}
-use Rattle.codes.specs.Answer.{value}
+use Rattle.codes.specs.Answer.{value, refused}
 use Rattle.codes.specs.Limits.{limits, varLimit}
 use Rattle.codes.specs.Lent.{laid}
 use Rattle.store.specs.Store.{Store}
 use Rattle.seats.specs.Seats.{Seats}
-use Rattle.reached.specs.Reached.{bare}
-use Rattle.numbering.specs.Numbering.{numbering}
 use Rattle.heading.specs.Tables.{Lent}
+use Rattle.exporter.specs.declared.Exported.{Exported}
 use Rattle.exporter.specs.declared.Exported.the-variants.{Written, Refused}
 use Rattle.exported.specs.Settings.{Settings}
-use Rattle.exported.specs.Export.{exportFault, fileOf}
-use Rattle.exporter.specs.Promise.{ExportsBy}
-use Rattle.exported.specs.Export.{VarsIf}
+use Rattle.exported.specs.Export.{VarsIf, exportFault, fileOf, exportInto, ExportLeft, exportBy, exportOf}
 use Rattle.exported.proofs.Accepted.{accepted}
-use Rattle.exported.proofs.Prepared.{exported}
+use Rattle.exporter.specs.Promise.{ofExported}
 
 -- a list of zeros, by its own length
 pub own-zeros : {n : ℕ} {l : List ℕ} → length l ≡ n → l ≡ replicate n 0 → l ≡ replicate (length l) 0
 own-zeros e z = rw e z
+
+-- what an answer and an output are to be: those of a definition
+abbrev pub AsLeft : ExportLeft → Exported → List ℕ → Type 0
+AsLeft left r out = (ofExported r ≡ left .answer) × (out ≡ left .out)
 
 -- The lists that were lent are as long as ever when the refusal k is found.
 module _ (σ : Store) (roots : List ℤ) (order : List ℕ) (p : Lent) {a b c slots numbers lent k : ℕ} (x : a ≡ slots) (y : b ≡ numbers) (z : c ≡ lent)
@@ -33,12 +34,12 @@ module _ (σ : Store) (roots : List ℤ) (order : List ℕ) (p : Lent) {a b c sl
 
   -- a refusal, with an output of zeros
   pub promised-none : (s : Settings) {out : List ℕ} → (k ≡ 0 → ⊥) → out ≡ replicate lent 0
-      → ExportsBy (exportFault limits σ roots order p slots numbers lent) s σ roots order p lent (Refused k) out
+      → AsLeft (exportOf limits (exportInto s roots order p slots numbers lent) σ) (Refused k) out
   promised-none s {out} f q = go (exportFault limits σ roots order p slots numbers lent) refusal
     where
-      go : (fault : ℕ) → k ≡ fault → ExportsBy fault s σ roots order p lent (Refused k) out
+      go : (fault : ℕ) → k ≡ fault → AsLeft (exportBy fault (fileOf s σ roots order p) lent) (Refused k) out
       go zero e = absurd (f e)
-      go (suc fault) e = record { answer = rw e; bytes = q }
+      go (suc fault) e = (ap refused e, q)
 
   module _ (none : k ≡ 0) where
     -- none: then the table of variables is filled, and reaches as far as the order
@@ -47,14 +48,8 @@ module _ (σ : Store) (roots : List ℤ) (order : List ℕ) (p : Lent) {a b c sl
         let A = accepted σ roots order p a b c (sym e ∙ none) in
         (rw none at v, omega (arith, A .order-long, A .rules .sizes .levels-limit))
 
-    -- and the file of the numbered nodes is written
-    pub promised-file : (s : Settings) {n : ℕ} {out : List ℕ} → n ≡ length (fileOf s σ roots order p (numbering (bare σ) roots))
-        → out ≡ laid (fileOf s σ roots order p (numbering (bare σ) roots)) (replicate c 0)
-        → ExportsBy (exportFault limits σ roots order p slots numbers lent) s σ roots order p lent (Written n) out
-    promised-file s q w =
-        rw (sym refusal ∙ none) (record {
-          nodes = numbering (bare σ) roots;
-          allowed = exported (accepted σ roots order p a b c (sym e ∙ none)) .allowed;
-          answer = ap value q;
-          bytes = w ∙ rw z;
-        })
+    -- and the file is written
+    pub promised-file : (s : Settings) {n : ℕ} {out : List ℕ} → n ≡ length (fileOf s σ roots order p)
+        → out ≡ laid (fileOf s σ roots order p) (replicate c 0)
+        → AsLeft (exportOf limits (exportInto s roots order p slots numbers lent) σ) (Written n) out
+    promised-file s q w = rw (sym refusal ∙ none) (ap value q, w ∙ rw z)

@@ -7,6 +7,8 @@ use lib.IntN.{ℤ}
 use Rattle.codes.specs.Limits.{limits}
 use Rattle.codes.specs.Lent.{Part, old, new}
 use Rattle.store.specs.Lent.{oldStore, newStore}
+use Rattle.exported.specs.Export.{ExportLeft}
+use Rattle.exporter.specs.Promise.{exportLeaves}
 use Rattle.calls.specs.Load as calls
 use Rattle.calls.specs.Load.{Parts, lengthsOf, partsOf}
 use Rattle.calls.specs.Calls.{evaluateOf}
@@ -14,7 +16,7 @@ use Rattle.dddmp.specs.Promises as dddmp
 use Rattle.c_answers.specs.declared.LoadAnswer.{LoadAnswer}
 use Rattle.c_answers.specs.declared.EvaluateAnswer.{EvaluateAnswer}
 use Rattle.c_answers.specs.declared.ExportAnswer.{ExportAnswer}
-use Rattle.c_answers.specs.Answers.{ofLoadAnswer, ofEvaluated, ExportingForC}
+use Rattle.c_answers.specs.Answers.{ofLoadAnswer, ofEvaluated, ofLength}
 use Rattle.c_answers.specs.Settings.{settingsOf}
 
 module _ (file list : Part (List ℕ)) (levels : ℕ) (count : Part ℕ) (level : Part (List ℕ)) (then els : Part (List ℤ))
@@ -49,15 +51,19 @@ pub record ZtEvaluatePromise (levels count : ℕ) (level : Part (List ℕ)) (the
   -- 'Scratch ends as zeros.'
   pub work-left : new work ≡ replicate (length (old work)) 0
 
-pub record ZtExportPromise (version text ddstart ddlen levels count : ℕ) (level : Part (List ℕ)) (then els : Part (List ℤ))
-    (next heads : Part (List ℕ)) (roots : Part (List ℤ)) (order bytes starts lens rootstarts rootlens slots numbers out work : Part (List ℕ))
-    (r : ExportAnswer) : Type 0 where
+module _ (version text ddstart ddlen levels count : ℕ) (level : Part (List ℕ)) (then els : Part (List ℤ)) (next heads : Part (List ℕ))
+    (roots : Part (List ℤ)) (order bytes starts lens rootstarts rootlens slots numbers out : Part (List ℕ)) where
   -- 'Export gives 1, 3, 4, 6, 5'; 'version 3.0 and text are each a byte that isn't 0'
-  pub file : ExportingForC
-      (dddmp.exporting (settingsOf version text ddstart ddlen) levels count level then els next heads roots order bytes starts lens rootstarts rootlens
-      slots numbers out)
-      (oldStore levels count level then els next heads) r (new out)
-  -- 'Scratch ends as zeros.'
-  pub slots-left : new slots ≡ replicate (length (old slots)) 0
-  pub numbers-left : new numbers ≡ replicate (length (old numbers)) 0
-  pub work-left : new work ≡ replicate (length (old work)) 0
+  abbrev left : ExportLeft
+  left =
+      exportLeaves (settingsOf version text ddstart ddlen) levels count level then els next heads roots order bytes starts lens rootstarts rootlens
+      slots numbers out
+
+  pub record ZtExportPromise (work : Part (List ℕ)) (r : ExportAnswer) : Type 0 where
+    pub answer : r ≡ ofLength (left .answer)
+    -- 'On any refusal outputs are all zeros ..; on success unused output is zero.'
+    pub out-left : new out ≡ left .out
+    -- 'Scratch ends as zeros.'
+    pub slots-left : new slots ≡ replicate (length (old slots)) 0
+    pub numbers-left : new numbers ≡ replicate (length (old numbers)) 0
+    pub work-left : new work ≡ replicate (length (old work)) 0

@@ -8,7 +8,7 @@ ghost use Rattle.codes.specs.Lent.{old};
 ghost use Rattle.writers.specs.Decimal.{decimal, edgeText};
 ghost use Rattle.writers.specs.Words.{spaced};
 ghost use Rattle.writers.specs.Written.{FitsOut, Written};
-ghost use Rattle.reached.specs.Walk.{isIn};
+ghost use Rattle.reached.specs.Meet.{isIn};
 ghost use Rattle.export_nodes.specs.Tables.{lineNumberOf, Numbered};
 ghost use Rattle.heading.specs.Lines.{keyedText, linesText};
 ghost use Rattle.heading.specs.Heading.{idsFrom, permidsOf, countLines, idLines};

@@ -8,7 +8,7 @@ use native.Mathlib.Omega.{arith}
 use lib.ListN.{length, getD, drop, set, length-append}
 use lib.Seq.{getD-set-other}
 use Rattle.seats.specs.Seats.{seatOf}
-use Rattle.reached.specs.Walk.{isIn}
+use Rattle.reached.specs.Meet.{isIn}
 use Rattle.variable_order.specs.Order.{isOrder}
 use Rattle.export_size.specs.Size.{sum}
 use Rattle.variable_order.proofs.Permutation.{level-found}

@@ -11,7 +11,7 @@ use Rattle.codes.specs.Limits.{varLimit, rootLimit}
 use Rattle.codes.specs.declared.DDDMPVersion.{DDDMPVersion}
 use Rattle.codes.specs.declared.DDDMPVersion.the-variants.{«V2_0», «V3_0»}
 use Rattle.header_keys.specs.declared.Key.the-variants.{Ver, Mode, Varinfo, Dd, Nnodes, Nvars, Nsuppvars, Nroots, Rootnames, Varnames}
-use Rattle.reached.specs.Walk.{isIn}
+use Rattle.reached.specs.Meet.{isIn}
 use Rattle.variable_order.specs.Order.{isOrder}
 use Rattle.export_size.specs.Size.{sum}
 use Rattle.variable_order.proofs.Permutation.{order-below}

@@ -13,7 +13,7 @@ use Rattle.seats.specs.Seats.{further, seatOf, Seats}
 use Rattle.seats.specs.Ordered.{ascending}
 use Rattle.support.specs.Support.{lastBelow, idsFit}
 use Rattle.seats.proofs.Seating.{seat-here, seat-there}
-use Rattle.reached.specs.Walk.{isIn}
+use Rattle.reached.specs.Meet.{isIn}
 use Rattle.heading.specs.Tables.{seatedFrom, seatedLevels}
 
 -- after another number one is in a list where it was

@@ -11,7 +11,7 @@ use Rattle.seats.specs.Seats.{Seats}
 use Rattle.seats.proofs.Seating.{seat-most}
 use Rattle.variable_order.specs.Order.{isOrder}
 use Rattle.variable_order.proofs.Permutation.{order-below, level-seated}
-use Rattle.reached.specs.Walk.{isIn}
+use Rattle.reached.specs.Meet.{isIn}
 use Rattle.heading.specs.Tables.{Seatable, Ordered}
 use Rattle.heading.specs.Heading.{idsFrom, permidsOf, variablesFrom, chosenNames}
 use Rattle.heading.proofs.Writing.{Writing, words, words-as}

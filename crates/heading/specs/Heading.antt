@@ -12,7 +12,7 @@ use Rattle.seats.specs.Seats.{seatOf}
 use Rattle.header_faults.specs.Judge.{version20, version30, modeA, modeB}
 use Rattle.header_keys.specs.declared.Key.the-variants.{Ver, Mode, Varinfo, Dd, Nnodes, Nvars, Nsuppvars, Nroots, Nodes, Varnames, Suppvarnames, Orderedvarnames, Ids, Permids, Rootids, Rootnames}
 use Rattle.writers.specs.Decimal.{decimal, edgeText}
-use Rattle.reached.specs.Walk.{isIn}
+use Rattle.reached.specs.Meet.{isIn}
 use Rattle.heading.specs.Lines.{HeaderLine, line, linesText}
 
 -- What a header says. Names are lists of bytes.

@@ -3,7 +3,7 @@ pub mod Placed
 pub mod DepthCounts
 pub mod NodeNumbers
 pub mod NodeSlots
+pub mod Lines
 pub mod Numbered
-pub mod Allowed
 pub mod Grown
 pub mod NumberingExamples

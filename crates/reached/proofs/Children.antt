@@ -8,7 +8,7 @@ use borrow.Author.Tests.{eq-eqb, ne-eqb}
 use lib.ListN.{getD}
 use lib.IntN.{natAbs}
 use Rattle.store.specs.Store.{Store, thenAt, elseAt}
-use Rattle.reached.specs.Walk.{Descends, Looks, childrenOf, firstUnmarked}
+use Rattle.reached.specs.Meet.{Descends, Looks, childrenOf, firstUnmarked}
 use Rattle.reached.proofs.Members.{Among, Each, each-none, each-cons}
 
 -- the terminal has no children

@@ -10,7 +10,7 @@ use borrow.Author.Tests.{eqb-false, eq-eqb, ne-eqb, not-true, not-false}
 use Rattle.codes.proofs.Bytes.{both}
 use Rattle.seats.specs.Seats.{further, seatOf}
 use Rattle.seats.specs.Ordered.{distinct}
-use Rattle.reached.specs.Walk.{isIn}
+use Rattle.reached.specs.Meet.{isIn}
 
 -- true is no false
 pub never : {b : Bool} → b ≡ true → b ≡ false → ⊥

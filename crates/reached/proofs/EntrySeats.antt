@@ -10,7 +10,7 @@ use borrow.Author.Tests.{eqb-true, eqb-false, ne-eqb, not-false}
 use Rattle.seats.specs.Seats.{further, seatOf}
 use Rattle.seats.specs.Ordered.{distinct}
 use Rattle.seats.proofs.Seating.{seat-here, seat-there, seat-most}
-use Rattle.reached.specs.Walk.{isIn}
+use Rattle.reached.specs.Meet.{isIn}
 use Rattle.reached.proofs.Entries.{never, in-cons, in-seat, entry-in, once-head, once-tail}
 
 -- a number with a seat stands in the list

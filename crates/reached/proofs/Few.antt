@@ -8,7 +8,7 @@ use native.Mathlib.Decide.{ℕ-discrete}
 use borrow.Author.Tests.{ne-eqb}
 use lib.ListN.{length}
 use Rattle.seats.specs.Ordered.{distinct}
-use Rattle.reached.specs.Walk.{isIn}
+use Rattle.reached.specs.Meet.{isIn}
 use Rattle.reached.proofs.Entries.{in-cons, in-here, in-rest, once-head, once-tail}
 use Rattle.reached.proofs.Members.{Among, Each}
 

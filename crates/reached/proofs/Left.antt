@@ -9,12 +9,12 @@ use borrow.Author.Tests.{eqb-true, eqb-false}
 use lib.Dec.{eqb}
 use lib.ListN.{length, getD}
 use Rattle.store.specs.Store.{Store}
-use Rattle.reached.specs.Walk.{isIn, meet, Marks, Descends, childrenOf, firstUnmarked}
+use Rattle.reached.specs.Meet.{isIn, meet, Marks, Descends, childrenOf, firstUnmarked}
 use Rattle.reached.proofs.Entries.{in-here, in-rest}
 use Rattle.reached.proofs.Members.{last-in, before-in, Among, Each}
 use Rattle.reached.proofs.Children.{children-last, children-inner}
 use Rattle.reached.proofs.Marks.{marks-in, marks-out}
-use Rattle.reached.proofs.Run.{meet-kept, meet-old, meet-last, meet-inner}
+use Rattle.reached.proofs.Steps.{meet-kept, meet-old, meet-last, meet-inner}
 
 -- the nodes met once those of a list are
 unfoldable pub meetNodes : Store → List ℕ → List ℕ → List ℕ

@@ -2,6 +2,8 @@ pub mod Children
 pub mod Entries
 pub mod EntrySeats
 pub mod Few
+pub mod FirstMeeting
+pub mod Firsts
 pub mod Grown
 pub mod Laid
 pub mod Left
@@ -11,6 +13,7 @@ pub mod Meeting
 pub mod Members
 pub mod NodeWalk
 pub mod RootWalk
-pub mod Run
+pub mod Steps
 pub mod WalkExamples
+pub mod Walking
 pub mod Way

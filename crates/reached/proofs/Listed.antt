@@ -9,7 +9,7 @@ use lib.ListN.{length, getD, set, length-append}
 use Rattle.codes.specs.Lent.{laid}
 use Rattle.codes.proofs.Lent.{laid-more}
 use Rattle.seats.specs.Ordered.{distinct}
-use Rattle.reached.specs.Walk.{isIn, ListedNodes}
+use Rattle.reached.specs.Meet.{isIn, ListedNodes}
 use Rattle.reached.proofs.Members.{Among, Each, each-more, once-more}
 use Rattle.reached.proofs.Few.{few}
 use Rattle.reached.proofs.Marks.{marks-out, marks-more}

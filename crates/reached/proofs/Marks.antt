@@ -9,7 +9,7 @@ use borrow.Author.Tests.{eq-eqb, ne-eqb}
 use lib.Dec.{eqb}
 use lib.ListN.{length, getD, set, replicate, length-set, getD-replicate}
 use lib.Seq.{getD-set-same, getD-set-other}
-use Rattle.reached.specs.Walk.{isIn, Marks}
+use Rattle.reached.specs.Meet.{isIn, Marks}
 use Rattle.reached.proofs.Members.{in-none, last-in, before-same}
 
 -- zeros mark no number

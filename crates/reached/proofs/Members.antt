@@ -8,7 +8,7 @@ use borrow.Author.Tests.{eqb-true, eq-eqb, ne-eqb}
 use lib.Dec.{eqb}
 use Rattle.seats.specs.Seats.{seatOf}
 use Rattle.seats.specs.Ordered.{distinct}
-use Rattle.reached.specs.Walk.{isIn}
+use Rattle.reached.specs.Meet.{isIn}
 use Rattle.reached.proofs.Entries.{never, in-cons, in-append, once-append}
 
 -- no number is in the empty list
@@ -18,7 +18,7 @@ in-none x = refl
 
 module _ (x y : ℕ) (l : List ℕ) where
   -- with a last one a number is in a list if it was before or is that one
-  in-more : isIn x (l ++ (y ∷ [])) ≡ (isIn x l || eqb x y)
+  pub in-more : isIn x (l ++ (y ∷ [])) ≡ (isIn x l || eqb x y)
   unfolding seatOf
   in-more = in-append x l (y ∷ []) ∙ ap (λ b. isIn x l || b) (in-cons x y [] ∙ or-false (eqb x y))
 
@@ -35,7 +35,7 @@ module _ (x y : ℕ) (l : List ℕ) where
   before-same h = rw (in-more, ne-eqb x y h, or-false (isIn x l))
 
 -- of two tests one holds
-either : (a b : Bool) → (a || b) ≡ true → (a ≡ true) ⊎ (b ≡ true)
+pub either : (a b : Bool) → (a || b) ≡ true → (a ≡ true) ⊎ (b ≡ true)
 either true b h = inl refl
 either false b h = inr h
 
@@ -45,7 +45,7 @@ module _ (x y : ℕ) (l : List ℕ) where
   cons-cases h = ⊎-elim (λ e. inl (eqb-true x y e)) inr (either (eqb x y) (isIn x l) (sym (in-cons x y l) ∙ h))
 
   -- and the last or before it
-  more-cases : isIn x (l ++ (y ∷ [])) ≡ true → (isIn x l ≡ true) ⊎ (x ≡ y)
+  pub more-cases : isIn x (l ++ (y ∷ [])) ≡ true → (isIn x l ≡ true) ⊎ (x ≡ y)
   more-cases h = ⊎-elim inl (λ e. inr (eqb-true x y e)) (either (isIn x l) (eqb x y) (sym (in-more x y l) ∙ h))
 
 -- a number from 1 to k

@@ -9,12 +9,12 @@ use lib.Seq.{length-take-le, take-set-le, getD-set-same}
 use Rattle.codes.specs.Limits.{nodeLimit}
 use Rattle.codes.proofs.Lent.{length-laid}
 use Rattle.store.specs.Store.{Store}
-use Rattle.reached.specs.Walk.{meet, childrenOf, firstUnmarked, Looks, Below, Meets, ListedNodes}
+use Rattle.reached.specs.Meet.{meet, childrenOf, firstUnmarked, Looks, Below, Meets, ListedNodes}
 use Rattle.reached.proofs.Members.{Among, Each}
 use Rattle.reached.proofs.Children.{Lower, children-low}
 use Rattle.reached.proofs.Marks.{marks-in}
 use Rattle.reached.proofs.Laid.{laid-front}
-use Rattle.reached.proofs.Run.{meet-old}
+use Rattle.reached.proofs.Steps.{meet-old}
 use Rattle.reached.proofs.Left.{meetNodes, First, nodes-new, nodes-marked, nodes-first}
 use Rattle.reached.proofs.Way.{Way, ends, back, way-among, way-end, way-step, way-kept}
 use Rattle.reached.proofs.Listed.{NodesHeld, listed-over, listed-self, held-new, held-few, held-one-more}

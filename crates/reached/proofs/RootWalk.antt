@@ -1,6 +1,6 @@
 -- A walk from root to root: the nodes that the first roots lead to lie over the front of a lent list.
 use mathlib.Core.Path.{_≡_, refl, ap, _∙_}
-use mathlib.Core.List.{List, [], _∷_, _++_}
+use mathlib.Core.List.{List}
 use Prim.Native.Nat.{ℕ, _+_, _≤_, _<_}
 use native.Mathlib.Omega.{arith}
 use native.Mathlib.Numerals.{add-one}
@@ -9,10 +9,13 @@ use lib.Seq.{take-suc, take-all, getD-take, length-take-le}
 use lib.IntN.{ℤ, pos, natAbs}
 use Rattle.codes.proofs.Lent.{laid-none, length-laid}
 use Rattle.store.specs.Store.{Store}
-use Rattle.reached.specs.Walk.{meet, meetAll, Seen, Meets, ListedNodes, Walks}
+use Rattle.reached.specs.Walk.{firstMet}
+use Rattle.reached.specs.Meet.{meet, Seen, Meets, ListedNodes, Walks}
 use Rattle.reached.proofs.Marks.{marks-none}
 use Rattle.reached.proofs.Laid.{take-laid}
-use Rattle.reached.proofs.Run.{meet-longer}
+use Rattle.reached.proofs.Steps.{meet-longer}
+use Rattle.reached.proofs.Walking.{walks-lead}
+use Rattle.reached.proofs.FirstMeeting.{first-none, first-more}
 use Rattle.reached.proofs.Meeting.{met-distinct, met-known, met-few}
 use Rattle.reached.proofs.Listed.{listed-over}
 use Rattle.reached.proofs.NodeWalk.{below-in}
@@ -24,19 +27,12 @@ listed-front {nodes} {old} a h = rw (a .many, a .lies) (take-laid nodes old h)
 -- the nodes of the first i roots lie there
 pub record RootsMet (σ : Store) (roots : List ℤ) (old met marks : List ℕ) (at i : ℕ) : Type 0 where
   pub within : i ≤ length roots
-  pub listed : ListedNodes (meetAll σ [] (take i roots)) old at met marks
+  pub listed : ListedNodes (firstMet σ (take i roots)) old at met marks
 
 -- none yet
 pub roots-start : (σ : Store) (roots : List ℤ) (old marks : List ℕ) → marks ≡ replicate (length marks) 0 → RootsMet σ roots old old marks 0 0
-unfolding meetAll
 roots-start σ roots old marks z =
-    record { within = omega arith; listed = record { many = refl; lies = laid-none old; marked = marks-none marks z } }
-
--- the last root is met after the others
-meet-more : (σ : Store) (met : List ℕ) (roots : List ℤ) (r : ℤ) → meetAll σ met (roots ++ (r ∷ [])) ≡ meet σ (meetAll σ met roots) (natAbs r)
-unfolding meetAll
-meet-more σ met [] r = refl
-meet-more σ met (s ∷ roots) r = meet-more σ (meet σ met (natAbs s)) roots r
+    record { within = omega arith; listed = rw (first-none σ) (record { many = refl; lies = laid-none old; marked = marks-none marks z }) }
 
 module _ {σ : Store} {roots : List ℤ} {old met marks : List ℕ} {at i : ℕ} (s : RootsMet σ roots old met marks at i) where
   -- the list keeps its length
@@ -44,7 +40,7 @@ module _ {σ : Store} {roots : List ℤ} {old met marks : List ℕ} {at i : ℕ}
   roots-length = ap length (s .listed .lies) ∙ length-laid _ old
 
   -- in the end all of them lie there
-  pub roots-end : length roots ≤ i → ListedNodes (meetAll σ [] roots) old at met marks
+  pub roots-end : length roots ≤ i → ListedNodes (firstMet σ roots) old at met marks
   roots-end h = rw (take-all i roots h) at (s .listed)
 
   module _ {many : ℕ} (w : Walks σ roots (length old) many) (h : i < length roots) where
@@ -58,20 +54,20 @@ module _ {σ : Store} {roots : List ℤ} {old met marks : List ℕ} {at i : ℕ}
         }
 
     -- their nodes are the nodes met so far ..
-    seen : Seen (w .below .count) (meetAll σ [] (take i roots)) marks
+    seen : Seen (w .below .count) (firstMet σ (take i roots)) marks
     seen =
         record {
-          known = met-known σ (take i roots) (length old) many first;
-          once = met-distinct σ (take i roots) (length old) many first;
+          known = met-known σ (w .below .count) (take i roots) (walks-lead first);
+          once = met-distinct σ (w .below .count) (take i roots) (walks-lead first);
           marked = s .listed .marked;
         }
 
     -- .. no more than the store's ..
-    few-met : length (meetAll σ [] (take i roots)) ≤ w .below .count
-    few-met = met-few σ (take i roots) (length old) many first
+    few-met : length (firstMet σ (take i roots)) ≤ w .below .count
+    few-met = met-few σ (w .below .count) (take i roots) (walks-lead first)
 
     -- .. as the list's front
-    front : take at met ≡ meetAll σ [] (take i roots)
+    front : take at met ≡ firstMet σ (take i roots)
     front = let b = w .below in listed-front (s .listed) (omega (arith, few-met))
 
     module _ {k : ℕ} (e : k ≡ natAbs (getD roots i (pos 0))) where
@@ -97,6 +93,6 @@ module _ {σ : Store} {roots : List ℤ} {old met marks : List ℕ} {at i : ℕ}
           record {
             within = omega arith;
             listed =
-                rw (add-one, take-suc roots i (pos 0), meet-more σ [] (take i roots) (getD roots i (pos 0)))
-                (listed-over (s .listed) (meet-longer σ (b .count) (b .descends) _ _ (p .0) (p .1)) (rw (front, e) at l));
+                rw (add-one, take-suc roots i (pos 0), first-more σ (b .count) (take i roots) (getD roots i (pos 0)) (walks-lead first) (p .0) (p .1))
+                (listed-over (s .listed) (meet-longer σ _ _) (rw (front, e) at l));
           }

@@ -6,7 +6,7 @@ use native.Mathlib.Omega.{arith}
 use lib.ListN.{getD, set}
 use lib.Seq.{getD-set-other}
 use Rattle.store.specs.Store.{Store}
-use Rattle.reached.specs.Walk.{childrenOf}
+use Rattle.reached.specs.Meet.{childrenOf}
 use Rattle.reached.proofs.Members.{Among}
 
 -- The way back from a node, and the nodes that are to be met on it.

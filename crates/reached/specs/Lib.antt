@@ -1,3 +1,4 @@
 pub mod Reached
 pub mod Walk
+pub mod Meet
 pub mod Promises

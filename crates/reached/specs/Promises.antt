@@ -6,7 +6,8 @@ use lib.ListN.{length, replicate, take}
 use lib.IntN.{ℤ}
 use Rattle.store.specs.Store.{Store, store}
 use Rattle.codes.specs.Lent.{Part, old, new}
-use Rattle.reached.specs.Walk.{meet, meetAll, childrenOf, firstUnmarked, ListedNodes}
+use Rattle.reached.specs.Walk.{firstMet}
+use Rattle.reached.specs.Meet.{meet, childrenOf, firstUnmarked, ListedNodes}
 
 module _ (then els : Part (List ℤ)) where
   -- a walk reads no more of a store than its then and else
@@ -21,6 +22,6 @@ module _ (then els : Part (List ℤ)) where
   abbrev pub MeetPromise : ℕ → Part (List ℕ) → Part (List ℕ) → ℕ → ℕ → Type 0
   MeetPromise n met marks at r = ListedNodes (meet links (take at (old met)) n) (old met) r (new met) (new marks)
 
-  -- the nodes that the roots lead to are listed, zeros after them, and they are marked
+  -- the nodes that the roots lead to are listed in the order of their first meeting, zeros after them, and they are marked
   abbrev pub MeetAllPromise : Part (List ℤ) → Part (List ℕ) → Part (List ℕ) → ℕ → Type 0
-  MeetAllPromise roots met marks r = ListedNodes (meetAll links [] (old roots)) (replicate (length (old met)) 0) r (new met) (new marks)
+  MeetAllPromise roots met marks r = ListedNodes (firstMet links (old roots)) (replicate (length (old met)) 0) r (new met) (new marks)

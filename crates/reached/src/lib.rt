@@ -5,7 +5,7 @@ ghost use Prim.Native.Nat.{_-_, _≤_};
 ghost use lib.ListN.{length, getD, replicate};
 ghost use lib.IntN.{pos, natAbs};
 ghost use Rattle.store.specs.Store.{store};
-ghost use Rattle.reached.specs.Walk.{Looks, Meets, Walks};
+ghost use Rattle.reached.specs.Meet.{Looks, Meets, Walks};
 ghost use Rattle.reached.specs.Promises.{NextChildPromise, MeetPromise, MeetAllPromise};
 use edges::Edge;
 use edges::Index;

@@ -49,5 +49,5 @@ module _ {m : Limits} (W : RoomForExports m) {σ : Store} {roots : List ℤ} {or
       omega (arith, W .input-long, place-length true (p .bytes) (p .dd .start) (p .dd .len) (A .names .diagram))
 
   -- and an export has no more.
-  pub input-short : (s : Settings) {ns : List ℕ} → Exported m σ roots ns → length (fileOf s σ roots order p ns) ≤ m .input
-  input-short s E = omega (arith, file-short s W A E, size-small)
+  pub input-short : (s : Settings) → length (fileOf s σ roots order p) ≤ m .input
+  input-short s = omega (arith, file-short s W A, size-small)

@@ -8,6 +8,7 @@ use Rattle.codes.specs.Limits.{Limits, RoomForExports}
 use Rattle.store.specs.Store.{Store}
 use Rattle.export_names.proofs.FitLists.{place-fit, list-count, list-names}
 use Rattle.export_support.proofs.SupportLevels.{support-fits}
+use Rattle.numbering.specs.Numbering.{numbering}
 use Rattle.export_nodes.specs.Exported.{Exported}
 use Rattle.export_nodes.specs.Lines.{renumbered}
 use Rattle.export_nodes.proofs.Renumbered.{lines-few}
@@ -15,12 +16,18 @@ use Rattle.seats.proofs.MappedEntries.{mapped-at}
 use Rattle.heading.specs.Tables.{Lent}
 use Rattle.exported.specs.Settings.{Settings}
 use Rattle.exported.specs.Export.{headingOf}
-use Rattle.exported.proofs.Accepted.{Accepted}
+use Rattle.exported.proofs.Accepted.{Accepted, exported}
 use Rattle.reading_header.specs.HeaderBack.{Fit}
 use Rattle.reading_nodes.proofs.RootsBack.{root-some, root-low}
 
 module _ {m : Limits} (W : RoomForExports m) {σ : Store} {roots : List ℤ} {order : List ℕ} {p : Lent} {slots numbers out : ℕ}
-    (A : Accepted m σ roots order p slots numbers out) {ns : List ℕ} (E : Exported m σ roots ns) where
+    (A : Accepted m σ roots order p slots numbers out) where
+  abbrev ns : List ℕ
+  ns = numbering σ roots
+
+  E : Exported m σ roots
+  E = exported A
+
   -- what holds of each root's number holds of each entry of `.rootids`
   of-root : (P : ℤ → Type 0) → ((i : ℕ) → i < length roots → P (renumbered ns (getD roots i (pos 0))))
       → (i : ℕ) → i < length (map (renumbered ns) roots) → P (getD (map (renumbered ns) roots) i (pos 0))
@@ -28,7 +35,7 @@ module _ {m : Limits} (W : RoomForExports m) {σ : Store} {roots : List ℤ} {or
       let l : i < length roots = rw (length-map roots (renumbered ns)) at k in
       rw (mapped-at (renumbered ns) roots i (pos 0) (pos 0) l) (h i l)
 
-  pub heading-fit : (s : Settings) → Fit (headingOf s σ roots order p ns)
+  pub heading-fit : (s : Settings) → Fit (headingOf s σ roots order p)
   unfolding headingOf
   heading-fit s =
       let sizes = A .rules .sizes in

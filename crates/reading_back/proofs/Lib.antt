@@ -2,4 +2,3 @@ pub mod HeadingFit
 pub mod FileShort
 pub mod ReadsBack
 pub mod ImportedAlike
-pub mod OutputBack

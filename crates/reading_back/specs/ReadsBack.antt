@@ -4,34 +4,37 @@ use mathlib.Core.Path.{_≡_}
 use mathlib.Core.Bool.{true, not}
 use mathlib.Core.List.{List}
 use lib.Dec.{eqb}
-use lib.ListN.{length, take, replicate}
+use lib.ListN.{length, replicate}
 use lib.IntN.{ℤ, pos}
 use Rattle.codes.specs.Limits.{Limits}
 use Rattle.codes.specs.Lent.{laid}
 use Rattle.store.specs.Store.{Store}
-use Rattle.store.specs.Rules.{Rules}
-use Rattle.store.specs.Growth.{Grows}
 use Rattle.header.specs.Header.{Header}
-use Rattle.numbering.specs.Allowed.{Allowed}
+use Rattle.numbering.specs.Numbering.{numbering}
 use Rattle.numbering.specs.Support.{supportOf}
 use Rattle.level_list.specs.List.{listFits}
 use Rattle.imported.specs.Import.{Imported, setup, nodes, importOf}
 use Rattle.heading.specs.Heading.{headLines, headText}
 use Rattle.heading.specs.Tables.{Lent}
 use Rattle.exported.specs.Settings.{Settings}
-use Rattle.exported.specs.Export.{headingOf, fileOf}
+use Rattle.exported.specs.Export.{headingOf}
 use Rattle.reading_header.specs.HeaderBack.{loadedFrom, HeaderBack}
 use Rattle.reading_nodes.specs.Back.{NodesBack}
 
+-- the levels of an export's own nodes, ascending
+abbrev pub ownLevels : Store → List ℤ → List ℕ
+ownLevels σ roots = supportOf σ (numbering σ roots)
+
 -- The file f is accepted, as header and as nodes, and gives back what was exported: into its store, at its own levels, with no new node, the
 -- same roots, signs included; of the header what `HeaderBack` says. The roots are read into a lent list of a length.
-pub record ReadsBack (m : Limits) (s : Settings) (σ : Store) (roots : List ℤ) (order : List ℕ) (p : Lent) (ns f : List ℕ) (lent : ℕ) : Type 0 where
+pub record ReadsBack (m : Limits) (s : Settings) (σ : Store) (roots : List ℤ) (order : List ℕ) (p : Lent) (f : List ℕ) (lent : ℕ) : Type 0 where
   -- '19 .. input 16,777,216 bytes' isn't met
   pub short : length f ≤ m .input
-  pub header-back : HeaderBack m (headingOf s σ roots order p ns) f
+  pub header-back : HeaderBack m (headingOf s σ roots order p) f
   -- 'at its own levels': the levels of the support are a level list that nothing is refused of
-  pub levels-fit : listFits (length (supportOf σ ns)) (σ .levels) (supportOf σ ns) ≡ true
-  pub nodes-back : NodesBack m (s .ascii) σ roots ns f (length (headText (headingOf s σ roots order p ns))) (length (headLines (headingOf s σ roots order p ns))) lent
+  pub levels-fit : listFits (length (ownLevels σ roots)) (σ .levels) (ownLevels σ roots) ≡ true
+  pub nodes-back : NodesBack m (s .ascii) σ roots (numbering σ roots) f (length (headText (headingOf s σ roots order p)))
+      (length (headLines (headingOf s σ roots order p))) lent
 
 -- What an import of a file's nodes leaves, as the file's header leads to it: into a store, at a level list, with a lent list of roots of a
 -- length.
@@ -51,12 +54,3 @@ pub record GivesBack (σ : Store) (roots : List ℤ) (lent : ℕ) (r : Imported)
 pub record ReadAlike (r q : Imported) : Type 0 where
   pub store : r .after ≡ q .after
   pub roots : r .roots ≡ q .roots
-
--- The first n bytes of an export's output are a file, whose lines stand in an order that document 01 allows, and it reads back into every
--- store that the exporting one has grown into.
-pub record OutputBack (m : Limits) (s : Settings) (σ : Store) (roots : List ℤ) (order : List ℕ) (p : Lent) (n : ℕ) (out : List ℕ)
-    (lent : ℕ) : Type 0 where
-  pub nodes : List ℕ
-  pub allowed : Allowed σ roots nodes
-  pub file : take n out ≡ fileOf s σ roots order p nodes
-  pub back : (τ : Store) → Grows σ τ → Rules m τ → ReadsBack m s τ roots order p nodes (take n out) lent

@@ -13,7 +13,7 @@ use Rattle.codes.proofs.Bytes.{both}
 use Rattle.seats.specs.Seats.{seatOf}
 use Rattle.seats.specs.Ordered.{ascending, distinct}
 use Rattle.support.specs.Support.{lastBelow, idsFit, allBelow, permidsFit}
-use Rattle.reached.specs.Walk.{isIn}
+use Rattle.reached.specs.Meet.{isIn}
 use Rattle.reached.proofs.Entries.{never, in-cons, in-here, in-rest, once-head, once-tail, once-cons}
 use Rattle.reached.proofs.Members.{in-none, cons-cases}
 use Rattle.heading.specs.Heading.{idsFrom, permidsOf}

@@ -15,7 +15,7 @@ use Rattle.support.specs.Support.{lastBelow, idsFit, permidsFit, seated, orderF
 use Rattle.seats.proofs.Seating.{seat-most}
 use Rattle.support.proofs.Ascending.{ids-below}
 use Rattle.header_checks.specs.Names.{upFrom}
-use Rattle.reached.specs.Walk.{isIn}
+use Rattle.reached.specs.Meet.{isIn}
 use Rattle.reached.proofs.Entries.{in-here, in-seat}
 use Rattle.reached.proofs.EntrySeats.{seat-in, out-seat}
 use Rattle.reached.proofs.Members.{in-none}

@@ -14,6 +14,7 @@ use Rattle.codes.specs.Limits.{Limits}
 use Rattle.store.specs.Rules.{Nodes}
 use Rattle.store.specs.Make.{made, placedNode, insert, make}
 use Rattle.store.proofs.Find.{find-is}
+use Rattle.numbering.specs.Numbering.{numbering}
 use Rattle.numbering.specs.Support.{supportOf}
 use Rattle.export_nodes.specs.Lines.{lineOfNode, linesFor}
 use Rattle.imported.specs.Build.{addLine, built, buildOn, build}
@@ -50,7 +51,10 @@ line-made m N p terminalAt = refl
 line-made {σ} {ns} {n = n} m N p (innerAt I) =
     rw (line-inner σ ns n (I .node), addLine, level-back I, edge-back p (thenAt σ n) (I .then), edge-back p (elseAt σ n) (I .els)) (own-made m N I)
 
-module _ {m : Limits} {σ : Store} {roots : List ℤ} {ns : List ℕ} (E : Exported m σ roots ns) where
+module _ {m : Limits} {σ : Store} {roots : List ℤ} (E : Exported m σ roots) where
+  abbrev ns : List ℕ
+  ns = numbering σ roots
+
   -- the lines from the next on make no node
   rest-built : (before rest : List ℕ) → Parts ns before rest
       → buildOn m (supportOf σ ns) σ (map pos before) (map (lineOf σ ns) rest) ≡ built (value (map pos ns)) σ

@@ -17,6 +17,7 @@ use Rattle.read_lines.specs.Each as every
 use Rattle.seats.specs.Seats.{seatOf}
 use Rattle.node_lines.specs.Line.{Line, inner, seatDeeper, deeper}
 use Rattle.node_lines.specs.Line as line
+use Rattle.numbering.specs.Numbering.{numbering}
 use Rattle.numbering.specs.Support.{supportOf}
 use Rattle.export_nodes.specs.Lines.{renumbered, lineOfNode, linesFor}
 use Rattle.imported.specs.Build.{ChildBelow, Judged, AllJudged, none, one}
@@ -53,7 +54,10 @@ unfolding lineOfNode
 line-plain terminalAt = tt
 line-plain {σ} {ns} {i} {n} (innerAt I) = rw (line-inner σ ns n (I .node)) (renumbered-plain ns (thenAt σ n) (I .fits .positive))
 
-module _ {m : Limits} {σ : Store} {roots : List ℤ} {ns : List ℕ} (E : Exported m σ roots ns) where
+module _ {m : Limits} {σ : Store} {roots : List ℤ} (E : Exported m σ roots) where
+  abbrev ns : List ℕ
+  ns = numbering σ roots
+
   module _ {before rest : List ℕ} (p : Parts ns before rest) where
     -- a child of the next line
     child-judged : (l : ℕ) (c : ℤ) → Numbered ns (length before) c → l < depth σ (natAbs c)

@@ -11,6 +11,7 @@ use Rattle.codes.proofs.Bytes.{both}
 use Rattle.store.specs.Store.{Store}
 use Rattle.seats.specs.Ordered.{ascending}
 use Rattle.support.specs.Support.{lastBelow, idsFit}
+use Rattle.numbering.specs.Numbering.{numbering}
 use Rattle.numbering.specs.Support.{supportOf}
 use Rattle.export_support.proofs.SupportLevels.{support-fits}
 use Rattle.export_nodes.specs.Lines.{linesFor}
@@ -27,8 +28,11 @@ use Rattle.reading_nodes.proofs.Built.{built-back}
 use Rattle.reading_nodes.proofs.RootsBack.{roots-back}
 
 -- The nodes of an export stand in a file from a position on, after a header of so many lines.
-module _ {m : Limits} (W : RoomForExports m) {σ : Store} {roots : List ℤ} {ns : List ℕ} (E : Exported m σ roots ns)
-    (ascii : Bool) (f : List ℕ) (at lines : ℕ) (stand : Stand ascii σ ns f at) where
+module _ {m : Limits} (W : RoomForExports m) {σ : Store} {roots : List ℤ} (E : Exported m σ roots)
+    (ascii : Bool) (f : List ℕ) (at lines : ℕ) (stand : Stand ascii σ (numbering σ roots) f at) where
+  abbrev ns : List ℕ
+  ns = numbering σ roots
+
   -- the levels of the support ascend
   ascends : ascending (supportOf σ ns) ≡ true
   unfolding idsFit

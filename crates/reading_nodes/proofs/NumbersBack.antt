@@ -10,6 +10,7 @@ use Rattle.edges.specs.Edge.{minus}
 use Rattle.read_edges.specs.Edges.{signed}
 use Rattle.store.specs.Store.{Store}
 use Rattle.seats.specs.Seats.{seatOf}
+use Rattle.numbering.specs.Numbering.{numbering}
 use Rattle.export_nodes.specs.Exported.{Exported}
 use Rattle.export_nodes.specs.Lines.{renumbered}
 use Rattle.export_nodes.proofs.Renumbered.{Numbered, renumbered-abs, NodeAt, node-at}
@@ -17,8 +18,8 @@ use Rattle.imported.specs.Build.{turnedOver, edgeFor}
 use Rattle.reading_nodes.proofs.Parts.{Parts, parts-low, parts-here, seat-early}
 
 -- the node of the next line
-pub next-node : {m : Limits} {σ : Store} {roots : List ℤ} {ns before rest : List ℕ} {n : ℕ} → Exported m σ roots ns → Parts ns before (n ∷ rest)
-    → NodeAt σ ns (length before) n
+pub next-node : {m : Limits} {σ : Store} {roots : List ℤ} {before rest : List ℕ} {n : ℕ} → Exported m σ roots
+    → Parts (numbering σ roots) before (n ∷ rest) → NodeAt σ (numbering σ roots) (length before) n
 next-node {before = before} {n = n} E p = node-at E (length before) n (parts-low p) (parts-here p)
 
 -- an edge by its node, turned over under its sign

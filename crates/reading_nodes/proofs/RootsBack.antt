@@ -9,6 +9,7 @@ use borrow.Author.Tests.{ne-eqb}
 use Rattle.codes.specs.Limits.{Limits}
 use Rattle.codes.specs.Lent.{laid}
 use Rattle.store.specs.Store.{Store}
+use Rattle.numbering.specs.Numbering.{numbering}
 use Rattle.export_nodes.specs.Lines.{renumbered}
 use Rattle.imported.specs.Build.{edgeFor}
 use Rattle.imported.specs.Import.{rootEdge}
@@ -27,7 +28,10 @@ laid-back g h z (e ∷ es) back zero = refl
 laid-back g h z (e ∷ es) back (suc k) =
     ap₂ (λ a l. a ∷ l) (back 0 (omega arith)) (laid-back g h z es (λ i p. back (suc i) (omega arith)) k)
 
-module _ {m : Limits} {σ : Store} {roots : List ℤ} {ns : List ℕ} (E : Exported m σ roots ns) where
+module _ {m : Limits} {σ : Store} {roots : List ℤ} (E : Exported m σ roots) where
+  abbrev ns : List ℕ
+  ns = numbering σ roots
+
   module _ (i : ℕ) (h : i < length roots) where
     -- a root is the number of a line
     pub root-some : 1 ≤ natAbs (renumbered ns (getD roots i (pos 0)))

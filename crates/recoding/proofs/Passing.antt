@@ -1,5 +1,5 @@
 -- What an export of a loaded file is handed: settings, the variables' levels, and names where all are there.
-use mathlib.Core.Path.{_≡_, refl, sym, ap, subst, _∙_}
+use mathlib.Core.Path.{_≡_, refl, sym, ap, _∙_}
 use mathlib.Core.Bool.{Bool, true, false, cond}
 use mathlib.Core.List.{List, [], _∷_}
 use Prim.Native.Nat.{ℕ, _≤_}
@@ -7,23 +7,20 @@ use native.Mathlib.Omega.{arith}
 use lib.ListN.{length, take, length-map}
 use lib.IntN.{ℤ}
 use Rattle.codes.specs.Lent.{laid}
-use Rattle.codes.specs.Limits.{limits, varLimit}
+use Rattle.codes.specs.Limits.{varLimit}
 use Rattle.codes.specs.declared.DDDMPVersion.the-variants.{«V2_0»}
 use Rattle.codes.proofs.Lent.{length-laid}
 use Rattle.read_text.specs.Text.{place}
 use Rattle.header_values.proofs.Padded.{take-laid}
 use Rattle.variable_names.proofs.Free.{length-orderedSeats}
-use Rattle.store.specs.Store.{Store}
 use Rattle.header.specs.Header as head
 use Rattle.heading.specs.Tables.{lent}
 use Rattle.exported.specs.Settings.{Settings, settings, defaults}
+use Rattle.exported.specs.Export.{exportInto}
 use Rattle.exporter.specs.Settings.{ofSettings}
-use Rattle.exporter.specs.Promise.{ofExported}
 use Rattle.exporter.specs.declared.ExportSettings.{ExportSettings}
-use Rattle.exporter.specs.declared.Exported.{Exported}
-use Rattle.calls.specs.Calls.{exportInto, Exports}
 use Rattle.recode_levels.specs.Levels.{variableLevels, JudgedLevels}
-use Rattle.recoding.specs.Recode.{slotsLent, allThere, passed, exportWith, Recoded, ofRead, ExportingAgain}
+use Rattle.recoding.specs.Recode.{slotsLent, allThere, passed, exportWith}
 
 -- the defaults, then text, then the place of the diagram's name
 pub text-settings : (a b c : ExportSettings) {start len : ℕ} → ofSettings a ≡ defaults
@@ -83,15 +80,11 @@ module _ (nvars : ℕ) (ids permids : List ℕ) (J : JudgedLevels nvars ids perm
   order-long = sym levels-counted ∙ ap length (sym order-is)
 
 -- The export of such parts is the one that the definition names.
-module _ (f : List ℕ) (h : head.Header) (roots : List ℤ) (ids permids names lens rootnames rootlens : List ℕ) (out : ℕ) (σ : Store) where
+module _ (f : List ℕ) (h : head.Header) (roots : List ℤ) (ids permids names lens rootnames rootlens : List ℕ) (out : ℕ) where
   pub exporting : {s : Settings} {order starts ls rootstarts rls : List ℕ} {a b : ℕ}
       → s ≡ settings «V2_0» true (h .dd) → order ≡ variableLevels (h .nvars) ids permids
       → starts ≡ passed lens names → ls ≡ passed lens lens → rootstarts ≡ passed rootlens rootnames → rls ≡ passed rootlens rootlens
-      → a ≡ slotsLent → b ≡ slotsLent → (r : Exported) (bytes : List ℕ) (x : Recoded)
-      → Exports limits (exportInto s roots order (lent f starts ls rootstarts rls (s .dd)) a b out) σ r bytes → x ≡ ofRead (ofExported r)
-      → ExportingAgain limits (exportWith f h roots ids permids names lens rootnames rootlens out) σ x bytes
-  exporting {s} {order} {starts} {ls} {rootstarts} {rls} {a} {b} e1 e2 e3 e4 e5 e6 e7 e8 r bytes x p q =
-      let same : exportInto s roots order (lent f starts ls rootstarts rls (s .dd)) a b out
+      → a ≡ slotsLent → b ≡ slotsLent
+      → exportInto s roots order (lent f starts ls rootstarts rls (s .dd)) a b out
       ≡ exportWith f h roots ids permids names lens rootnames rootlens out
-      = rw (e1, e2, e3, e4, e5, e6, e7, e8) in
-      record { exported = r; exports = subst (λ y. Exports limits y σ r bytes) same p; answer = q }
+  exporting e1 e2 e3 e4 e5 e6 e7 e8 = rw (e1, e2, e3, e4, e5, e6, e7, e8)

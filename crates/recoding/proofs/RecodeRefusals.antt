@@ -1,8 +1,8 @@
 -- Which numbers `recode` refuses with: never 2, 3, 4 or 6, since its level list fits, its store keeps the rules, its roots are edges of that
 -- store, and its variable order is a permutation.
-use mathlib.Core.Path.{_≡_, refl, sym, ap, subst, _∙_}
+use mathlib.Core.Path.{_≡_, refl, sym, _∙_}
 use mathlib.Core.Logic.{_⊎_, inl, inr, ⊎-elim, _≢_}
-use mathlib.Core.Bool.{Bool, true, false}
+use mathlib.Core.Bool.{Bool, true, false, cond}
 use mathlib.Core.List.{List}
 use Prim.Native.Nat.{ℕ, zero, suc, _≤_}
 use native.Mathlib.Omega.{arith}
@@ -16,11 +16,11 @@ use Rattle.header_checks.proofs.WholeNumbers.{whole-numbers}
 use Rattle.store.specs.Store.{Store}
 use Rattle.header.specs.Header as head
 use Rattle.header.specs.Header.{HeaderAnswer, tableOf, settled, judgedHeader, readOf, after, lengthFault}
-use Rattle.exporter.specs.Promise as promise
-use Rattle.calls.specs.Calls.{Export, exportFaultOf}
+use Rattle.exported.specs.Export.{Export, exportBy, exportFaultOf, exportFileOf, exportOf}
 use Rattle.calls.proofs.HeaderStands.{no-header, lists-answer}
-use Rattle.recoding.specs.Recode.{Recoded, written, refusal, inputMost, headRead, loadedAt, reloadOf, exportOf, ofRead, RefusesFile, ExportingAgain, Reloads, Heads, Sized, Recodes}
+use Rattle.recoding.specs.Recode.{refusal, inputMost, headRead, loadedAt, reloadOf, exportAgain, ofRead, refuseFile, afterLoad, afterHeader, recodeOf}
 use Rattle.recoding.specs.RecodeNumbers.{RecodeNumber}
+use Rattle.recoding.proofs.Fitting.{refused-none}
 use Rattle.recoding.proofs.RecodeLoads.{load-refuses, export-refuses}
 
 -- a refusal of the header by itself is one of the file's writer
@@ -61,50 +61,51 @@ module _ (f : List ℕ) (n line : ℕ) where
   unfolding headRead head.loadHeader
   head-low q = after-low (lengthFault limits (length f)) length-19 (sym (lists-answer f (after limits (lengthFault limits (length f)) f)) ∙ q)
 
-module _ (f : List ℕ) (lent n line : ℕ) (out : List ℕ) where
-  -- the number of a refusal
-  refused-number : {k at : ℕ} → RefusesFile k at lent (refusal n line) out → k ≡ n
-  refused-number {k} {at} w = let a : refusal n line ≡ refusal k at = w .answer in cc
+-- one refusal is the other
+same-number : {n line k at : ℕ} → refusal k at ≡ refusal n line → k ≡ n
+same-number e = cc
 
+module _ (f : List ℕ) (lent n line : ℕ) where
   -- an export refuses with the number of its fault
-  export-number : (x : Export) (τ : Store) → ExportingAgain limits x τ (refusal n line) out
+  export-number : (x : Export) (τ : Store) → ofRead (exportOf limits x τ .answer) ≡ refusal n line
       → (k : ℕ) × ((exportFaultOf limits x τ ≡ suc k) × (suc k ≡ n))
-  export-number x τ w = go (exportFaultOf limits x τ) refl (w .exports)
+  export-number x τ w = go (exportFaultOf limits x τ) refl w
     where
-      go : (k : ℕ) → exportFaultOf limits x τ ≡ k → promise.ExportsBy k (x .settings) τ (x .roots) (x .order) (x .names) (x .out) (w .exported) out
+      go : (k : ℕ) → exportFaultOf limits x τ ≡ k → ofRead (exportBy k (exportFileOf x τ) (x .out) .answer) ≡ refusal n line
           → (k : ℕ) × ((exportFaultOf limits x τ ≡ suc k) × (suc k ≡ n))
-      go zero e v = let a : refusal n line ≡ written _ = w .answer ∙ ap ofRead (v .answer) in absurd (let z : _≡_ {A = ℕ} 0 1 = cc in omega arith)
-      go (suc k) e v = let a : refusal n line ≡ refusal (suc k) 0 = w .answer ∙ ap ofRead (v .answer) in (k, (e, cc))
+      go zero e w = refused-none (sym w)
+      go (suc k) e w = (k, (e, same-number w))
 
   module _ (h : head.Header) (read : headRead limits f .answer ≡ head.header h) where
     -- by what the load answered
-    reload-number : (a : HeaderAnswer) → reloadOf limits f h .answer ≡ a
-        → Reloads limits f (reloadOf limits f h) a lent (refusal n line) out → RecodeNumber n
+    reload-number : (a : HeaderAnswer) → reloadOf limits f h .answer ≡ a → afterLoad limits f (reloadOf limits f h) a lent .answer ≡ refusal n line
+        → RecodeNumber n
     unfolding loadedAt
     reload-number (head.refusal k at) e w =
-        let s = refused-number w in
+        let s = same-number w in
         ⊎-elim (λ z. inl (sym s ∙ z)) (λ z. inr (inr (omega arith))) (load-refuses f h read k at e)
     reload-number (head.header g) e w =
-        let r = export-number (exportOf f g (reloadOf limits f h) lent) (reloadOf limits f h .after) w in
+        let r = export-number (exportAgain f g (reloadOf limits f h) lent) (reloadOf limits f h .after) w in
         ⊎-elim (λ z. inl (sym (r .1 .1) ∙ z)) (λ z. inr (inl (sym (r .1 .1) ∙ z))) (export-refuses f h read g e _ _ _ _ (r .0) (r .1 .0))
 
   -- by what the header's reading answered
-  head-number : (a : HeaderAnswer) → headRead limits f .answer ≡ a → Heads limits f a lent (refusal n line) out → RecodeNumber n
-  head-number (head.refusal k at) e w = inr (inr (omega (arith, refused-number w, head-low f k at e)))
+  head-number : (a : HeaderAnswer) → headRead limits f .answer ≡ a → afterHeader limits f a lent .answer ≡ refusal n line → RecodeNumber n
+  head-number (head.refusal k at) e w = inr (inr (omega (arith, same-number w, head-low f k at e)))
   head-number (head.header h) e w = reload-number h e (reloadOf limits f h .answer) refl w
 
-  -- by whether the input is too long
-  sized-number : (long : Bool) → Sized limits long f lent (refusal n line) out → RecodeNumber n
-  sized-number true w = inr (inr (omega (arith, refused-number w)))
-  sized-number false w = head-number (headRead limits f .answer) refl w
-
   -- A refusal of `recode` is 1, 5 or from 10 on.
-  pub recode-number : {a : Recoded} → a ≡ refusal n line → Recodes limits f lent a out → RecodeNumber n
-  recode-number e w = sized-number (ltb inputMost (length f)) (subst (λ a. Recodes limits f lent a out) e w)
+  pub recode-number : recodeOf limits f lent .answer ≡ refusal n line → RecodeNumber n
+  unfolding recodeOf
+  recode-number w = go (ltb inputMost (length f)) w
+    where
+      go : (long : Bool) → cond long (refuseFile 19 0 lent) (afterHeader limits f (headRead limits f .answer) lent) .answer ≡ refusal n line
+          → RecodeNumber n
+      go true w = inr (inr (omega (arith, same-number w)))
+      go false w = head-number (headRead limits f .answer) refl w
 
   -- So the program never answers 2, 3, 4 or 6: its own level list, store, roots and variable order are never at fault.
-  pub recode-never : {a : Recoded} → a ≡ refusal n line → Recodes limits f lent a out → (n ≢ 2) × ((n ≢ 3) × ((n ≢ 4) × (n ≢ 6)))
-  recode-never e w = go (recode-number e w)
+  pub recode-never : recodeOf limits f lent .answer ≡ refusal n line → (n ≢ 2) × ((n ≢ 3) × ((n ≢ 4) × (n ≢ 6)))
+  recode-never w = go (recode-number w)
     where
       go : RecodeNumber n → (n ≢ 2) × ((n ≢ 3) × ((n ≢ 4) × (n ≢ 6)))
       go (inl a) = (λ z. omega arith, (λ z. omega arith, (λ z. omega arith, λ z. omega arith)))

@@ -1,5 +1,5 @@
 -- What a load leaves of a file, in the parts that were lent, and what its export makes of them.
-use mathlib.Core.Path.{_≡_, refl, sym, ap, subst, _∙_}
+use mathlib.Core.Path.{_≡_, refl, sym, ap, _∙_}
 use mathlib.Core.List.{List}
 use Prim.Native.Nat.{ℕ, _≤_}
 use native.Mathlib.Omega.{arith}
@@ -15,10 +15,10 @@ use Rattle.header.specs.Kinds.{ofHeader, ofLoaded}
 use Rattle.header.specs.declared.DumpHeader.{DumpHeader}
 use Rattle.header.specs.declared.Loaded as declared
 use Rattle.header.specs.declared.Loaded.the-variants as loaded
-use Rattle.calls.specs.Calls.{Export}
+use Rattle.exported.specs.Export.{Export, exportOf}
 use Rattle.calls.specs.Load.{Parts, parts, lengthsOf, Loaded, loadInto, partsOf, loadOf}
 use Rattle.recode_levels.specs.Levels.{JudgedLevels}
-use Rattle.recoding.specs.Recode.{slotsLent, longLists, loadAt, loadedAt, exportWith, exportOf, Recoded, refusal, ExportingAgain, Reloads}
+use Rattle.recoding.specs.Recode.{slotsLent, longLists, loadAt, loadedAt, exportWith, exportAgain, refuseFile, ofExport, afterLoad}
 use Rattle.recoding.proofs.Said.{Says, load-says}
 
 -- the parts that are lent, and the store
@@ -113,21 +113,20 @@ module _ (f list : List ℕ) (levels : ℕ) where
             (take (h .nroots) (v .rootnames)) (take (h .nroots) (v .rootlens)) out
 
         -- The export of what the parts hold is that of the load.
-        pub reloads : (y : Store) → y ≡ made .after → (out : ℕ) (b : Recoded) (bytes : List ℕ)
-            → ExportingAgain limits (exportFrom (take (h .nsuppvars) (x .ids)) (take (h .nsuppvars) (x .permids)) x out) y b bytes
-            → Reloads limits f r (r .answer) out b bytes
-        reloads y s out b bytes e =
+        pub reloads : (y : Store) → y ≡ made .after → (out : ℕ)
+            → ofExport (exportOf limits (exportFrom (take (h .nsuppvars) (x .ids)) (take (h .nsuppvars) (x .permids)) x out) y)
+            ≡ afterLoad limits f r (r .answer) out
+        reloads y s out =
             let same =
             ap (λ i. exportFrom i (take (h .nsuppvars) (x .permids)) x out) ids-are
             ∙ ap (λ i. exportFrom (r .ids) i x out) permids-are
             ∙ ap (λ v. exportFrom (r .ids) (r .permids) v out) parts-are in
-            subst (λ t. Reloads limits f r t out b bytes) (sym read)
-            (subst (λ t. ExportingAgain limits (exportOf f (ofHeader h) r out) t b bytes) (s ∙ ap (λ l. l .after) made-is)
-            (subst (λ t. ExportingAgain limits t y b bytes) same e))
+            ap (λ t. ofExport (exportOf limits t y)) same
+            ∙ ap (λ t. ofExport (exportOf limits (exportAgain f (ofHeader h) r out) t)) (s ∙ ap (λ l. l .after) made-is)
+            ∙ ap (λ t. afterLoad limits f r t out) (sym read)
 
     -- after a refusal: it is answered, with zeros
-    pub reloads-none : (n line : ℕ) → a ≡ loaded.Refused n line → (out : ℕ) (bytes : List ℕ) → bytes ≡ replicate out 0
-        → Reloads limits f r (r .answer) out (refusal n line) bytes
-    reloads-none n line k out bytes e =
+    pub reloads-none : (n line : ℕ) → a ≡ loaded.Refused n line → (out : ℕ) → refuseFile n line out ≡ afterLoad limits f r (r .answer) out
+    reloads-none n line k out =
         let read : r .answer ≡ head.refusal n line = ap (λ l. l .answer) (sym made-is) ∙ sym q ∙ ap ofLoaded k in
-        subst (λ t. Reloads limits f r t out (refusal n line) bytes) (sym read) (record { answer = refl; bytes = e })
+        ap (λ t. afterLoad limits f r t out) (sym read)

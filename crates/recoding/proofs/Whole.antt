@@ -1,9 +1,10 @@
 -- The stages of `recode`: the input's length, the header, the load and the export.
 use mathlib.Core.Path.{_≡_, refl, sym, ap, subst, _∙_}
+use mathlib.Core.Bool.{Bool, cond}
 use mathlib.Core.List.{List, _∷_}
 use Prim.Native.Nat.{ℕ, zero, suc, _+_, _≤_, _<_}
 use native.Mathlib.Omega.{arith}
-use lib.ListN.{length, take, replicate}
+use lib.ListN.{length, take}
 use borrow.Author.Tests.{le-ltb, lt-ltb}
 use Rattle.codes.specs.Lent.{laid}
 use Rattle.codes.specs.Limits.{limits, varLimit}
@@ -12,17 +13,27 @@ use Rattle.seats.specs.Seats.{seatOf}
 use Rattle.header_values.proofs.Padded.{take-laid}
 use Rattle.header.specs.Header as head
 use Rattle.recode_levels.specs.Levels.{takenFrom, levelList}
-use Rattle.recoding.specs.Recode.{inputMost, headRead, loadedAt, Recoded, refusal, Reloads, Heads, Sized, Recodes}
+use Rattle.recoding.specs.Recode.{inputMost, headRead, loadedAt, refuseFile, afterLoad, afterHeader, recodeOf}
 use Rattle.recoding.specs.Kinds.{planBy, listBy}
 use Rattle.recoding.specs.declared.Plan.{Plan}
 use Rattle.recoding.specs.declared.Plan.the-variants as plan
 use Rattle.recoding.proofs.Said.{Says, header-says}
 
+-- what is left, by whether the input is too long
+by-length : (f : List ℕ) (out : ℕ) {a b : Bool} → a ≡ b
+    → cond a (refuseFile 19 0 out) (afterHeader limits f (headRead limits f .answer) out)
+    ≡ cond b (refuseFile 19 0 out) (afterHeader limits f (headRead limits f .answer) out)
+by-length f out e = ap (λ b. cond b (refuseFile 19 0 out) (afterHeader limits f (headRead limits f .answer) out)) e
+
 -- an input that is too long: 19, and zeros
-pub recodes-long : (f : List ℕ) → inputMost < length f → (out : ℕ) (bytes : List ℕ) → bytes ≡ replicate out 0
-    → Recodes limits f out (refusal 19 0) bytes
-recodes-long f h out bytes e =
-    subst (λ b. Sized limits b f out (refusal 19 0) bytes) (sym (lt-ltb inputMost (length f) h)) (record { answer = refl; bytes = e })
+pub recodes-long : (f : List ℕ) → inputMost < length f → (out : ℕ) → refuseFile 19 0 out ≡ recodeOf limits f out
+unfolding recodeOf
+recodes-long f h out = by-length f out (sym (lt-ltb inputMost (length f) h))
+
+-- else the header decides
+by-header : (f : List ℕ) → length f ≤ inputMost → (out : ℕ) → afterHeader limits f (headRead limits f .answer) out ≡ recodeOf limits f out
+unfolding recodeOf
+by-header f h out = by-length f out (sym (le-ltb inputMost (length f) h))
 
 -- of n levels no more than n are taken
 taken-few : (n p : ℕ) (permids : List ℕ) → length (takenFrom n p permids) ≤ n
@@ -106,22 +117,19 @@ module _ (f : List ℕ) where
             ∙ take-laid es old (subst (λ m. m ≤ length old) (comes .entries) short)
 
         -- What the load at these levels leaves is what the program leaves.
-        pub recodes : length f ≤ inputMost → (out : ℕ) (a : Recoded) (bytes : List ℕ)
-            → Reloads limits f (loadedAt limits f (take n dst) levels) (loadedAt limits f (take n dst) levels .answer) out a bytes
-            → Recodes limits f out a bytes
-        recodes h out a bytes e =
+        pub recodes : length f ≤ inputMost → (out : ℕ)
+            → afterLoad limits f (loadedAt limits f (take n dst) levels) (loadedAt limits f (take n dst) levels .answer) out ≡ recodeOf limits f out
+        recodes h out =
             let es = levelList (comes .from .nvars) (headRead limits f .permids) in
-            subst (λ b. Sized limits b f out a bytes) (sym (le-ltb inputMost (length f) h))
-            (subst (λ t. Heads limits f t out a bytes) (sym (comes .read))
-            (subst (λ m. Reloads limits f (loadedAt limits f es m) (loadedAt limits f es m .answer) out a bytes) (comes .count)
-            (subst (λ l. Reloads limits f (loadedAt limits f l levels) (loadedAt limits f l levels .answer) out a bytes) list-is e)))
+            ap (λ l. afterLoad limits f (loadedAt limits f l levels) (loadedAt limits f l levels .answer) out) list-is
+            ∙ ap (λ m. afterLoad limits f (loadedAt limits f es m) (loadedAt limits f es m .answer) out) (comes .count)
+            ∙ ap (λ t. afterHeader limits f t out) (sym (comes .read))
+            ∙ by-header f h out
 
     -- a refusal of the header: it is answered, with zeros
-    pub recodes-none : (n line : ℕ) → p ≡ plan.Refused n line → length f ≤ inputMost → (out : ℕ) (bytes : List ℕ)
-        → bytes ≡ replicate out 0 → Recodes limits f out (refusal n line) bytes
-    recodes-none n line k h out bytes z =
-        subst (λ b. Sized limits b f out (refusal n line) bytes) (sym (le-ltb inputMost (length f) h)) (go (headRead limits f .answer) (sym k ∙ q))
+    pub recodes-none : (n line : ℕ) → p ≡ plan.Refused n line → length f ≤ inputMost → (out : ℕ) → refuseFile n line out ≡ recodeOf limits f out
+    recodes-none n line k h out = go (headRead limits f .answer) (sym k ∙ q) ∙ by-header f h out
       where
-        go : (a : head.HeaderAnswer) → plan.Refused n line ≡ planBy (headRead limits f) a → Heads limits f a out (refusal n line) bytes
+        go : (a : head.HeaderAnswer) → plan.Refused n line ≡ planBy (headRead limits f) a → refuseFile n line out ≡ afterHeader limits f a out
         go (head.header g) e = no-levels e
-        go (head.refusal m at) e = let w = same-refusal e in record { answer = rw (w .0, w .1); bytes = z }
+        go (head.refusal m at) e = let w = same-refusal e in rw (w .0, w .1)

@@ -1,7 +1,6 @@
 -- The program `recode`, as a function of its input. Document 01, 'Export', last part.
 use Prim.Native.Nat.{ℕ}
-use mathlib.Core.Path.{_≡_}
-use mathlib.Core.Bool.{Bool, true, false, _&&_, cond}
+use mathlib.Core.Bool.{Bool, true, _&&_, cond}
 use mathlib.Core.List.{List, [], _∷_}
 use lib.IntN.{ℤ}
 use lib.Dec.{ltb}
@@ -9,15 +8,12 @@ use lib.ListN.{length, take, replicate}
 use Rattle.codes.specs.Answer.{Read, value, refused}
 use Rattle.codes.specs.Limits.{Limits, varLimit, rootLimit}
 use Rattle.codes.specs.declared.DDDMPVersion.the-variants.{«V2_0»}
-use Rattle.store.specs.Store.{Store}
 use Rattle.store.specs.Empty.{empty}
 use Rattle.header.specs.Header as head
 use Rattle.heading.specs.Tables.{lent}
 use Rattle.exported.specs.Settings.{settings}
-use Rattle.exporter.specs.Promise.{ofExported}
-use Rattle.exporter.specs.declared.Exported.{Exported}
+use Rattle.exported.specs.Export.{Export, exportInto, ExportLeft, exportOf}
 use Rattle.calls.specs.Load.{Lengths, Load, Loaded, partsOf, loadOf}
-use Rattle.calls.specs.Calls.{Export, exportInto, Exports}
 use Rattle.recode_levels.specs.Levels.{levelList, variableLevels}
 
 -- 'standard input (65,536 bytes at most ..)'
@@ -73,8 +69,8 @@ exportWith f h roots ids permids names lens rootnames rootlens out =
     slotsLent slotsLent out
 
 -- the lists as the load leaves them
-abbrev pub exportOf : List ℕ → head.Header → Loaded → ℕ → Export
-exportOf f h r out =
+abbrev pub exportAgain : List ℕ → head.Header → Loaded → ℕ → Export
+exportAgain f h r out =
     exportWith f h (take (h .nroots) (partsOf longLists r .roots)) (r .ids) (r .permids)
     (take (h .nvars) (partsOf longLists r .names)) (take (h .nvars) (partsOf longLists r .lens))
     (take (h .nroots) (partsOf longLists r .rootnames)) (take (h .nroots) (partsOf longLists r .rootlens)) out
@@ -89,36 +85,33 @@ abbrev pub ofRead : Read ℕ → Recoded
 ofRead (value n) = written n
 ofRead (refused k) = refusal k 0
 
--- a refusal, and zeros in an output of so many bytes
-pub record RefusesFile (n line lent : ℕ) (a : Recoded) (out : List ℕ) : Type 0 where
-  pub answer : a ≡ refusal n line
-  pub bytes : out ≡ replicate lent 0
+-- what the program leaves: its answer, and what its output holds
+pub record RecodeLeft : Type 0 where
+  pub answer : Recoded
+  pub out : List ℕ
 
--- what an export leaves: the order of lines inside a level is left open, as the export leaves it
-pub record ExportingAgain (m : Limits) (x : Export) (σ : Store) (a : Recoded) (out : List ℕ) : Type 0 where
-  pub exported : Exported
-  pub exports : Exports m x σ exported out
-  pub answer : a ≡ ofRead (ofExported exported)
+-- a refusal, and zeros in an output of so many bytes
+abbrev pub refuseFile : ℕ → ℕ → ℕ → RecodeLeft
+refuseFile n line lent = record { answer = refusal n line; out = replicate lent 0 }
+
+-- what an export leaves
+abbrev pub ofExport : ExportLeft → RecodeLeft
+ofExport r = record { answer = ofRead (r .answer); out = r .out }
 
 -- after the load
-abbrev pub Reloads : Limits → List ℕ → Loaded → head.HeaderAnswer → ℕ → Recoded → List ℕ → Type 0
-Reloads m f r (head.refusal n line) lent a out = RefusesFile n line lent a out
-Reloads m f r (head.header h) lent a out = ExportingAgain m (exportOf f h r lent) (r .after) a out
+abbrev pub afterLoad : Limits → List ℕ → Loaded → head.HeaderAnswer → ℕ → RecodeLeft
+afterLoad m f r (head.refusal n line) lent = refuseFile n line lent
+afterLoad m f r (head.header h) lent = ofExport (exportOf m (exportAgain f h r lent) (r .after))
 
 -- at the levels that the header names
 abbrev pub reloadOf : Limits → List ℕ → head.Header → Loaded
 reloadOf m f h = loadedAt m f (levelList (h .nvars) (headRead m f .permids)) (h .nvars)
 
 -- after the header
-abbrev pub Heads : Limits → List ℕ → head.HeaderAnswer → ℕ → Recoded → List ℕ → Type 0
-Heads m f (head.refusal n line) lent a out = RefusesFile n line lent a out
-Heads m f (head.header h) lent a out = Reloads m f (reloadOf m f h) (reloadOf m f h .answer) lent a out
+abbrev pub afterHeader : Limits → List ℕ → head.HeaderAnswer → ℕ → RecodeLeft
+afterHeader m f (head.refusal n line) lent = refuseFile n line lent
+afterHeader m f (head.header h) lent = afterLoad m f (reloadOf m f h) (reloadOf m f h .answer) lent
 
--- 'else 19 line 0'
-abbrev pub Sized : Limits → Bool → List ℕ → ℕ → Recoded → List ℕ → Type 0
-Sized m true f lent a out = RefusesFile 19 0 lent a out
-Sized m false f lent a out = Heads m f (headRead m f .answer) lent a out
-
--- What the program makes of an input, in an output of so many bytes.
-abbrev pub Recodes : Limits → List ℕ → ℕ → Recoded → List ℕ → Type 0
-Recodes m f lent a out = Sized m (ltb inputMost (length f)) f lent a out
+-- What the program makes of an input, in an output of so many bytes: 'standard input (65,536 bytes at most, else 19 line 0)'
+unfoldable pub recodeOf : Limits → List ℕ → ℕ → RecodeLeft
+recodeOf m f lent = cond (ltb inputMost (length f)) (refuseFile 19 0 lent) (afterHeader m f (headRead m f .answer) lent)

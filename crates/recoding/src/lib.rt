@@ -6,7 +6,7 @@ ghost use lib.ListN.{length};
 ghost use Rattle.codes.specs.Lent.{laid};
 ghost use Rattle.codes.specs.Limits.{limits};
 ghost use Rattle.recode_levels.specs.Levels.{JudgedLevels};
-ghost use Rattle.recoding.specs.Recode.{headRead, allThere, Recodes};
+ghost use Rattle.recoding.specs.Recode.{headRead, allThere, recodeOf};
 ghost use Rattle.recoding.specs.Kinds.{ofRecoded, planBy, plannedList};
 ghost use Rattle.recoding.specs.Promises.{WriteBackPromise, ReloadPromise};
 use codes::limits;
@@ -241,7 +241,8 @@ fn reload(f: &[u8], list: &[u16], levels: u16, out: &mut [u8]) -> Recoded
 
 // Reads a file and writes it again, as text of version 2.0.
 pub fn recode(f: &[u8], out: &mut [u8]) -> Recoded
-    ensures { λ r. ⌜ Recodes limits (now (f .entry)) (length (now (out .entry))) (ofRecoded r) (now (out .exit)) ⌝ }
+    ensures { λ r. ⌜ ofRecoded r ≡ recodeOf limits (now (f .entry)) (length (now (out .entry))) .answer ⌝ }
+    ensures { λ _. ⌜ now (out .exit) ≡ recodeOf limits (now (f .entry)) (length (now (out .entry))) .out ⌝ }
 {
     if INPUT_MOST < f.len() {
         zeros::clear_bytes(out);

@@ -9,7 +9,6 @@ use Rattle.codes.specs.Limits.{limits}
 use Rattle.codes.specs.Lent.{laid}
 use Rattle.header_values.specs.Kinds.{ofPlace}
 use Rattle.store.specs.Store.{Store, store, slots}
-use Rattle.reached.specs.Reached.{bare}
 use Rattle.numbering.specs.Numbering.{numbering}
 use Rattle.export_nodes.specs.Lines.{linesFor}
 use Rattle.node_writers.specs.Encoded.{nodeBytes}
@@ -22,7 +21,7 @@ use Rattle.exported.specs.Settings.{Settings, settings}
 use Rattle.exported.specs.Export.{headingOf, fileOf}
 use Rattle.exported.proofs.Accepted.{Accepted, accepted}
 use Rattle.exported.proofs.Bare.{bare-walkable}
-use Rattle.exported.proofs.Prepared.{exported, ordered, rooted, heading-same, nodes-room, nodes-placed, filled, lined, lines-same, seats-count}
+use Rattle.exported.proofs.Prepared.{ordered, rooted, heading-same, nodes-many, nodes-room, nodes-placed, filled, lined, lines-same, seats-count}
 use Rattle.exported.proofs.FileParts.{head-room, body-room, end-room, file-written}
 use Rattle.export_file.proofs.write_file.Statement.{statement}
 use Rattle.export_file.proofs.write_file.Tie as tie
@@ -85,10 +84,10 @@ chosen s = settings (s .args .version) (s .args .ascii) (ofPlace (s .args .dd))
 
 -- the nodes of its lines, and the file
 abbrev ns : tie.Start → List ℕ
-ns s = numbering (bare (σ s)) (s .args .roots .now)
+ns s = numbering (σ s) (s .args .roots .now)
 
 abbrev file : tie.Start → List ℕ
-file s = fileOf (chosen s) (σ s) (s .args .roots .now) (s .args .order .now) (names s) (ns s)
+file s = fileOf (chosen s) (σ s) (s .args .roots .now) (s .args .order .now) (names s)
 
 -- nothing is refused of it
 taken : (s : tie.Start)
@@ -121,8 +120,10 @@ header-is : (d : tie.After-seat-levels)
     (headingBy (origin d .args .version) (origin d .args .ascii) (names (origin d)) (numbered d .number-nodes .result) (origin d .args .order .now)
     (seats d) (origin d .args .roots .now) (numbers (numbered d)))
     ≡ headText
-    (headingOf (chosen (origin d)) (σ (origin d)) (origin d .args .roots .now) (origin d .args .order .now) (names (origin d)) (ns (origin d)))
-header-is d = ap headText (heading-same (taken (origin d)) (tables d) _ _ (numbered d .number-nodes .ensures .many))
+    (headingOf (chosen (origin d)) (σ (origin d)) (origin d .args .roots .now) (origin d .args .order .now) (names (origin d)))
+header-is d =
+    let w = numbered d .number-nodes .ensures in
+    ap headText (heading-same (taken (origin d)) (tables d) _ _ (nodes-many (taken (origin d)) (w .many) (w .lies)))
 
 lines-are : (d : tie.After-seat-levels)
     → nodeBytes (origin d .args .ascii)
@@ -144,7 +145,6 @@ file-is : (e : tie.After-put-bytes)
     × (e .put-bytes .last .0 ≡ laid (file (origin (seated (headed (bodied e))))) (replicate (length (origin (seated (headed (bodied e))) .args .out .now)) 0))
 file-is e =
     file-written (chosen (origin (seated (headed (bodied e))))) limits-exports (taken (origin (seated (headed (bodied e)))))
-    (exported (taken (origin (seated (headed (bodied e))))))
     (header-is (seated (headed (bodied e)))) (lines-are (seated (headed (bodied e)))) (headed (bodied e) .write-header .ensures)
     (bodied e .write-nodes .ensures) (e .put-bytes .ensures) (origin (seated (headed (bodied e))) .pre .out-clear)
 
@@ -190,7 +190,7 @@ write-header-requires c κs =
       names = taken (origin d) .names;
       counted = seats-count (taken (origin d)) (numbered d .number-nodes .ensures .many) (numbered d .number-nodes .ensures .lies) (tables d)
           (d .seat-levels .ensures .0);
-      room = head-room (chosen (origin d)) limits-exports (taken (origin d)) (exported (taken (origin d))) (header-is d);
+      room = head-room (chosen (origin d)) limits-exports (taken (origin d)) (header-is d);
     }
 
 slice-reshare-prefix-write-nodes : tie.Need-slice-reshare-prefix-write-nodes
@@ -207,7 +207,7 @@ write-nodes-requires c κs =
     let h = at-write-header (c .before) in
     let d = seated h in (
       lined (taken (origin d)) (numbered d .number-nodes .ensures .many) (numbered d .number-nodes .ensures .lies) (tables d),
-      body-room (chosen (origin d)) limits-exports (taken (origin d)) (exported (taken (origin d)))
+      body-room (chosen (origin d)) limits-exports (taken (origin d))
           (header-is d) (lines-are d) (h .write-header .ensures .next)
           (h .write-header .kept .1 .1 .0),
     )
@@ -219,7 +219,7 @@ put-bytes-requires : tie.Need-put-bytes-requires
 put-bytes-requires c κs =
     let w = at-write-nodes (c .before .before .before) in
     let d = seated (headed w) in
-    end-room (chosen (origin d)) limits-exports (taken (origin d)) (exported (taken (origin d)))
+    end-room (chosen (origin d)) limits-exports (taken (origin d))
     (header-is d) (lines-are d) (headed w .write-header .ensures .next)
     (w .write-nodes .ensures .next) (out-kept w)
 

@@ -9,7 +9,7 @@ use borrow.Author.Needs.{needs}
 use lib.ListN.{length, take, length-set}
 use Rattle.codes.specs.Limits.{nodeLimit}
 use Rattle.store.specs.Store.{store}
-use Rattle.reached.specs.Walk.{meet}
+use Rattle.reached.specs.Meet.{meet}
 use Rattle.reached.proofs.NodeWalk.{
   Walking,
   passed,

@@ -1,12 +1,12 @@
 -- `main` is safe: a file that is written lies within the output, and a refusal's line within its 64 bytes.
-use mathlib.Core.Path.{_≡_, sym, ap}
+use mathlib.Core.Path.{_≡_, sym, ap, _∙_}
 use Prim.Native.Nat.{ℕ, _≤_}
 use lib.ListN.{length, take}
 use lib.Seq.{length-take-le}
 use borrow.Author.Needs.{needs}
 use Rattle.recoding.specs.Recode.{written}
 use Rattle.recoding.specs.Kinds.{ofRecoded}
-use Rattle.recoding.proofs.Fitting.{recodes-within}
+use Rattle.recoding.proofs.Fitting.{recode-within}
 use Rattle.recode_text.proofs.RefusalLine.{refusal-within}
 use Rattle.recode.proofs.main.Statement.{statement}
 use Rattle.recode.proofs.main.Tie as tie
@@ -15,7 +15,7 @@ use Rattle.recode.proofs.main.Tie as tie
 within : (c : tie.After-recode) (n : ℕ) → ofRecoded (c .recode .result) ≡ written n → n ≤ length (c .recode .last .1 .0)
 within c n e =
     let r = c .before .before .before .before .read-full in
-    rw (c .recode .kept .1 .0) (recodes-within (take (r .result) (r .last .1 .0)) _ n (c .recode .last .1 .0) e (c .recode .ensures))
+    rw (c .recode .kept .1 .0) (recode-within (take (r .result) (r .last .1 .0)) _ n (sym (c .recode .ensures .0) ∙ e))
 
 slice-aggregate-read-full : tie.Need-slice-aggregate-read-full
 slice-aggregate-read-full c = search needs

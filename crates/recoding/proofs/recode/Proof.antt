@@ -1,5 +1,5 @@
 -- `recode` meets its contract: the input's length, the header, the load and the export, one after the other.
-use mathlib.Core.Path.{refl, sym}
+use mathlib.Core.Path.{refl, sym, ap, _∙_}
 use lib.ListN.{length}
 use lib.Seq.{length-take-le}
 use borrow.Author.Needs.{needs}
@@ -23,8 +23,8 @@ same-length c = c .before .before .clear-bytes .kept .0
 returns : tie.Need-returns
 returns c =
     let s = c .before .before .before .before .before .before .before in
-    recodes-long (s .args .f .now) (c .before .before .before .before .if1 .taken) (length (s .args .out .now)) _
-    (c .before .before .clear-bytes .ensures)
+    let w = recodes-long (s .args .f .now) (c .before .before .before .before .if1 .taken) (length (s .args .out .now)) in
+    (ap (λ l. l .answer) w, c .before .before .clear-bytes .ensures ∙ ap (λ l. l .out) w)
 
 slice-aggregate-plan-levels : tie.Need-slice-aggregate-plan-levels
 slice-aggregate-plan-levels c = refl
@@ -66,9 +66,13 @@ returns-2 : tie.Need-returns-2
 returns-2 c =
     let l = c .before .before .before .before .before .before in
     let p = planned l in
+    let w =
     recodes (start p .args .f .now) (p .plan-levels .result) (p .plan-levels .ensures .0) _ _ (l .levels .given .1)
     _ _ (p .plan-levels .ensures .1) refl
-    (p .before .before .if1 .left) _ _ _ (c .before .before .reload .ensures .file)
+    (p .before .before .if1 .left) (length (start p .args .out .now))
+    in
+    let r = c .before .before .reload .ensures in
+    (r .answer ∙ ap (λ l. l .answer) w, r .out-left ∙ ap (λ l. l .out) w)
 
 same-length-3 : tie.Need-same-length-3
 same-length-3 c = c .before .before .clear-bytes2 .kept .0
@@ -77,8 +81,11 @@ returns-3 : tie.Need-returns-3
 returns-3 c =
     let l = c .before .before .before .before .before in
     let p = l .before .before .before in
+    let w =
     recodes-none (start p .args .f .now) (p .plan-levels .result) (p .plan-levels .ensures .0) _ _ (l .n .given .1)
-    (p .before .before .if1 .left) _ _ (c .before .before .clear-bytes2 .ensures)
+    (p .before .before .if1 .left) (length (start p .args .out .now))
+    in
+    (ap (λ l. l .answer) w, c .before .before .clear-bytes2 .ensures ∙ ap (λ l. l .out) w)
 
 pub recode-spec : {M : Type 1} → statement M
 recode-spec =

@@ -1,7 +1,8 @@
 -- `reload` meets its contract: the call load fills the parts, and what they hold is exported.
-use mathlib.Core.Path.{refl, sym, _∙_}
+use mathlib.Core.Path.{refl, sym, ap, _∙_}
 use Prim.Native.Nat.{_≤_}
 use borrow.Author.Needs.{needs}
+use lib.ListN.{length}
 use Rattle.codes.specs.Limits.{varLimit, rootLimit}
 use Rattle.store.specs.Store.{Store, store}
 use Rattle.calls.specs.Load.{Parts, parts}
@@ -268,10 +269,12 @@ returns c =
     .before .before .before .before in
     let t = taken l in
     let a = start t .args in
-    record {
-      file = reloads (a .f .now) (a .list .now) (a .levels) (t .load .result) (t .load .ensures .answer) _ (l .loaded .given .1)
-          (left t) (t .load .ensures .lists) (stored t) (t .load .ensures .store) _ _ _ (c .before .before .write-back .ensures .file);
-    }
+    let w =
+    reloads (a .f .now) (a .list .now) (a .levels) (t .load .result) (t .load .ensures .answer) _ (l .loaded .given .1)
+    (left t) (t .load .ensures .lists) (stored t) (t .load .ensures .store) (length (a .out .now))
+    in
+    let b = c .before .before .write-back .ensures in
+    record { answer = b .answer ∙ ap (λ l. l .answer) w; out-left = b .out-left ∙ ap (λ l. l .out) w }
 
 same-length-2 : tie.Need-same-length-2
 same-length-2 c = c .before .before .clear-bytes .kept .0
@@ -281,10 +284,11 @@ returns-2 c =
     let l = c .before .before .before .before .before in
     let t = taken-2 l in
     let a = start t .args in
-    record {
-      file = reloads-none (a .f .now) (a .list .now) (a .levels) (t .load .result) (t .load .ensures .answer) _ _ (l .loaded2 .given .1) _ _
-          (c .before .before .clear-bytes .ensures);
-    }
+    let w =
+    reloads-none (a .f .now) (a .list .now) (a .levels) (t .load .result) (t .load .ensures .answer) _ _ (l .loaded2 .given .1)
+    (length (a .out .now))
+    in
+    record { answer = ap (λ l. l .answer) w; out-left = c .before .before .clear-bytes .ensures ∙ ap (λ l. l .out) w }
 
 pub reload-spec : {M : Type 1} → statement M
 reload-spec =

@@ -1,13 +1,13 @@
 -- `write_back` meets its contract: settings, levels and names are prepared, and the call export does the rest.
-use mathlib.Core.Path.{_≡_, refl, sym, ap}
+use mathlib.Core.Path.{_≡_, refl, sym, ap, _∙_}
 use borrow.Author.Needs.{needs}
 use lib.ListN.{length}
 use Rattle.codes.specs.Limits.{limits}
 use Rattle.store.specs.Store.{Store, store}
-use Rattle.calls.specs.Calls.{Export}
+use Rattle.exported.specs.Export.{Export, exportOf}
 use Rattle.exporter.specs.Promise.{ofExported}
 use Rattle.header.specs.Kinds.{ofHeader}
-use Rattle.recoding.specs.Recode.{Recoded, ExportingAgain, exportWith, ofRead}
+use Rattle.recoding.specs.Recode.{Recoded, RecodeLeft, exportWith, ofRead, ofExport}
 use Rattle.recoding.proofs.Passing.{text-settings, passed-is, passed-long, order-fits, order-is, order-long, exporting}
 use Rattle.recoding.proofs.write_back.Statement.{statement}
 use Rattle.recoding.proofs.write_back.Tie as tie
@@ -114,17 +114,21 @@ abbrev σ : tie.Start → Store
 σ s = store (s .args .levels) (s .args .count) (s .args .level .now) (s .args .then .now) (s .args .els .now) (s .args .next .now)
     (s .args .heads .now)
 
--- what the export leaves, whatever its answer
+-- what the contract names
+abbrev left : tie.After-export → RecodeLeft
+left c = let s = start (counted (parts c)) in ofExport (exportOf limits (named-export s) (σ s))
+
+-- the export leaves it, whatever its answer
 exports : (c : tie.After-export) (x : Recoded) → x ≡ ofRead (ofExported (c .export .result))
-    → ExportingAgain limits (named-export (start (counted (parts c)))) (σ (start (counted (parts c)))) x
-    (c .export .last .1 .1 .1 .1 .1 .1 .1 .1 .1 .1 .1 .1 .1 .1 .1 .1 .1 .0)
+    → (x ≡ left c .answer) × (c .export .last .1 .1 .1 .1 .1 .1 .1 .1 .1 .1 .1 .1 .1 .1 .1 .1 .1 .0 ≡ left c .out)
 exports c x q =
     let p = parts c in
     let v = counted p in
     let s = start v in
     let a = s .args in
+    let same =
     exporting (a .f .now) (ofHeader (a .h)) (a .roots .now) (a .ids .now) (a .permids .now) (a .names .now) (a .lens .now)
-    (a .rootnames .now) (a .rootlens .now) (length (a .out .now)) (σ s)
+    (a .rootnames .now) (a .rootlens .now) (length (a .out .now))
     (text-settings (named v .before .before .default .result) (named v .before .ascii .result) (named v .diagram-name .result)
     (named v .before .before .default .ensures .0) (named v .before .ascii .ensures .0) (named v .diagram-name .ensures .0))
     (order-is (a .h .nvars) (a .ids .now) (a .permids .now) (s .pre .0) _ _ refl (v .variable-levels .ensures))
@@ -132,7 +136,10 @@ exports c x q =
     (passed-is (a .lens .now) (a .lens .now) refl _ (p .before .passed-on .ensures))
     (passed-is (a .rootlens .now) (a .rootnames .now) (s .pre .1 .1) _ (p .passed-on2 .ensures))
     (passed-is (a .rootlens .now) (a .rootlens .now) refl _ (p .passed-on2 .ensures))
-    refl refl (c .export .result) _ x (c .export .ensures .file) q
+    refl refl
+    in
+    let e = c .export .ensures in
+    (q ∙ ap ofRead (e .answer ∙ ap (λ y. exportOf limits y (σ s) .answer) same), e .out-left ∙ ap (λ y. exportOf limits y (σ s) .out) same)
 
 same-length : tie.Need-same-length
 same-length c =
@@ -140,10 +147,9 @@ same-length c =
 
 returns : tie.Need-returns
 returns c =
-    record {
-      file = exports (c .before .before .before .before .before .before .before .before) _ (ap (λ r. ofRead (ofExported r)) (sym
-          (c .before .exported .given .1)));
-    }
+    let w = exports (c .before .before .before .before .before .before .before .before) _ (ap (λ r. ofRead (ofExported r)) (sym
+    (c .before .exported .given .1))) in
+    record { answer = w .0; out-left = w .1 }
 
 same-length-2 : tie.Need-same-length-2
 same-length-2 c =
@@ -151,10 +157,9 @@ same-length-2 c =
 
 returns-2 : tie.Need-returns-2
 returns-2 c =
-    record {
-      file = exports (c .before .before .before .before .before .before .before .before) _ (ap (λ r. ofRead (ofExported r)) (sym
-          (c .before .exported2 .given .1)));
-    }
+    let w = exports (c .before .before .before .before .before .before .before .before) _ (ap (λ r. ofRead (ofExported r)) (sym
+    (c .before .exported2 .given .1))) in
+    record { answer = w .0; out-left = w .1 }
 
 pub write-back-spec : {M : Type 1} → statement M
 write-back-spec =

@@ -11,9 +11,8 @@ use Rattle.heading.specs.Tables.{Lent, lent}
 use Rattle.exporter.specs.declared.Exported.{Exported}
 use Rattle.exporter.specs.declared.Exported.the-variants.{Written, Refused}
 use Rattle.exporter.specs.Settings.{ofSettings}
-use Rattle.exported.specs.Export.{exportFault}
-use Rattle.exporter.specs.Promise.{ExportsBy}
-use Rattle.exporter.proofs.Promised.{own-zeros, vars-filled, promised-none, promised-file}
+use Rattle.exported.specs.Export.{exportFault, exportInto, exportOf}
+use Rattle.exporter.proofs.Promised.{own-zeros, AsLeft, vars-filled, promised-none, promised-file}
 use Rattle.exporter.proofs.ExportSettings.export.Statement.{statement}
 use Rattle.exporter.proofs.ExportSettings.export.Tie as tie
 
@@ -69,8 +68,10 @@ fault s slots numbers out = exportFault limits (σ s) (s .args .roots .now) (s .
 
 abbrev Promised : tie.Start → Exported → List ℕ → Type 0
 Promised s r out =
-    ExportsBy (fault s (length (s .args .slots .now)) (length (s .args .numbers .now)) (length (s .args .out .now))) (ofSettings (s .args .self)) (σ s)
-    (s .args .roots .now) (s .args .order .now) (names s) (length (s .args .out .now)) r out
+    AsLeft
+    (exportOf limits
+    (exportInto (ofSettings (s .args .self)) (s .args .roots .now) (s .args .order .now) (names s) (length (s .args .slots .now))
+    (length (s .args .numbers .now)) (length (s .args .out .now))) (σ s)) r out
 
 -- the lists are as long as they were when the refusal is found
 slots-kept : (f : tie.After-export-fault) → length (slots (numbers (out f)) .clear-marks .last .0) ≡ length (origin f .args .slots .now)
@@ -153,7 +154,8 @@ same-length-4 c = work-kept (c .before .before .before)
 
 returns : tie.Need-returns
 returns c = record {
-  file = refused (judged (c .before .before .before)) (c .if1 .taken);
+  answer = refused (judged (c .before .before .before)) (c .if1 .taken) .0;
+  out-left = refused (judged (c .before .before .before)) (c .if1 .taken) .1;
   slots-left = slots (numbers (out (judged (c .before .before .before)))) .clear-marks .ensures;
   numbers-left = numbers (out (judged (c .before .before .before))) .clear-marks2 .ensures;
   work-left = work-zeros (c .before .before .before);
@@ -205,7 +207,8 @@ same-length-8 c = work-kept (work-cleared (at-else1 (written (again (c .before .
 
 returns-2 : tie.Need-returns-2
 returns-2 c = record {
-  file = wrote (written (again (c .before .before)));
+  answer = wrote (written (again (c .before .before))) .0;
+  out-left = wrote (written (again (c .before .before))) .1;
   slots-left = again (c .before .before) .clear-marks4 .ensures ∙ ap (λ n. replicate n 0) (slots-stay (written (again (c .before .before))));
   numbers-left = c .before .before .clear-marks5 .ensures ∙ ap (λ n. replicate n 0) (numbers-stay (written (again (c .before .before))));
   work-left = work-zeros (work-cleared (at-else1 (written (again (c .before .before)) .before)));

@@ -290,8 +290,10 @@ struct zt_evaluate_answer zt_evaluate(
  * ZT_BAD_NAME.
  *
  * Afterwards, on success: the first `len` bytes of `out` are the file, and zeros follow; marks and work are zeros. The file has one line for each
- * node that a root leads to, the terminal first and then the deepest level first; the order of lines inside a level is left open. Loaded
- * into the same store, at the levels of those nodes in ascending order, it gives the same roots and no new node.
+ * node that a root leads to, the terminal first and then the deepest level first; inside a level lines stand in the order in which a walk from
+ * the roots first meets their nodes: roots in their order, a node before its children, all under then before all under else. So the file hangs
+ * on the settings, the roots, the variable order, the names and the nodes under the roots alone, and stays the same while the store gains others.
+ * Loaded into the same store, at the levels of those nodes in ascending order, it gives the same roots and no new node.
  *
  * Afterwards, on a refusal: `len`, `out`, the marks and work are zeros. What is read is as it was, always.
  */

@@ -1,5 +1,6 @@
 -- What the public calls promise. Document 01, 'Agreed between us': 'Every public call carries a promise that names its outcome for each
--- input: value, number, line, and the content of each lent part, by an equation with a definition.'
+-- input: value, number, line, and the content of each lent part, by an equation with a definition.' What `export` promises stands in
+-- `exporter/specs/Promise`.
 use Prim.Native.Nat.{ℕ}
 use mathlib.Core.Path.{_≡_}
 use mathlib.Core.List.{List}
@@ -12,11 +13,6 @@ use Rattle.evaluation.specs.declared.Evaluation.{Evaluation}
 use Rattle.evaluation.specs.Evaluated.{ofEvaluation}
 use Rattle.header.specs.declared.Loaded.{Loaded}
 use Rattle.header.specs.Kinds.{ofLoaded}
-use Rattle.exported.specs.Export.{ExportLeft}
-use Rattle.exporter.specs.Settings.{ofSettings}
-use Rattle.exporter.specs.declared.ExportSettings.{ExportSettings}
-use Rattle.exporter.specs.declared.Exported.{Exported}
-use Rattle.exporter.specs.Promise.{ofExported, exportLeaves}
 use Rattle.calls.specs.Load as calls
 use Rattle.calls.specs.Load.{Parts, parts, lengthsOf, loadInto, partsOf, loadOf}
 use Rattle.calls.specs.Calls.{evaluateOf}
@@ -52,20 +48,3 @@ pub record EvaluatePromise (levels count : ℕ) (level : Part (List ℕ)) (then 
   pub answer : ofEvaluation r ≡ evaluateOf limits root (old setting) (oldStore levels count level then els next heads)
   -- 'Scratch ends as zeros.'
   pub work-left : new work ≡ replicate (length (old work)) 0
-
-module _ (settings : ExportSettings) (levels count : ℕ) (level : Part (List ℕ)) (then els : Part (List ℤ)) (next heads : Part (List ℕ))
-    (roots : Part (List ℤ)) (order bytes starts lens rootstarts rootlens slots numbers out : Part (List ℕ)) where
-  -- 'Export gives 1, 3, 4, 6, 5'
-  abbrev left : ExportLeft
-  left =
-      exportLeaves (ofSettings settings) levels count level then els next heads roots order bytes starts lens rootstarts rootlens slots numbers out
-
-  pub record ExportPromise (work : Part (List ℕ)) (r : Exported) : Type 0 where
-    -- the length of the file, or the number of a refusal
-    pub answer : ofExported r ≡ left .answer
-    -- 'On any refusal outputs are all zeros ..; on success unused output is zero.'
-    pub out-left : new out ≡ left .out
-    -- 'Scratch ends as zeros.'
-    pub slots-left : new slots ≡ replicate (length (old slots)) 0
-    pub numbers-left : new numbers ≡ replicate (length (old numbers)) 0
-    pub work-left : new work ≡ replicate (length (old work)) 0

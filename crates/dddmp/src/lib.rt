@@ -1,6 +1,7 @@
 // The public calls: load, evaluate and export, on one store. Each is lent `work`, of any length: where it is long enough, nodes are found by an
 // index in it, else along their chains. No answer depends on it, and it ends as zeros.
-ghost use Rattle.dddmp.specs.Promises.{LoadPromise, EvaluatePromise, ExportPromise};
+ghost use Rattle.exporter.specs.Promise.{ExportPromise};
+ghost use Rattle.dddmp.specs.Promises.{LoadPromise, EvaluatePromise};
 use edges::Edge;
 use edges::Index;
 use evaluation::Evaluation;

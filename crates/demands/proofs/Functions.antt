@@ -8,7 +8,8 @@ use Rattle.codes.specs.Lent.{Part}
 use Rattle.evaluation.specs.declared.Evaluation.{Evaluation}
 use Rattle.header.specs.declared.Loaded.{Loaded}
 use Rattle.exporter.specs.declared.Exported.{Exported}
-use Rattle.dddmp.specs.Promises.{LoadPromise, EvaluatePromise, ExportPromise}
+use Rattle.exporter.specs.Promise.{ExportPromise}
+use Rattle.dddmp.specs.Promises.{LoadPromise, EvaluatePromise}
 use Rattle.dddmp.proofs.load.Reads as load
 use Rattle.dddmp.proofs.load.Kinds as load-kinds
 use Rattle.dddmp.proofs.evaluate.Reads as evaluate

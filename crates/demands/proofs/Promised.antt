@@ -19,11 +19,11 @@ use Rattle.header.specs.Header as head
 use Rattle.exported.specs.Settings.{Settings}
 use Rattle.exporter.specs.declared.ExportSettings.{ExportSettings}
 use Rattle.exporter.specs.declared.Exported.{Exported}
-use Rattle.exporter.specs.Promise.{ofExported, exporting, exportLeaves}
+use Rattle.exporter.specs.Promise.{ofExported, exporting, exportLeaves, ExportPromise}
 use Rattle.exporter.specs.Settings.{ofSettings}
 use Rattle.calls.specs.Load.{Parts, loadInto}
 use Rattle.calls.specs.Calls.{Call, load, evaluate, export, evaluateOf}
-use Rattle.dddmp.specs.Promises.{oldParts, newParts, loaded, LoadPromise, EvaluatePromise, ExportPromise}
+use Rattle.dddmp.specs.Promises.{oldParts, newParts, loaded, LoadPromise, EvaluatePromise}
 use Rattle.firmware.specs.Promises.{ZtLoadPromise, ZtEvaluatePromise, ZtExportPromise}
 use Rattle.c_answers.specs.declared.LoadAnswer.{LoadAnswer}
 use Rattle.c_answers.specs.declared.EvaluateAnswer.{EvaluateAnswer}

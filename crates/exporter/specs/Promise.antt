@@ -33,14 +33,14 @@ module _ (s : Settings) (levels count : ℕ) (level : Part (List ℕ)) (then els
   abbrev pub exportLeaves : ExportLeft
   exportLeaves = exportOf limits exporting (oldStore levels count level then els next heads)
 
--- `ExportSettings::export`
+-- `ExportSettings::export`, and `dddmp::export`, which is the same call
 module _ (self : ExportSettings) (levels count : ℕ) (level : Part (List ℕ)) (then els : Part (List ℤ)) (next heads : Part (List ℕ))
     (roots : Part (List ℤ)) (order bytes starts lens rootstarts rootlens slots numbers out : Part (List ℕ)) where
   abbrev left : ExportLeft
   left =
       exportLeaves (ofSettings self) levels count level then els next heads roots order bytes starts lens rootstarts rootlens slots numbers out
 
-  pub record ExporterPromise (work : Part (List ℕ)) (r : Exported) : Type 0 where
+  pub record ExportPromise (work : Part (List ℕ)) (r : Exported) : Type 0 where
     -- the length of the file, or the number of a refusal
     pub answer : ofExported r ≡ left .answer
     -- 'On any refusal outputs are all zeros ..; on success unused output is zero.'

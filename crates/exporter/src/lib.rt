@@ -4,7 +4,7 @@ ghost use mathlib.Core.Bool.{true, false};
 ghost use Rattle.read_text.specs.Text.{place};
 ghost use Rattle.exported.specs.Settings.{settings, defaults};
 ghost use Rattle.exporter.specs.Settings.{ofSettings};
-ghost use Rattle.exporter.specs.Promise.{ExporterPromise};
+ghost use Rattle.exporter.specs.Promise.{ExportPromise};
 use codes::DDDMPVersion;
 use codes::limits::VAR_LIMIT;
 use edges::Edge;
@@ -119,7 +119,7 @@ impl ExportSettings {
         out: &mut [u8],
         work: &mut [Index],
     ) -> Exported
-        ensures { λ r. ⌜ ExporterPromise self levels count level then els next heads roots order
+        ensures { λ r. ⌜ ExportPromise self levels count level then els next heads roots order
             bytes starts lens rootstarts rootlens slots numbers out work r ⌝ }
     {
         let dd = self.dd;

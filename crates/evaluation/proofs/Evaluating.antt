@@ -19,7 +19,8 @@ use Rattle.codes.specs.Limits.{limits}
 use Rattle.store.specs.Rules.{Rules}
 use Rattle.store.specs.Meaning.{settingOf, answer}
 use Rattle.store.specs.Keeps.{keeps, keeps-true}
-use Rattle.evaluation.specs.Evaluation.{onlyBits, isRoot, isSetting, evaluation}
+use Rattle.store.specs.Growth.{isRoot}
+use Rattle.evaluation.specs.Evaluation.{onlyBits, isSetting, evaluation}
 use Rattle.evaluation.specs.Evaluated.{Walks}
 use Rattle.store.proofs.Lower.{nodes-lower}
 use Rattle.evaluation.proofs.Walk.{slots-answer}

@@ -4,16 +4,13 @@ use mathlib.Core.Bool.{Bool, true, cond, _&&_}
 use mathlib.Core.List.{List, [], _∷_}
 use lib.Dec.{eqb, leb}
 use lib.ListN.{length}
-use lib.IntN.{ℤ, natAbs}
+use lib.IntN.{ℤ}
 use Rattle.codes.specs.Answer.{Read, value, refused}
 use Rattle.store.specs.Store.{Store}
 use Rattle.codes.specs.Limits.{Limits}
 use Rattle.store.specs.Keeps.{keeps}
 use Rattle.store.specs.Meaning.{settingOf, answer}
-
--- '4 a root is 0 or beyond the store's count'
-abbrev pub isRoot : Store → ℤ → Bool
-isRoot σ e = leb 1 (natAbs e) && leb (natAbs e) (σ .count)
+use Rattle.store.specs.Growth.{isRoot}
 
 -- each byte is 00 or 01
 unfoldable pub onlyBits : List ℕ → Bool

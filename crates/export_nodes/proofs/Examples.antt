@@ -7,7 +7,8 @@ use Rattle.seats.specs.Seats.{seatOf}
 use Rattle.writers.specs.Decimal.{digits, decimal, edgeText}
 use Rattle.writers.specs.Words.{spaced}
 use Rattle.writers.specs.Binary.{escaped, escapedAll, groupsBy, groups, sevenBit}
-use Rattle.reached.specs.Walk.{walkBy, walk, without, firstOnes, firstMet}
+use Rattle.store.specs.Firsts.{without, firstOnes}
+use Rattle.reached.specs.Walk.{walkBy, walk, firstMet}
 use Rattle.numbering.specs.Numbering.{atDepth, deepestFirst, numbering}
 use Rattle.numbering.specs.Support.{supportFrom}
 use Rattle.export_nodes.specs.Lines.{renumbered, lineOfNode, linesFor}

@@ -4,13 +4,14 @@ use Prim.Native.Nat.{ℕ, _+_, _-_, _≤_, _<_}
 use mathlib.Core.Path.{_≡_}
 use mathlib.Core.Bool.{true}
 use mathlib.Core.List.{List, [], _∷_, _++_}
-use lib.ListN.{length, getD, replicate}
+use lib.ListN.{length, getD}
 use lib.IntN.{ℤ, pos, negsuc, negℤ, natAbs}
 use Rattle.edges.specs.Width.{edgeLimit}
 use Rattle.codes.specs.Answer.{Read, value, refused}
 use Rattle.store.specs.Store.{Store}
 use Rattle.codes.specs.Limits.{Limits}
 use Rattle.store.specs.Make.{Made, made, make}
+use Rattle.store.specs.Room.{roomier, withRoom}
 use Rattle.node_lines.specs.Line.{Line, terminal, inner, seatOfLine, deeper}
 
 -- 'turned over under a minus'
@@ -75,19 +76,7 @@ pub data AllJudged (levels : List ℕ) : List ℕ → List Line → Type 0 where
   one : {seats : List ℕ} {l : Line} {ls : List Line} → Judged levels seats (length seats + 1) l → AllJudged levels (seats ++ (seatOfLine l ∷ [])) ls
       → AllJudged levels seats (l ∷ ls)
 
--- a store with k slots more: what making lines with no limit needs
-unfoldable pub roomier : ℕ → Store → Store
-roomier k σ = record {
-  levels = σ .levels;
-  count = σ .count;
-  level = σ .level ++ replicate k 0;
-  then = σ .then ++ replicate k (pos 0);
-  els = σ .els ++ replicate k (pos 0);
-  next = σ .next ++ replicate k 0;
-  heads = σ .heads;
-}
-
--- the count that making all lines with no limit would reach; no input is read on the way
+-- the count that making all lines with no limit would reach
 unfoldable pub countNeeded : List ℕ → Store → List Line → ℕ
 countNeeded levels σ ls =
-    build (record { nodes = σ .count + length ls; levels = σ .levels; input = 0 }) levels (roomier (length ls) σ) ls .after .count
+    build (withRoom (length ls) σ) levels (roomier (length ls) σ) ls .after .count

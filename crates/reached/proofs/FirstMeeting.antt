@@ -8,7 +8,8 @@ use native.Mathlib.Omega.{arith}
 use native.Mathlib.Nat.{le-refl}
 use lib.IntN.{ℤ, natAbs}
 use Rattle.store.specs.Store.{Store, thenAt, elseAt}
-use Rattle.reached.specs.Walk.{walkBy, walk, firstOnes, firstMet}
+use Rattle.store.specs.Firsts.{firstOnes}
+use Rattle.reached.specs.Walk.{walkBy, walk, firstMet}
 use Rattle.reached.specs.Meet.{isIn, meetBy, meet, Descends}
 use Rattle.reached.proofs.Members.{before-in, more-cases, either}
 use Rattle.reached.proofs.Firsts.{joining, joining-firsts, joining-append, in-joining, joining-old, in-firsts}

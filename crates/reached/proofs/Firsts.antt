@@ -7,7 +7,7 @@ use borrow.Author.Tests.{eqb-true}
 use lib.Dec.{eqb}
 use Rattle.seats.specs.Seats.{seatOf}
 use Rattle.seats.specs.Ordered.{distinct}
-use Rattle.reached.specs.Walk.{without, firstOnes}
+use Rattle.store.specs.Firsts.{without, firstOnes}
 use Rattle.reached.specs.Meet.{isIn}
 use Rattle.reached.proofs.Entries.{in-here, in-rest, in-cons}
 use Rattle.reached.proofs.Members.{in-none, in-more, once-more}

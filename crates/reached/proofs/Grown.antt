@@ -10,8 +10,9 @@ use Rattle.store.specs.Store.{Store, thenAt, elseAt}
 use Rattle.store.specs.Rules.{Nodes}
 use Rattle.store.specs.Growth.{EdgeOf, Grows}
 use Rattle.store.proofs.Meaning.{then-edge, else-edge}
+use Rattle.store.specs.Firsts.{firstOnes}
 use Rattle.reached.specs.Reached.{Reached, root, then, els}
-use Rattle.reached.specs.Walk.{walkBy, walk, firstOnes, firstMet}
+use Rattle.reached.specs.Walk.{walkBy, walk, firstMet}
 use Rattle.reached.proofs.Walking.{walk-last, walk-inner}
 
 -- an edge's node as an edge

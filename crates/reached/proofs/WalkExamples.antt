@@ -3,7 +3,8 @@ use mathlib.Core.Path.{_≡_, refl}
 use mathlib.Core.List.{[], _∷_}
 use lib.IntN.{pos, negsuc}
 use Rattle.store.specs.Store.{Store, store}
-use Rattle.reached.specs.Walk.{walkBy, walk, without, firstOnes, firstMet}
+use Rattle.store.specs.Firsts.{without, firstOnes}
+use Rattle.reached.specs.Walk.{walkBy, walk, firstMet}
 
 -- Node 2 has then 1 and else -1, node 3 then 1 and else -2, node 4 then 3 and else 2, node 5 then 2 and else -1.
 abbrev five : Store

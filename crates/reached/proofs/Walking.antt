@@ -13,7 +13,8 @@ use lib.IntN.{ℤ, pos, natAbs}
 use Rattle.store.specs.Store.{Store, thenAt, elseAt}
 use Rattle.store.specs.Rules.{Nodes}
 use Rattle.store.specs.Growth.{EdgeOf}
-use Rattle.reached.specs.Walk.{walkBy, walk, firstOnes, firstMet}
+use Rattle.store.specs.Firsts.{firstOnes}
+use Rattle.reached.specs.Walk.{walkBy, walk, firstMet}
 use Rattle.reached.specs.Meet.{isIn, linked, Descends, Walks}
 use Rattle.reached.proofs.Entries.{never, in-here, in-rest, in-append}
 use Rattle.reached.proofs.Members.{in-none, cons-cases, either, Among, Each, each-none, each-cons}

@@ -6,6 +6,7 @@ use mathlib.Core.List.{List, [], _∷_, _++_}
 use lib.Dec.{eqb}
 use lib.IntN.{ℤ, natAbs}
 use Rattle.store.specs.Store.{Store, thenAt, elseAt}
+use Rattle.store.specs.Firsts.{firstOnes}
 
 -- 'a node before its children, all under then before all under else': the nodes that a walk from node n passes, each as often as a way leads
 -- to it. The terminal has no children. Children have lower numbers, so n steps down are enough; the first number counts them, so that this
@@ -19,16 +20,6 @@ unfoldable pub walk : Store → List ℤ → List ℕ
 walk σ [] = []
 walk σ (r ∷ roots) = walkBy (natAbs r) σ (natAbs r) ++ walk σ roots
 
--- a list without a number
-unfoldable pub without : ℕ → List ℕ → List ℕ
-without n [] = []
-without n (x ∷ l) = cond (eqb x n) (without n l) (x ∷ without n l)
-
--- 'first meeting': of equal numbers the first one stays
-unfoldable pub firstOnes : List ℕ → List ℕ
-firstOnes [] = []
-firstOnes (n ∷ l) = n ∷ without n (firstOnes l)
-
--- the nodes that the roots lead to, in the order in which the walk first meets them
+-- 'first meeting': the nodes that the roots lead to, in the order in which the walk first meets them
 unfoldable pub firstMet : Store → List ℤ → List ℕ
 firstMet σ roots = firstOnes (walk σ roots)

@@ -1,5 +1,5 @@
 -- Laws of the stages of a load, case by case, as the functions that carry them out find them.
-use mathlib.Core.Path.{_≡_, refl, sym, subst, _∙_}
+use mathlib.Core.Path.{_≡_, refl}
 use mathlib.Core.Bool.{Bool, true, false, not}
 use mathlib.Core.List.{List}
 use Prim.Native.Nat.{ℕ, _≤_, _<_}
@@ -9,10 +9,7 @@ use Rattle.codes.specs.Faults.{firstFault}
 use Rattle.codes.proofs.Faults.{refuses}
 use Rattle.store.specs.Store.{Store}
 use Rattle.codes.specs.Limits.{limits}
-use Rattle.store.specs.Keeps.{keeps, keeps-true}
-use Rattle.unique_table.specs.Index.{Finds, widthFor}
-use Rattle.slots.specs.Most.{mostNodes}
-use Rattle.slots.proofs.MostNodes.{most-all}
+use Rattle.store.specs.Keeps.{keeps}
 use Rattle.header.specs.Header.{Header, header, refusal}
 use Rattle.header.specs.Kinds.{ofHeader, ofLoaded}
 use Rattle.header.specs.declared.DumpHeader.{DumpHeader}
@@ -41,13 +38,6 @@ module _ (found : ℕ) (σ : Store) where
     pub breaks-some : b ≡ false → 3 ≡ storeAfter found σ
     unfolding storeAfter firstFault
     breaks-some p = rw (z, ← e, p)
-
--- a store that keeps its rules has at most as many nodes as the index is made for, which then finds them
-pub finds-most : (σ : Store) {b : Bool} → b ≡ keeps limits σ → b ≡ true → (most len : ℕ) (ix : List ℕ) → most ≡ mostNodes (length (σ .level))
-    → (b ≡ true → σ .count ≤ most → Finds (widthFor most len) σ (σ .count) ix) → Finds (widthFor (mostNodes (length (σ .level))) len) σ (σ .count) ix
-finds-most σ e p most len ix q f =
-    let z = keeps-true limits σ (sym e ∙ p) .sizes in
-    subst (λ m. Finds (widthFor m len) σ (σ .count) ix) q (f p (subst (λ m. σ .count ≤ m) (sym q) (most-all _ _ (z .count-slots) (z .count-limit))))
 
 module _ (edges seats : ℕ) (r : Loaded) where
   module _ (h : DumpHeader) (q : r ≡ loaded.Header h) where

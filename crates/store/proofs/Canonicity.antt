@@ -21,26 +21,26 @@ use Rattle.store.specs.Settings.{chosen, IsSetting}
 use Rattle.store.proofs.Meaning.{depth-low, node-one, node-step, then-edge, else-edge, answer-from, answer-below, answer-yes}
 
 -- A setting with one level set anew.
-abbrev put : Setting → ℕ → Bool → Setting
+abbrev pub put : Setting → ℕ → Bool → Setting
 put s i b j = cond (eqb j i) b (s j)
 
-put-same : (s : Setting) (i : ℕ) (b : Bool) → put s i b i ≡ b
+pub put-same : (s : Setting) (i : ℕ) (b : Bool) → put s i b i ≡ b
 put-same s i b = rw (eq-eqb i i refl)
 
-put-other : (s : Setting) (i : ℕ) (b : Bool) (j : ℕ) → j ≢ i → put s i b j ≡ s j
+pub put-other : (s : Setting) (i : ℕ) (b : Bool) (j : ℕ) → j ≢ i → put s i b j ≡ s j
 put-other s i b j h = rw (ne-eqb j i h)
 
 module _ (σ : Store) (N : Nodes σ) where
   -- an edge below level i does not see it
-  put-below : (s : Setting) (i : ℕ) (b : Bool) (e : ℤ) → EdgeOf σ e → i < depth σ (natAbs e) → answer σ (put s i b) e ≡ answer σ s e
+  pub put-below : (s : Setting) (i : ℕ) (b : Bool) (e : ℤ) → EdgeOf σ e → i < depth σ (natAbs e) → answer σ (put s i b) e ≡ answer σ s e
   put-below s i b e E h = answer-from σ N (put s i b) s e E (λ j d _. put-other s i b j (omega arith))
 
   -- the two halves of a node
-  half-yes : (s : Setting) (n : ℕ) → 2 ≤ n → n ≤ σ .count → node σ (put s (levelAt σ n) true) n ≡ answer σ s (thenAt σ n)
+  pub half-yes : (s : Setting) (n : ℕ) → 2 ≤ n → n ≤ σ .count → node σ (put s (levelAt σ n) true) n ≡ answer σ s (thenAt σ n)
   half-yes s n p h = rw (node-step σ N (put s (levelAt σ n) true) n, put-same s (levelAt σ n) true)
       (put-below s (levelAt σ n) true (thenAt σ n) (then-edge σ N n p h) (N .fits n p h .then-deep))
 
-  half-no : (s : Setting) (n : ℕ) → 2 ≤ n → n ≤ σ .count → node σ (put s (levelAt σ n) false) n ≡ answer σ s (elseAt σ n)
+  pub half-no : (s : Setting) (n : ℕ) → 2 ≤ n → n ≤ σ .count → node σ (put s (levelAt σ n) false) n ≡ answer σ s (elseAt σ n)
   half-no s n p h = rw (node-step σ N (put s (levelAt σ n) false) n, put-same s (levelAt σ n) false)
       (put-below s (levelAt σ n) false (elseAt σ n) (else-edge σ N n p h) (N .fits n p h .else-deep))
 

@@ -8,3 +8,4 @@ pub mod Makes
 pub mod Empty
 pub mod Back
 pub mod Lower
+pub mod Room

@@ -131,7 +131,7 @@ not-cond : (x a b : Bool) → not (cond x (not a) (not b)) ≡ cond x a b
 not-cond true a b = Bool·not-not a
 not-cond false a b = Bool·not-not b
 
-negated-value : (r : Read ℤ) (a : ℤ) → negated r ≡ value a → r ≡ value (negℤ a)
+pub negated-value : (r : Read ℤ) (a : ℤ) → negated r ≡ value a → r ≡ value (negℤ a)
 negated-value (value b) a q = ap value (sym (negℤ-negℤ b) ∙ ap negℤ (value-one (negℤ b) a q))
 negated-value (refused n) a q = let y : _≡_ {A = ℕ} 0 1 = cc in absurd (omega arith)
 

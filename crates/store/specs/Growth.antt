@@ -1,6 +1,8 @@
 -- The edges of a store, and stores that have gained nodes. Document 01, 'Store and meaning'.
 use Prim.Native.Nat.{ℕ, _≤_}
 use mathlib.Core.Path.{_≡_}
+use mathlib.Core.Bool.{Bool, _&&_}
+use lib.Dec.{leb}
 use lib.IntN.{ℤ, natAbs}
 use Rattle.store.specs.Store.{Store, levelAt, thenAt, elseAt}
 
@@ -8,6 +10,10 @@ use Rattle.store.specs.Store.{Store, levelAt, thenAt, elseAt}
 pub record EdgeOf (σ : Store) (e : ℤ) : Type 0 where
   pub some : 1 ≤ natAbs e
   pub there : natAbs e ≤ σ .count
+
+-- is it one? '4 a root is 0 or beyond the store's count'
+abbrev pub isRoot : Store → ℤ → Bool
+isRoot σ e = leb 1 (natAbs e) && leb (natAbs e) (σ .count)
 
 -- what the slots of nodes say is never changed, and the level count 'stays as it is for the store's whole life'
 pub record Grows (σ τ : Store) : Type 0 where

@@ -7,3 +7,5 @@ pub mod Keeps
 pub mod Empty
 pub mod Growth
 pub mod Make
+pub mod Room
+pub mod Firsts

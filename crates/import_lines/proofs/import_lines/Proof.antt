@@ -1,6 +1,6 @@
 -- `import_lines` meets its contract: the work finds the store's nodes by the width that it is searched with.
 use Rattle.store.specs.Store.{Store, store}
-use Rattle.import_lines.proofs.Finding.{known-lent}
+use Rattle.insertion.proofs.Finding.{known-lent}
 use Rattle.import_lines.proofs.import_lines.Statement.{statement}
 use Rattle.import_lines.proofs.import_lines.Tie as tie
 

@@ -2,7 +2,8 @@
 use Prim.Native.Nat.{ℕ}
 use mathlib.Core.Path.{_≡_}
 use native.Mathlib.Omega.{arith}
-use Rattle.stages.proofs.StageLaws.{store-found, keeps-none, breaks-some, finds-most}
+use Rattle.insertion.proofs.Finding.{finds-most}
+use Rattle.stages.proofs.StageLaws.{store-found, keeps-none, breaks-some}
 use Rattle.stages.proofs.store_fault.Statement.{statement}
 use Rattle.stages.proofs.store_fault.Tie as tie
 

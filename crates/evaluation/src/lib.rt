@@ -5,7 +5,6 @@ ghost use Prim.Native.Nat.{_<_};
 ghost use lib.Dec.{leb, eqb};
 ghost use lib.ListN.{length};
 ghost use lib.IntN.{natAbs};
-ghost use Rattle.edges.specs.Edge.{IsEdge};
 ghost use Rattle.store.specs.Store.{slots};
 ghost use Rattle.store.specs.Meaning.{settingOf, node, answer};
 ghost use Rattle.evaluation.specs.Evaluation.{onlyBits};
@@ -19,14 +18,6 @@ use edges::Index;
 pub enum Evaluation {
     Answer(bool),
     Refused(u8),
-}
-
-// The node of an edge. A walk asks at each level, and meets nothing but edges: a test for the least number would be lost time.
-fn node_of(e: Edge) -> Index
-    requires { ⌜ IsEdge e ⌝ }
-    ensures { λ r. ⌜ r ≡ natAbs e ⌝ }
-{
-    if e < 0 { (-e) as Index } else { e as Index }
 }
 
 // Is a level yes?
@@ -52,7 +43,7 @@ fn eval_edge(
     ensures { λ r. ⌜ r ≡ xor odd (answer (slotsBehind level then els) (settingBehind setting) e) ⌝ }
 {
     let minus = edges::is_minus(e);
-    eval_node(level, then, els, setting, odd != minus, node_of(e))
+    eval_node(level, then, els, setting, odd != minus, edges::magnitude(e))
 }
 
 // Node 1 is yes. Another node's answer is that of its then edge where its level is yes, else of its else edge.

@@ -3,7 +3,7 @@
 use mathlib.Core.Path.{_≡_}
 use Prim.Native.Nat.{ℕ, _+_, _-_, _*_, _/_, _%_, _^_, _≤_, _<_}
 use native.Mathlib.Omega.{arith}
-use native.Mathlib.Nat.{mod-lt, mul-comm, mul-le-mul, mul-lt-mul-of-pos-right, div-lt-iff-lt-mul}
+use native.Mathlib.Nat.{mul-comm, mul-le-mul, mul-lt-mul-of-pos-right, div-lt-iff-lt-mul}
 use lib.IntN.{ℤ}
 use Rattle.unique_table.specs.Index.{keyPart, nodeKey, headEntry}
 
@@ -12,9 +12,13 @@ unfolding nodeKey
 key-is l x y t e p q = rw (p, q)
 
 pub head-is : (width l x y : ℕ) (t e : ℤ) → y ≡ keyPart t → x ≡ keyPart e
-    → (l * 2654435769 + y * 3144134277 + x * 2246822519) / 2 ^ 17 % 2 ^ 30 * width / 2 ^ 30 ≡ headEntry width l t e
+    → (l * 2654435769 + y * 1315298017 + x * 628009085) % 2 ^ 32 / 4 * width / 2 ^ 30 ≡ headEntry width l t e
 unfolding headEntry
 head-is width l x y t e p q = rw (p, q)
+
+-- the upper 30 bits of 32
+pub upper-below : (m : ℕ) → m % 2 ^ 32 / 4 < 2 ^ 30
+upper-below m = omega arith
 
 -- a part of a width is below it
 part-below : (p width : ℕ) → p < 2 ^ 30 → 1 ≤ width → p * width / 2 ^ 30 < width
@@ -25,7 +29,7 @@ part-below p width h w =
 
 pub head-below : (width l : ℕ) (t e : ℤ) → 1 ≤ width → headEntry width l t e < width
 unfolding headEntry
-head-below width l t e w = part-below _ width (mod-lt _ (omega arith)) w
+head-below width l t e w = part-below _ width (upper-below _) w
 
 pub part-fits : (p width : ℕ) → p < 2 ^ 30 → width ≤ 2 ^ 34 → p * width < 2 ^ 64
 part-fits p width h w =

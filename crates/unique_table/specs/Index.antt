@@ -27,9 +27,9 @@ keyPart e = bits edgeBits e % 2 ^ 24
 unfoldable pub nodeKey : ℕ → ℤ → ℤ → ℕ
 nodeKey l t e = keyPart e + 2 ^ 24 * keyPart t + 2 ^ 48 * l
 
--- the head where a search for them starts: a mix of the three, cut to 30 bits and scaled to the width
+-- the head where a search for them starts: of a mix of the three the upper 30 bits of 32, scaled to the width
 unfoldable pub headEntry : ℕ → ℕ → ℤ → ℤ → ℕ
-headEntry width l t e = (l * 2654435769 + keyPart t * 3144134277 + keyPart e * 2246822519) / 2 ^ 17 % 2 ^ 30 * width / 2 ^ 30
+headEntry width l t e = (l * 2654435769 + keyPart t * 1315298017 + keyPart e * 628009085) % 2 ^ 32 / 4 * width / 2 ^ 30
 
 -- the entry where a search with key k goes on from node n
 abbrev pub onFrom : ℕ → ℕ → ℕ → ℕ

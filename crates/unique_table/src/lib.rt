@@ -45,13 +45,14 @@ fn key(l: u16, t: Edge, e: Edge) -> u64
     key_part(e) + 16777216 * key_part(t) + 281474976710656 * l as u64
 }
 
-// The head for them. The numbers that they are multiplied by are odd and have no pattern, so that nodes that differ little get heads far apart.
+// The head for them. The numbers that they are multiplied by are odd and have no pattern, and of the sum's lower 32 bits the upper 30 count, so
+// that nodes that differ little get heads far apart, small numbers too.
 fn head(width: usize, l: u16, t: Edge, e: Edge) -> usize
     requires { ⌜ (1 ≤ width) × (width ≤ 2 ^ 34) ⌝ }
     ensures { λ r. ⌜ r ≡ headEntry width l t e ⌝ }
 {
-    let mixed = l as u64 * 2654435769 + key_part(t) * 3144134277 + key_part(e) * 2246822519;
-    let part = mixed / 131072 % 1073741824;
+    let mixed = l as u64 * 2654435769 + key_part(t) * 1315298017 + key_part(e) * 628009085;
+    let part = mixed % 4294967296 / 4;
     (part * width as u64 / 1073741824) as usize
 }
 

@@ -16,7 +16,7 @@ use Rattle.evaluation.proofs.eval_node.Reads as eval-node
 use Rattle.evaluation.proofs.eval_node.Kinds as eval-node-kinds
 use Rattle.evaluation.proofs.+eval_edge+eval_node.Lts-eval_node as eval-node-lts
 use Rattle.edges.proofs.is_minus.Reads as is-minus-reads
-use Rattle.evaluation.proofs.node_of.Reads as node-of-reads
+use Rattle.edges.proofs.magnitude.Reads as magnitude-reads
 use Rattle.evaluation.proofs.is_yes.Reads as is-yes-reads
 use Rattle.evaluation.proofs.+eval_edge+eval_node.{statement}
 use Rattle.evaluation.proofs.+eval_edge+eval_node.Tie.{close}
@@ -42,7 +42,7 @@ eval-node-below t =
     and 8 eval-node-kinds.ps (falls 8 eval-node-kinds.ps _<_ μ-eval-node t) eval-node.Pre
 
 abbrev edge-claims : ℕ → eval-edge-lts.Claims
-edge-claims t = (is-minus-reads.Asked, is-minus-reads.Learnt, node-of-reads.Asked, node-of-reads.Learnt, eval-node-below t, eval-node.Post)
+edge-claims t = (is-minus-reads.Asked, is-minus-reads.Learnt, magnitude-reads.Asked, magnitude-reads.Learnt, eval-node-below t, eval-node.Post)
 
 abbrev node-claims : ℕ → eval-node-lts.Claims
 node-claims t = (is-yes-reads.Asked, is-yes-reads.Learnt, eval-edge-below t, eval-edge.Post)
@@ -55,22 +55,22 @@ at-else1 p = p .before .before .before
 eval-edge-is-minus-requires : (t : ℕ) → eval-edge-lts.Need-is-minus-requires (edge-claims t) (eval-edge-at t) eval-edge.Post
 eval-edge-is-minus-requires t c κs = search needs
 
-eval-edge-node-of-requires : (t : ℕ) → eval-edge-lts.Need-node-of-requires (edge-claims t) (eval-edge-at t) eval-edge.Post
-eval-edge-node-of-requires t c κs = rw (walk-back (c .before .args .e) (c .before .pre .1)) (c .before .pre .1 .small)
+eval-edge-magnitude-requires : (t : ℕ) → eval-edge-lts.Need-magnitude-requires (edge-claims t) (eval-edge-at t) eval-edge.Post
+eval-edge-magnitude-requires t c κs = search needs
 
 -- the sign and the node that the calls gave are those of the edge
 sign-is : (t : ℕ) (c : eval-edge-lts.After-is-minus (edge-claims t) (eval-edge-at t) eval-edge.Post)
     → c .is-minus .result ≡ minus (c .before .args .e)
 sign-is t c = c .is-minus .ensures ∙ ap minus (walk-back (c .before .args .e) (c .before .pre .1))
 
-node-is : (t : ℕ) (c : eval-edge-lts.After-node-of (edge-claims t) (eval-edge-at t) eval-edge.Post)
-    → c .node-of .result ≡ natAbs (c .before .before .args .e)
-node-is t c = c .node-of .ensures ∙ ap natAbs (walk-back (c .before .before .args .e) (c .before .before .pre .1))
+node-is : (t : ℕ) (c : eval-edge-lts.After-magnitude (edge-claims t) (eval-edge-at t) eval-edge.Post)
+    → c .magnitude .result ≡ natAbs (c .before .before .args .e)
+node-is t c = c .magnitude .ensures ∙ ap natAbs (walk-back (c .before .before .args .e) (c .before .before .pre .1))
 
 eval-edge-eval-node-requires : (t : ℕ) → eval-edge-lts.Need-eval-node-requires (edge-claims t) (eval-edge-at t) eval-edge.Post
 eval-edge-eval-node-requires t c κs =
     let s = c .before .before in
-    (omega (arith, s .pre .0, node-is t c), walks-lower (s .pre .1) (c .node-of .result) (omega (arith, node-is t c)))
+    (omega (arith, s .pre .0, node-is t c), walks-lower (s .pre .1) (c .magnitude .result) (omega (arith, node-is t c)))
 
 eval-edge-returns : (t : ℕ) → eval-edge-lts.Need-returns (edge-claims t) (eval-edge-at t) eval-edge.Post
 eval-edge-returns t c =
@@ -137,7 +137,7 @@ pub +eval-edge+eval-node-spec : {M : Type 1} → statement M
     (eval-edge-at t)
     eval-edge.Post
     (eval-edge-is-minus-requires t)
-    (eval-edge-node-of-requires t)
+    (eval-edge-magnitude-requires t)
     (eval-edge-eval-node-requires t)
     (eval-edge-returns t))
     (λ t. eval-node-lts.spec

@@ -1,12 +1,10 @@
 -- `head` meets its contract: its sums are the head's, and a part of 30 bits times a width of at most 2 ^ 34 fits.
 use mathlib.Core.Path.{ap, _∙_}
-use native.Mathlib.Nat.{mod-lt}
 use borrow.Author.Needs.{needs}
-use lib.Dec.{lit<}
 use Rattle.edges.specs.Width.{edgeWidth}
 use mir.ValLaws.{toZ-ofZ}
 use Rattle.unique_table.specs.Index.{keyPart}
-use Rattle.unique_table.proofs.Mixed.{head-is, part-fits}
+use Rattle.unique_table.proofs.Mixed.{head-is, upper-below, part-fits}
 use Rattle.unique_table.proofs.head.Statement.{statement}
 use Rattle.unique_table.proofs.head.Tie as tie
 
@@ -32,7 +30,7 @@ add-mixed-2 : tie.Need-add-mixed-2
 add-mixed-2 c = search needs
 
 mul-result : tie.Need-mul-result
-mul-result c = record { fits = part-fits _ _ (mod-lt _ (lit< tt)) (c .before .before .pre .1) }
+mul-result c = record { fits = part-fits _ _ (upper-below _) (c .before .before .pre .1) }
 
 returns : tie.Need-returns
 returns c =

@@ -1,0 +1,4 @@
+pub mod Keyed
+pub mod KeyParts
+pub mod Lines
+pub mod Remembered

@@ -1,0 +1,4 @@
+pub mod Grown
+pub mod Steps
+pub mod Turns
+pub mod FirstPairs

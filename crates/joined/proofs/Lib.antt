@@ -1,0 +1,11 @@
+pub mod Sides
+pub mod Joins
+pub mod Known
+pub mod Shortcut
+pub mod Room
+pub mod Under
+pub mod Coming
+pub mod Order
+pub mod Examples
+pub mod OrderExamples
+pub mod Roots

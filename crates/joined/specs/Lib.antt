@@ -1,0 +1,5 @@
+pub mod Join
+pub mod Shortcuts
+pub mod Room
+pub mod Roots
+pub mod Order

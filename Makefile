@@ -3,14 +3,15 @@
 # make test     the gate: proves, tries the must-fail edits, runs every test; its last line is 'N passed, 0 failed'
 # make costs    what the last run of the gate cost: the seconds of each crate and of its must-fail edits
 # make lib      proves the crate firmware, and puts the library for C and its header file into build/
-# make round    builds the example in C, build/round, over that library
+# make round    builds an example in C over that library: build/round, which evaluates a round
+# make join     builds another: build/join, which joins two plans
 # make bench    measures the library for C on generated files; ORACLE=DIR compares it with the Rust: see bench/run
 # make cases ORACLE=DIR
 #               makes the stored cases again, with the Rust, and says whether they are those of the repository;
 #               INSTALL=1 puts them in place: see tests/README.md
 # make differences ORACLE=DIR
 #               runs the inputs of docs/DIFFERENCES.md on the Rust
-.PHONY: recode test costs lib round bench cases differences clean
+.PHONY: recode test costs lib round join bench cases differences clean
 
 CFLAGS = -std=c99 -O2 -Wall -Wextra -pedantic
 
@@ -33,6 +34,9 @@ lib:
 
 round: lib
 	$(CC) $(CFLAGS) -Ibuild -o build/round examples/round.c build/libzonetweed.a
+
+join: lib
+	$(CC) $(CFLAGS) -Ibuild -o build/join examples/join.c build/libzonetweed.a
 
 bench:
 	@ORACLE='$(ORACLE)' bench/run

@@ -1,7 +1,7 @@
 /*
- * Zonetweed: loads DDDMP files of decision diagrams into a store, evaluates their roots and exports files.
+ * Zonetweed: loads DDDMP files of decision diagrams into a store, evaluates their roots, joins them and exports files.
  *
- * The three calls are proved against the definitions of the repository: for every content of the parts that it is lent, a call gives the
+ * The calls are proved against the definitions of the repository: for every content of the parts that it is lent, a call gives the
  * answer, and leaves in each part the content, that are stated there. What the caller owes is not proved, and is listed under 'Parts'.
  *
  * Words
@@ -9,14 +9,15 @@
  *   level     a place in the order of a diagram, counted from 0. A store has a fixed number of them.
  *   edge      a signed number: its magnitude names a node of the store, counted from 1, and a minus turns the node's answer over.
  *             Node 1 answers yes at every setting.
- *   root      an edge that a load gave. It stays valid, with the same answers, as long as the store is only changed by loads.
+ *   root      an edge that a load, a join or zt_not gave. It stays valid, with the same answers, as long as the store is only changed by loads
+ *             and joins. Two roots of a store, whichever calls gave them, are the same number exactly where they answer alike at every setting.
  *   setting   one byte for each level: 1 for yes, 0 for no.
  *   place     where a name stands: its start and its length in bytes. In a load's lists a start counts from the first byte of the file, and
  *             a name that there isn't is start 0, length 0.
  *
  * Parts
  *   - A pointer is valid for as many entries as its length says, and aligned as its type asks. An empty part, of length 0, may have a null
- *     pointer. The pointer `count` of a load is never null.
+ *     pointer. The pointer `count` of a load or a join is never null.
  *   - No part that a call writes may overlap another part that the same call is lent. Parts that are only read may overlap each other.
  *     A pointer to const is only read; every other part is written.
  *   - A part may be longer than it has to be. What isn't used of a part that is written is zeros afterwards, but for the store's.
@@ -34,17 +35,23 @@
  *   Every call that is given a store is also lent `work`, the entries of an index of its nodes, in any number, none included. No length is
  *   refused, and no answer depends on it. It needn't be cleared before a call, and is zeros afterwards. See ZT_WORK_ENTRIES.
  *
+ * Cache
+ *   The calls that join two roots are also lent `cache`, for results that they remember while they join, in any number of entries, none
+ *   included. What is said of work holds of it too: no length is refused, no answer depends on it, it needn't be cleared before a call, and it is
+ *   zeros afterwards, also where it is too short to be used. See ZT_CACHE_ENTRIES.
+ *
  * Refusals
  *   Every answer starts with the number of a refusal, 0 for none, and a line, counted from 1 at the top of the file, or 0 where no line is
- *   given. On any refusal all outputs are zeros, scratch, marks and work are zeros, and the store is as it was.
+ *   given. On any refusal all outputs are zeros, scratch, marks, work and cache are zeros, and the store is as it was.
  *
  * Threads
  *   There is no state beside the parts. Calls at the same time are independent of each other where none writes a part that another is lent:
- *   calls on different stores always are, and so are evaluations and exports of one store while no load changes it.
+ *   calls on different stores always are, and so are evaluations, exports and opposites of one store while no load and no join changes it.
+ *   Work and cache are written by each call, so calls at the same time are lent different ones.
  *
  * Stack
- *   The library takes no memory but the stack's: about 16 KB for a load, 24 KB for an export, 7 KB for an evaluation, whatever the parts hold
- *   and however long they are. These were measured on x86-64, and are not proved.
+ *   The library takes no memory but the stack's: about 16 KB for a load, 24 KB for an export, 7 KB for an evaluation, 97 KB for a join,
+ *   whatever the parts hold and however long they are. These were measured on x86-64, and are not proved.
  */
 #ifndef ZONETWEED_H
 #define ZONETWEED_H
@@ -67,11 +74,21 @@ extern "C" {
 #define ZT_MOST_NAME 255         /* bytes of a name that is exported */
 
 /*
- * The length of `work` that is enough where a store has at most so many nodes after the call: for a load its slots, up to ZT_MOST_NODES; for the
- * other calls its count. It buys that a node is found in a few steps whatever the nodes are. Half of it buys the same, a little slower; with
- * less, nodes are found along their chains: about as fast where nodes are spread over the buckets, and far slower where most share one.
+ * The length of `work` that is enough where a store has at most so many nodes after the call: for a load and a join its slots, up to
+ * ZT_MOST_NODES; for the other calls its count. It buys that a node is found in a few steps whatever the nodes are. Half of it buys the same, a
+ * little slower; with less, nodes are found along their chains: about as fast where nodes are spread over the buckets, and far slower where most
+ * share one.
  */
 #define ZT_WORK_ENTRIES(nodes) (6 * ((size_t)(nodes) + 1))
+
+/*
+ * The length of `cache` that has room for so many results. A join goes through pairs of nodes, one of each root; where the results of most pairs
+ * that it meets are remembered, it takes time by their number, and else it meets them again. As many results as the store has nodes, or a few times
+ * as many, are ample. Where fewer entries than ZT_OWN_CACHE_ENTRIES are lent, a join has so many of its own, on the stack, and the lent ones aren't
+ * used; they are cleared all the same.
+ */
+#define ZT_CACHE_ENTRIES(results) (4 * (size_t)(results))
+#define ZT_OWN_CACHE_ENTRIES 16384
 
 /* An edge, and the number of a node. */
 typedef int16_t zt_edge;
@@ -121,7 +138,7 @@ enum zt_refusal {
     ZT_NO_END = 39,       /* no `.end`, or something after it other than space, tab, LF, FF and CR; line 0 */
 
     /* whoever filled the store; the line is 0 */
-    ZT_NO_ROOM = 40 /* a line needs a new node, and every slot that was lent, or 32,767, is used */
+    ZT_NO_ROOM = 40 /* a line or a join needs a new node, and every slot that was lent, or 32,767, is used */
 };
 
 /* The answer of a load. From `ascii` on it has the numbers of the file's header; on a refusal they are zeros. */
@@ -152,6 +169,13 @@ struct zt_export_answer {
     uint8_t refusal; /* the number of the refusal, 0 for none */
     size_t line;     /* always 0 */
     size_t len;      /* how many bytes of `out` are the file; 0 on a refusal */
+};
+
+/* The answer of a join, and of zt_not. */
+struct zt_join_answer {
+    uint8_t refusal; /* the number of the refusal, 0 for none */
+    size_t line;     /* always 0 */
+    zt_edge root;    /* the root; 0 on a refusal */
 };
 
 /*
@@ -229,7 +253,7 @@ struct zt_load_answer zt_load(
  *
  * Read
  *   the store  `levels`, `count`, and the five lists. See 'Store' above.
- *   root       the edge: a root that a load gave, or any number from 1 to `count` in magnitude
+ *   root       the edge: a root that a call gave, or any number from 1 to `count` in magnitude
  *   setting    `levels` entries, each 0 or 1
  *
  * Scratch
@@ -319,6 +343,94 @@ struct zt_export_answer zt_export(
     zt_index *slots, size_t slots_len,
     zt_index *numbers, size_t numbers_len,
     uint8_t *out, size_t out_len,
+    zt_index *work, size_t work_len);
+
+/*
+ * The root of the and, the or, or the exclusive or of two roots of a store: at every setting its answer is that operation on their answers.
+ *
+ * Read
+ *   left       a root: one that a call gave, or any number from 1 to `count` in magnitude
+ *   right      likewise
+ *
+ * The store: `levels` by value, `count`, `level`, `then`, `els`, `next`, `heads`. See 'Store' above.
+ *
+ * Scratch
+ *   cache      any length. See 'Cache' above.
+ *   work       any length. See 'Work' above; after a join a store has at most as many nodes as slots.
+ *
+ * Refusals, in the order in which they are judged
+ *   ZT_BROKEN_STORE
+ *   ZT_BAD_ROOT_OR_SETTING   a root is 0 or beyond the count
+ *   ZT_NO_ROOM               the nodes of the result that the store lacks are more than there are free slots, or would be over ZT_MOST_NODES
+ *
+ * Afterwards, on success: the store has the nodes of the result that it lacked beside all those that it had, whose numbers and answers are the
+ * same as before: all under then before all under else, each after its children. Where it lacked none, it is as it was, and is never refused with
+ * ZT_NO_ROOM.
+ *
+ * Afterwards, on a refusal: `root` is 0; `count` and the five lists of the store are as they were. Cache and work are zeros, always.
+ */
+struct zt_join_answer zt_and(
+    uint16_t levels,
+    zt_index *count,
+    uint16_t *level, size_t level_len,
+    zt_edge *then, size_t then_len,
+    zt_edge *els, size_t els_len,
+    zt_index *next, size_t next_len,
+    zt_index *heads, size_t heads_len,
+    zt_edge left,
+    zt_edge right,
+    zt_edge *cache, size_t cache_len,
+    zt_index *work, size_t work_len);
+
+struct zt_join_answer zt_or(
+    uint16_t levels,
+    zt_index *count,
+    uint16_t *level, size_t level_len,
+    zt_edge *then, size_t then_len,
+    zt_edge *els, size_t els_len,
+    zt_index *next, size_t next_len,
+    zt_index *heads, size_t heads_len,
+    zt_edge left,
+    zt_edge right,
+    zt_edge *cache, size_t cache_len,
+    zt_index *work, size_t work_len);
+
+struct zt_join_answer zt_xor(
+    uint16_t levels,
+    zt_index *count,
+    uint16_t *level, size_t level_len,
+    zt_edge *then, size_t then_len,
+    zt_edge *els, size_t els_len,
+    zt_index *next, size_t next_len,
+    zt_index *heads, size_t heads_len,
+    zt_edge left,
+    zt_edge right,
+    zt_edge *cache, size_t cache_len,
+    zt_index *work, size_t work_len);
+
+/*
+ * The opposite of a root of a store: at every setting its answer is the other one.
+ *
+ * Read
+ *   the store  `levels`, `count`, and the five lists. See 'Store' above.
+ *   root       a root: one that a call gave, or any number from 1 to `count` in magnitude
+ *
+ * Scratch
+ *   work       any length. See 'Work' above.
+ *
+ * Refusals, in the order in which they are judged: ZT_BROKEN_STORE, ZT_BAD_ROOT_OR_SETTING. On a refusal `root` is 0.
+ *
+ * Afterwards work is zeros, and all other parts are as they were.
+ */
+struct zt_join_answer zt_not(
+    uint16_t levels,
+    zt_index count,
+    const uint16_t *level, size_t level_len,
+    const zt_edge *then, size_t then_len,
+    const zt_edge *els, size_t els_len,
+    const zt_index *next, size_t next_len,
+    const zt_index *heads, size_t heads_len,
+    zt_edge root,
     zt_index *work, size_t work_len);
 
 #ifdef __cplusplus

@@ -2,12 +2,14 @@
 -- who can cause them'.
 use Prim.Native.Nat.{ℕ}
 use mathlib.Core.Bool.{Bool}
+use lib.IntN.{ℤ, pos}
 use Rattle.codes.specs.Answer.{Read, value, refused}
 use Rattle.header.specs.Header as head
 use Rattle.evaluation.specs.SettingBytes.{byteOf}
 use Rattle.c_answers.specs.declared.LoadAnswer.{LoadAnswer}
 use Rattle.c_answers.specs.declared.EvaluateAnswer.{EvaluateAnswer}
 use Rattle.c_answers.specs.declared.ExportAnswer.{ExportAnswer}
+use Rattle.c_answers.specs.declared.JoinAnswer.{JoinAnswer}
 
 abbrev pub ofLoadAnswer : head.HeaderAnswer → LoadAnswer
 ofLoadAnswer (head.header h) = record {
@@ -46,3 +48,7 @@ ofEvaluated (refused n) = record { refusal = n; line = 0; answer = 0 }
 abbrev pub ofLength : Read ℕ → ExportAnswer
 ofLength (value n) = record { refusal = 0; line = 0; len = n }
 ofLength (refused k) = record { refusal = k; line = 0; len = 0 }
+
+abbrev pub ofRoot : Read ℤ → JoinAnswer
+ofRoot (value x) = record { refusal = 0; line = 0; root = x }
+ofRoot (refused n) = record { refusal = n; line = 0; root = pos 0 }

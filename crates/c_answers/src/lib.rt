@@ -1,19 +1,22 @@
 // What the calls for C answer, and the settings that they are lent: structs by value, each field by an equation with the core's answer.
 ghost use mathlib.Core.Path.{_≡_};
 ghost use Rattle.evaluation.specs.Evaluated.{ofEvaluation};
+ghost use Rattle.joins.specs.Kinds.{ofJoined};
 ghost use Rattle.header_values.specs.Kinds.{ofVarInfo};
 ghost use Rattle.header.specs.Kinds.{ofLoaded};
 ghost use Rattle.exporter.specs.Settings.{ofSettings};
 ghost use Rattle.exporter.specs.Promise.{ofExported};
 ghost use Rattle.evaluation.specs.SettingBytes.{byteOf};
-ghost use Rattle.c_answers.specs.Answers.{ofLoadAnswer, ofEvaluated, ofLength};
+ghost use Rattle.c_answers.specs.Answers.{ofLoadAnswer, ofEvaluated, ofLength, ofRoot};
 ghost use Rattle.c_answers.specs.Settings.{versionOf, settingsOf};
 use codes::DDDMPVersion;
 use codes::VarInfo;
+use edges::Edge;
 use evaluation::Evaluation;
 use exporter::ExportSettings;
 use exporter::Exported;
 use header::Loaded;
+use joins::Joined;
 
 // The answer of a load: the number of a refusal, 0 of none, and its line; then the numbers of the header, zeros on a refusal.
 #[repr(C)]
@@ -46,6 +49,14 @@ pub struct ExportAnswer {
     pub refusal: u8,
     pub line: usize,
     pub len: usize,
+}
+
+// The answer of a join: the root, 0 on a refusal. The line is always 0.
+#[repr(C)]
+pub struct JoinAnswer {
+    pub refusal: u8,
+    pub line: usize,
+    pub root: Edge,
 }
 
 // 1 for yes, 0 for no.
@@ -137,6 +148,23 @@ pub fn export_answer(exported: Exported) -> ExportAnswer
             refusal: n,
             line: 0,
             len: 0,
+        },
+    }
+}
+
+pub fn join_answer(joined: Joined) -> JoinAnswer
+    ensures { λ r. ⌜ r ≡ ofRoot (ofJoined joined) ⌝ }
+{
+    match joined {
+        Joined::Root(x) => JoinAnswer {
+            refusal: 0,
+            line: 0,
+            root: x,
+        },
+        Joined::Refused(n) => JoinAnswer {
+            refusal: n,
+            line: 0,
+            root: 0,
         },
     }
 }

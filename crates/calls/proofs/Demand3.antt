@@ -1,5 +1,6 @@
--- Demand 3: of every list of public calls on one store, from an empty one on: two roots are equal as signed numbers exactly where their
--- files' lines answer alike at every setting. Document 01, 'Agreed between us'.
+-- Demand 3: of every list of public calls on one store, from an empty one on: two roots are equal as signed numbers exactly where what they
+-- mean answers alike at every setting: a root that was read, what its file's lines say. Document 01, 'Agreed between us'; and document 02,
+-- request 2: 'Roots made so are as comparable as roots read from files: equal numbers exactly when equal answers.'
 use mathlib.Core.Path.{_≡_, sym, ap, subst, _∙_}
 use mathlib.Core.Logic.{_↔_}
 use mathlib.Core.Bool.{Bool}
@@ -19,22 +20,27 @@ use Rattle.store.specs.Growth.{Grows}
 use Rattle.store.specs.Empty.{empty}
 use Rattle.store.proofs.Growth.{grow-edge, grow-answer}
 use Rattle.store.proofs.Canonicity.{canonicity}
+use Rattle.joined.proofs.Roots.{join-gives, join-means, join-extends, opposite-means}
 use Rattle.calls.specs.Load.{loadOf}
 use Rattle.calls.specs.Calls.{Call}
 use Rattle.calls.specs.Outcome.{leaves}
 use Rattle.calls.specs.Lists.{before}
-use Rattle.calls.specs.Roots.{Meaning, loadSays, Means, Gives, loaded, Root, SameAnswer, Alike}
+use Rattle.calls.specs.Roots.{Meaning, loadSays, Means, Gives, loaded, joined, opposed, Root, SameAnswer, Alike}
 use Rattle.calls.proofs.RootsAnswer.{roots-answer}
 use Rattle.calls.proofs.Growing.{run-grows, after-grows, after-rules}
 
 -- a call that gives a root leaves a store that keeps the rules, where the root has its meaning
 gives-rules : {m : Limits} {c : Call} {σ : Store} {e : ℤ} {x : Meaning} → Gives m c σ e x → Rules m (leaves m c σ .after)
 gives-rules {m} (loaded c σ h i e q k t) = roots-answer m c σ h q .rules
+gives-rules {m} (joined o a b σ e q) = join-extends m o σ a b .rules (join-gives m o σ a b e q .0 .rules)
+gives-rules {m} (opposed a σ e q) = opposite-means m σ a e q .rules
 
 gives-means : {m : Limits} {c : Call} {σ : Store} {e : ℤ} {x : Meaning} → Gives m c σ e x → Means (leaves m c σ .after) e x
 gives-means {m} (loaded c σ h i e q k t) =
     let w = roots-answer m c σ h q .root i k in
     subst (λ (r : ℤ). Means (loadOf m c σ .after) r (loadSays m c σ i)) (Option·some-injective (w .root) e (sym (w .there) ∙ t)) (w .means)
+gives-means {m} (joined o a b σ e q) = let w = join-means m o σ a b e q in record { edge = w .edge; agrees = λ s. ap some (sym (w .says s)) }
+gives-means {m} (opposed a σ e q) = let w = opposite-means m σ a e q in record { edge = w .edge; agrees = λ s. ap some (sym (w .says s)) }
 
 -- an edge keeps its meaning while the store grows
 means-grown : {m : Limits} {σ τ : Store} {e : ℤ} {x : Meaning} → Grows σ τ → Rules m σ → Means σ e x → Means τ e x
@@ -81,7 +87,7 @@ module _ (m : Limits) (levels slots : ℕ) (cs : List Call) where
       (root-means a (b .place) h) (root-means b (b .place) (omega arith))
 
 -- Demand 3. The list and the two roots are arbitrary; nothing is asked of the store, of the files or of any answer, beyond that each root
--- was given by a load that was accepted.
+-- was given by a call that was accepted: a load, a join or an opposite.
 pub demand-3 : (m : Limits) (levels slots : ℕ) (cs : List Call) (a b : Root m levels slots cs)
     → (a .edge ≡ b .edge) ↔ Alike levels (a .meaning) (b .meaning)
 demand-3 m levels slots cs a b = go (decLe (a .place) (b .place))

@@ -1,4 +1,5 @@
--- What the call evaluate answers of the roots that a list of calls gave: at any later time, what the lines of their files say.
+-- What the call evaluate answers of the roots that a list of calls gave: at any later time, what they mean; of a root that was read, what the
+-- lines of its file say.
 use mathlib.Core.Path.{_≡_, sym, subst, _∙_}
 use mathlib.Core.Bool.{Bool}
 use mathlib.Core.List.{List}
@@ -42,7 +43,7 @@ means-evaluates {m} τ e x s R M q = (answer τ (chosen s) e, (M .agrees (chosen
         rw (rules-keeps m τ R, le-leb 1 _ (M .edge .some), le-leb _ (τ .count) (M .edge .there), a, setting-chosen s)
 
 module _ (m : Limits) (levels slots : ℕ) (cs : List Call) (a : Root m levels slots cs) (s : List Bool) (q : length s ≡ levels) where
-  -- Evaluating a root after the call that gave it, or after any later one, gives what its file's lines say.
+  -- Evaluating a root after the call that gave it, or after any later one, gives what it means.
   pub evaluates-later : (k : ℕ) → a .place ≤ k
       → Answers (a .meaning (chosen s)) (evaluateOf m (a .edge) (bytesOf s) (after m levels slots cs k))
   evaluates-later k h =

@@ -10,8 +10,9 @@ use Rattle.store.specs.Rules.{Rules}
 use Rattle.store.specs.Growth.{Grows}
 use Rattle.store.proofs.Growth.{grows-refl, grows-trans}
 use Rattle.header.specs.Header.{HeaderAnswer, header, refusal}
+use Rattle.joined.proofs.Roots.{join-extends}
 use Rattle.calls.specs.Load.{Load, loadOf}
-use Rattle.calls.specs.Calls.{Call, load, evaluate, export}
+use Rattle.calls.specs.Calls.{Call, load, evaluate, export, join, opposite}
 use Rattle.calls.specs.Outcome.{leaves}
 use Rattle.calls.specs.Lists.{runCalls, before}
 use Rattle.calls.specs.Roots.{At, here, later}
@@ -31,6 +32,8 @@ pub call-grows : (m : Limits) (c : Call) (σ : Store) → Grows σ (leaves m c �
 call-grows m (load c) σ = load-grows m c σ
 call-grows m (evaluate e s) σ = grows-refl σ
 call-grows m (export x) σ = grows-refl σ
+call-grows m (join o a b) σ = join-extends m o σ a b .grows
+call-grows m (opposite a) σ = grows-refl σ
 
 -- and a list of calls
 pub run-grows : (m : Limits) (σ : Store) (cs : List Call) → Grows σ (runCalls m σ cs)
@@ -70,6 +73,8 @@ call-rules : (m : Limits) (c : Call) (σ : Store) → Rules m σ → Rules m (le
 call-rules m (load c) σ R = load-rules m c σ R
 call-rules m (evaluate e s) σ R = R
 call-rules m (export x) σ R = R
+call-rules m (join o a b) σ R = join-extends m o σ a b .rules R
+call-rules m (opposite a) σ R = R
 
 -- and a list of calls
 pub run-rules : (m : Limits) (σ : Store) (cs : List Call) → Rules m σ → Rules m (runCalls m σ cs)

@@ -4,6 +4,8 @@ pub mod Demand2
 pub mod Demand3
 pub mod Evaluating
 pub mod Growing
+pub mod JoinRefusals
+pub mod JoinedRoots
 pub mod HeaderStands
 pub mod Passes
 pub mod RootEntries

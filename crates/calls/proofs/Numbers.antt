@@ -1,12 +1,12 @@
 -- Every refusal of every call is one of document 01's numbers, and so is never 0, which is no refusal for C.
-use mathlib.Core.Path.{_≡_, refl, sym, subst, _∙_}
+use mathlib.Core.Path.{_≡_, refl, sym, ap, subst, _∙_}
 use mathlib.Core.Logic.{_⊎_, inl, inr, ⊎-elim, _↔_}
 use mathlib.Core.Bool.{Bool, true, false, _&&_, cond}
 use mathlib.Core.List.{List, [], _∷_}
 use Prim.Native.Nat.{ℕ, zero, suc, _≤_}
 use native.Mathlib.Omega.{arith}
 use lib.IntN.{ℤ}
-use Rattle.codes.specs.Answer.{value, refused}
+use Rattle.codes.specs.Answer.{Read, value, refused}
 use Rattle.codes.specs.Faults.{firstFault, unless}
 use Rattle.codes.proofs.Faults.{none-in, first-in}
 use Rattle.codes.proofs.Refusals.{unless-in}
@@ -18,17 +18,22 @@ use Rattle.header_checks.proofs.WholeNumbers.{whole-numbers}
 use Rattle.store.specs.Store.{Store}
 use Rattle.codes.specs.Limits.{Limits}
 use Rattle.store.specs.Keeps.{keeps}
-use Rattle.evaluation.specs.Evaluation.{isRoot, isSetting, evaluation}
+use Rattle.store.specs.Growth.{isRoot}
+use Rattle.evaluation.specs.Evaluation.{isSetting, evaluation}
 use Rattle.header.specs.Header as head
 use Rattle.header.specs.Header.{tableOf}
 use Rattle.level_list.proofs.LevelLists.{list-levels, list-allowed}
 use Rattle.imported.proofs.NodesRefused.{refused-nodes, nodes-numbers}
 use Rattle.variable_order.specs.Order.{isOrder}
 use Rattle.exported.specs.Export.{rootsFit, longEnough, namesFit, exportFault, Export, exportBy, exportFaultOf, exportFileOf, exportOf}
+use Rattle.joined.specs.declared.Op.{Op}
+use Rattle.joined.specs.Roots.{joinRoots, oppositeRoot}
+use Rattle.joined.proofs.Roots.{opposite-numbers}
 use Rattle.calls.specs.Load.{Load, setupOf, loadOf}
-use Rattle.calls.specs.Calls.{Call, load, evaluate, export, evaluateOf}
+use Rattle.calls.specs.Calls.{Call, load, evaluate, export, join, opposite, evaluateOf}
 use Rattle.calls.specs.Outcome.{Verdict, accepted, refusal, Tells, verdictOf, verdictRead, leaves}
-use Rattle.calls.specs.Refusals.{RefusalNumber, LoadRefused, lists-short, store-broken, input-long, line-refused, whole-refused, scratch-short, list-refused, nodes-refused, CarriesLine, RefusedFor}
+use Rattle.calls.specs.Refusals.{RefusalNumber, LoadRefused, lists-short, store-broken, input-long, line-refused, whole-refused, scratch-short, list-refused, nodes-refused, CarriesLine, JoinRefused, join-broken, root-bad, join-crowded, RefusedFor}
+use Rattle.calls.proofs.JoinRefusals.{join-refused-exactly}
 use Rattle.calls.proofs.Refusals.{refused-exactly}
 
 -- what is accepted is not refused
@@ -96,11 +101,30 @@ export-refuses m x σ n line q = go (exportFaultOf m x σ) (fault-number m x σ)
         let s = same-verdict q in
         (subst (λ (i : ℕ). (i ≡ 1) ⊎ ((3 ≤ i) × (i ≤ 6))) (s .0) (some k N), sym (s .1))
 
+-- a call that reads no file and answers so
+read-refused : {A : Type 0} (r : Read A) (n line : ℕ) → verdictRead r ≡ refusal n line → (r ≡ refused n) × (line ≡ 0)
+read-refused (value a) n line q = not-refused q
+read-refused (refused k) n line q = let s = same-verdict q in (ap refused (s .0), sym (s .1))
+
+-- a join: '3, 4, 40'
+join-refuses : (m : Limits) (o : Op) (a b : ℤ) (σ : Store) (n line : ℕ) → verdictRead (joinRoots m o σ a b .answer) ≡ refusal n line
+    → JoinRefused m o σ a b n × (line ≡ 0)
+join-refuses m o a b σ n line q =
+    let w = read-refused (joinRoots m o σ a b .answer) n line q in
+    (join-refused-exactly m o σ a b n .0 (w .0), w .1)
+
+-- an opposite: '3, 4'
+opposite-refuses : (m : Limits) (a : ℤ) (σ : Store) (n line : ℕ) → verdictRead (oppositeRoot m σ a) ≡ refusal n line
+    → ((n ≡ 3) ⊎ (n ≡ 4)) × (line ≡ 0)
+opposite-refuses m a σ n line q = let w = read-refused (oppositeRoot m σ a) n line q in (opposite-numbers m σ a n (w .0), w .1)
+
 -- Every call is refused by a rule that is broken, and at the line that document 01 names.
 pub refused-for : (m : Limits) (c : Call) (σ : Store) (n line : ℕ) → leaves m c σ .verdict ≡ refusal n line → RefusedFor m c σ n line
 refused-for m (load c) σ n line q = load-refuses m c σ n line q
 refused-for m (evaluate e s) σ n line q = evaluate-refuses m e s σ n line q
 refused-for m (export x) σ n line q = export-refuses m x σ n line q
+refused-for m (join o a b) σ n line q = join-refuses m o a b σ n line q
+refused-for m (opposite a) σ n line q = opposite-refuses m a σ n line q
 
 -- the numbers of a load's refusals
 load-number : {m : Limits} (c : Load) (σ : Store) {n line : ℕ} → LoadRefused m c σ n line → RefusalNumber n
@@ -142,11 +166,19 @@ line-carried c σ (nodes-refused H S L (text r a e k t i l)) = (λ h. tt, λ z. 
 line-carried c σ (nodes-refused H S L (binary r a e k)) = (λ h. omega arith, λ z. absurd z)
 line-carried c σ (nodes-refused H S L (unended r e w)) = (λ h. omega arith, λ z. absurd z)
 
+-- the numbers of a join's
+join-number : {m : Limits} {o : Op} {σ : Store} {a b : ℤ} {n : ℕ} → JoinRefused m o σ a b n → RefusalNumber n
+join-number (join-broken w) = inl (omega arith)
+join-number (root-bad R w) = inl (omega arith)
+join-number (join-crowded Q w) = inr (inr (omega arith))
+
 -- Document 01's numbers are all that a call is refused with.
 pub refusal-number : (m : Limits) (c : Call) (σ : Store) (n line : ℕ) → RefusedFor m c σ n line → RefusalNumber n
 refusal-number m (load c) σ n line w = load-number c σ w
 refusal-number m (evaluate e s) σ n line w = ⊎-elim (λ z. inl (omega (arith, z))) (λ z. inl (omega (arith, z))) (w .0)
 refusal-number m (export x) σ n line w = ⊎-elim (λ z. inl (omega (arith, z))) (λ z. inl (omega (arith, z .0, z .1))) (w .0)
+refusal-number m (join o a b) σ n line w = join-number (w .0)
+refusal-number m (opposite a) σ n line w = ⊎-elim (λ z. inl (omega (arith, z))) (λ z. inl (omega (arith, z))) (w .0)
 
 -- 0 is none of them
 pub number-some : {n : ℕ} → RefusalNumber n → 1 ≤ n

@@ -8,6 +8,7 @@ use Rattle.codes.specs.Limits.{Limits}
 use Rattle.store.specs.Store.{Store}
 use Rattle.evaluation.specs.Evaluation.{evaluation}
 use Rattle.exported.specs.Export.{Export}
+use Rattle.joined.specs.declared.Op.{Op}
 use Rattle.calls.specs.Load.{Load}
 
 -- 'Its calls are those that the firmware or a program makes', each with everything that it is lent
@@ -15,6 +16,8 @@ pub data Call : Type 0 where
   load : Load → Call
   evaluate : ℤ → List ℕ → Call
   export : Export → Call
+  join : Op → ℤ → ℤ → Call
+  opposite : ℤ → Call
 
 -- what an evaluation answers: 'Evaluation gives 3, 4'
 abbrev pub evaluateOf : Limits → ℤ → List ℕ → Store → Read Bool

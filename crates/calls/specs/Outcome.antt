@@ -11,7 +11,8 @@ use Rattle.store.specs.Store.{Store}
 use Rattle.header.specs.Header as head
 use Rattle.exported.specs.Export.{exportOf}
 use Rattle.calls.specs.Load.{Parts, partsOf, loadOf}
-use Rattle.calls.specs.Calls.{Call, load, evaluate, export, evaluateOf}
+use Rattle.joined.specs.Roots.{joinRoots, oppositeRoot}
+use Rattle.calls.specs.Calls.{Call, load, evaluate, export, join, opposite, evaluateOf}
 
 -- 'A refusal is a number and a line.'
 pub data Verdict : Type 0 where
@@ -75,3 +76,7 @@ leaves m (evaluate e s) σ = outcome (verdictRead (evaluateOf m e s σ)) σ [] [
 leaves m (export x) σ =
     let r = exportOf m x σ in
     outcome (verdictRead (r .answer)) σ (numbers (r .out) ∷ []) (numbers (replicate (x .slots) 0) ∷ numbers (replicate (x .numbers) 0) ∷ [])
+leaves m (join o a b) σ =
+    let r = joinRoots m o σ a b in
+    outcome (verdictRead (r .answer)) (r .after) [] []
+leaves m (opposite a) σ = outcome (verdictRead (oppositeRoot m σ a)) σ [] []

@@ -6,6 +6,7 @@ use Prim.Native.Nat.{ℕ, _≤_, _<_}
 use mathlib.Core.Path.{_≡_}
 use mathlib.Core.Logic.{_⊎_}
 use lib.ListN.{length}
+use lib.IntN.{ℤ}
 use Rattle.codes.specs.Limits.{Limits, varLimit, rootLimit}
 use Rattle.read_lines.specs.Each.{Each}
 use Rattle.header_lines.specs.Sweep.{linesOf}
@@ -15,11 +16,15 @@ use Rattle.header_checks.specs.WholeRules.{WholeRules}
 use Rattle.support.specs.Support.{IdsAllowed}
 use Rattle.store.specs.Store.{Store}
 use Rattle.store.specs.Rules.{Rules}
+use Rattle.store.specs.Growth.{EdgeOf}
 use Rattle.header.specs.Header.{Header, tableOf}
 use Rattle.header.specs.HeaderSaid.{HeaderSaid}
 use Rattle.imported.specs.Refused.{NodesRefused, crowded, early, text, binary, unended}
 use Rattle.calls.specs.Load.{Lengths, Load, variableLists, rootLists, setupOf}
-use Rattle.calls.specs.Calls.{Call, load, evaluate, export}
+use Rattle.joined.specs.declared.Op.{Op}
+use Rattle.joined.specs.Join.{Ready}
+use Rattle.joined.specs.Room.{JoinFits}
+use Rattle.calls.specs.Calls.{Call, load, evaluate, export, join, opposite}
 
 -- document 01's numbers: 1 to 6, 10 to 26, and 30 to 40; 0 is none of them
 abbrev pub RefusalNumber : ℕ → Type 0
@@ -91,8 +96,16 @@ CarriesLine (nodes-refused H S L (text r a e k t i l)) = Unit
 CarriesLine (nodes-refused H S L (binary r a e k)) = ⊥
 CarriesLine (nodes-refused H S L (unended r e w)) = ⊥
 
+-- How a join is refused. Document 02, request 2: 'in the order 3, 4, 40, and 40 only where those nodes don't fit'.
+pub data JoinRefused (m : Limits) (o : Op) (σ : Store) (a b : ℤ) : ℕ → Type 0 where
+  join-broken : (Rules m σ → ⊥) → JoinRefused m o σ a b 3
+  root-bad : Rules m σ → ((EdgeOf σ a × EdgeOf σ b) → ⊥) → JoinRefused m o σ a b 4
+  join-crowded : Ready m σ a b → (JoinFits m o σ a b → ⊥) → JoinRefused m o σ a b 40
+
 -- how each call is refused: the line is 0 'in every call that reads no file'
 abbrev pub RefusedFor : Limits → Call → Store → ℕ → ℕ → Type 0
 RefusedFor m (load c) σ n line = LoadRefused m c σ n line
 RefusedFor m (evaluate e s) σ n line = ((n ≡ 3) ⊎ (n ≡ 4)) × (line ≡ 0)
 RefusedFor m (export x) σ n line = ((n ≡ 1) ⊎ ((3 ≤ n) × (n ≤ 6))) × (line ≡ 0)
+RefusedFor m (join o a b) σ n line = JoinRefused m o σ a b n × (line ≡ 0)
+RefusedFor m (opposite a) σ n line = ((n ≡ 3) ⊎ (n ≡ 4)) × (line ≡ 0)

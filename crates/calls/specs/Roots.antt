@@ -1,7 +1,7 @@
 -- The roots that calls give, and what they mean.
 use Prim.Native.Nat.{ℕ, suc, _≤_, _<_}
 use mathlib.Core.Path.{_≡_}
-use mathlib.Core.Bool.{Bool}
+use mathlib.Core.Bool.{Bool, not}
 use mathlib.Core.List.{List, [], _∷_}
 use mathlib.Core.Option.{Option, none, some}
 use lib.ListN.{length, getD, getElem?}
@@ -19,7 +19,11 @@ use Rattle.imported.specs.Import.{linesIn}
 use Rattle.node_lines.specs.Line.{Line}
 use Rattle.node_lines.specs.Says.{says}
 use Rattle.calls.specs.Load.{Load, Loaded, setupFor, loadOf}
-use Rattle.calls.specs.Calls.{Call, load}
+use Rattle.codes.specs.Answer.{value}
+use Rattle.joined.specs.declared.Op.{Op}
+use Rattle.joined.specs.Join.{apply}
+use Rattle.joined.specs.Roots.{joinRoots, oppositeRoot}
+use Rattle.calls.specs.Calls.{Call, load, join, opposite}
 use Rattle.calls.specs.Lists.{before}
 
 -- what a root means: yes or no at each setting, or nothing where a file says nothing
@@ -71,11 +75,21 @@ pub record Gains (m : Limits) (c : Load) (σ : Store) (r : Loaded) : Type 0 wher
   pub root : (i : ℕ) → i < length (rootsOf (c .file)) → RootGained m c σ r i
   pub unused : (i : ℕ) → length (rootsOf (c .file)) ≤ i → getD (r .roots) i (pos 0) ≡ pos 0
 
+-- 'At every setting the answer is that operation on the two answers'
+abbrev pub joinSays : Op → Store → ℤ → ℤ → Meaning
+joinSays o σ a b s = some (apply o (answer σ s a) (answer σ s b))
+
+abbrev pub oppositeSays : Store → ℤ → Meaning
+oppositeSays σ a s = some (not (answer σ s a))
+
 -- A call on a store gives a root, with its meaning. 'A load is accepted where it answers no refusal ..; its roots belong to the entries of
--- `.rootids` in their order, and are compared as the load gave them.' Calls whose roots come from no file will be further cases.
+-- `.rootids` in their order, and are compared as the load gave them.' Of a join and of an opposite, document 02, request 2: 'Roots made so are as
+-- comparable as roots read from files'; they mean the operation on what their edges answer in the store at that call.
 pub data Gives (m : Limits) : Call → Store → ℤ → Meaning → Type 0 where
   loaded : (c : Load) (σ : Store) (h : Header) (i : ℕ) (e : ℤ) → loadOf m c σ .answer ≡ header h → i < length (rootsOf (c .file))
       → getElem? (loadOf m c σ .roots) i ≡ some e → Gives m (load c) σ e (loadSays m c σ i)
+  joined : (o : Op) (a b : ℤ) (σ : Store) (e : ℤ) → joinRoots m o σ a b .answer ≡ value e → Gives m (join o a b) σ e (joinSays o σ a b)
+  opposed : (a : ℤ) (σ : Store) (e : ℤ) → oppositeRoot m σ a ≡ value e → Gives m (opposite a) σ e (oppositeSays σ a)
 
 -- a call at a place of a list, counted from 0
 pub data At : List Call → ℕ → Call → Type 0 where

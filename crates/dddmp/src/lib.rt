@@ -1,6 +1,7 @@
-// The public calls: load, evaluate and export, on one store. Each is lent `work`, of any length: where it is long enough, nodes are found by an
+// The public calls: load, evaluate, export, join and opposite, on one store. Each is lent `work`, of any length: where it is long enough, nodes are found by an
 // index in it, else along their chains. No answer depends on it, and it ends as zeros.
 ghost use Rattle.exporter.specs.Promise.{ExportPromise};
+ghost use Rattle.joins.specs.Promises.{JoinPromise, OppositePromise};
 ghost use Rattle.dddmp.specs.Promises.{LoadPromise, EvaluatePromise};
 use edges::Edge;
 use edges::Index;
@@ -9,6 +10,8 @@ use exporter::ExportSettings;
 use exporter::Exported;
 use header::DumpHeader;
 use header::Loaded;
+use joined::Op;
+use joins::Joined;
 
 // Loads a file into the store. `list` is the level list, one level of the store for each support variable. Beside the store are lent: the
 // lists of the header, that is `.ids`, the support order, `.permids`, `.auxids`, the variables' names as starts and lengths, the roots, the
@@ -172,4 +175,55 @@ pub fn export(
         out,
         work,
     )
+}
+
+// The root of an operation on two roots of the store: their and, their or, or their exclusive or. `cache`, of any length too, remembers results
+// while they are joined.
+pub fn join(
+    levels: u16,
+    count: &mut Index,
+    level: &mut [u16],
+    then: &mut [Edge],
+    els: &mut [Edge],
+    next: &mut [Index],
+    heads: &mut [Index],
+    op: Op,
+    left: Edge,
+    right: Edge,
+    cache: &mut [Edge],
+    work: &mut [Index],
+) -> Joined
+    ensures { λ r. ⌜ JoinPromise levels count level then els next heads op left right cache work r ⌝ }
+{
+    joins::join(
+        levels,
+        count,
+        level,
+        then,
+        els,
+        next,
+        heads,
+        op,
+        left,
+        right,
+        cache,
+        work,
+    )
+}
+
+// The opposite of a root of the store.
+pub fn opposite(
+    levels: u16,
+    count: Index,
+    level: &[u16],
+    then: &[Edge],
+    els: &[Edge],
+    next: &[Index],
+    heads: &[Index],
+    root: Edge,
+    work: &mut [Index],
+) -> Joined
+    ensures { λ r. ⌜ OppositePromise levels count level then els next heads root work r ⌝ }
+{
+    joins::opposite(levels, count, level, then, els, next, heads, root, work)
 }

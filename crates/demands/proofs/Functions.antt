@@ -9,6 +9,9 @@ use Rattle.evaluation.specs.declared.Evaluation.{Evaluation}
 use Rattle.header.specs.declared.Loaded.{Loaded}
 use Rattle.exporter.specs.declared.Exported.{Exported}
 use Rattle.exporter.specs.Promise.{ExportPromise}
+use Rattle.joined.specs.declared.Op.the-variants as op
+use Rattle.joins.specs.declared.Joined.{Joined}
+use Rattle.joins.specs.Promises.{JoinPromise, OppositePromise}
 use Rattle.dddmp.specs.Promises.{LoadPromise, EvaluatePromise}
 use Rattle.dddmp.proofs.load.Reads as load
 use Rattle.dddmp.proofs.load.Kinds as load-kinds
@@ -16,16 +19,29 @@ use Rattle.dddmp.proofs.evaluate.Reads as evaluate
 use Rattle.dddmp.proofs.evaluate.Kinds as evaluate-kinds
 use Rattle.dddmp.proofs.export.Reads as export
 use Rattle.dddmp.proofs.export.Kinds as export-kinds
-use Rattle.firmware.specs.Promises.{ZtLoadPromise, ZtEvaluatePromise, ZtExportPromise}
+use Rattle.dddmp.proofs.join.Reads as join
+use Rattle.dddmp.proofs.join.Kinds as join-kinds
+use Rattle.dddmp.proofs.opposite.Reads as opposite
+use Rattle.dddmp.proofs.opposite.Kinds as opposite-kinds
+use Rattle.firmware.specs.Promises.{ZtLoadPromise, ZtEvaluatePromise, ZtExportPromise, ZtJoinPromise, ZtNotPromise}
 use Rattle.c_answers.specs.declared.LoadAnswer.{LoadAnswer}
 use Rattle.c_answers.specs.declared.EvaluateAnswer.{EvaluateAnswer}
 use Rattle.c_answers.specs.declared.ExportAnswer.{ExportAnswer}
+use Rattle.c_answers.specs.declared.JoinAnswer.{JoinAnswer}
 use Rattle.firmware.proofs.zt_load.Reads as zt-load
 use Rattle.firmware.proofs.zt_load.Kinds as zt-load-kinds
 use Rattle.firmware.proofs.zt_evaluate.Reads as zt-evaluate
 use Rattle.firmware.proofs.zt_evaluate.Kinds as zt-evaluate-kinds
 use Rattle.firmware.proofs.zt_export.Reads as zt-export
 use Rattle.firmware.proofs.zt_export.Kinds as zt-export-kinds
+use Rattle.firmware.proofs.zt_and.Reads as zt-and
+use Rattle.firmware.proofs.zt_and.Kinds as zt-and-kinds
+use Rattle.firmware.proofs.zt_or.Reads as zt-or
+use Rattle.firmware.proofs.zt_or.Kinds as zt-or-kinds
+use Rattle.firmware.proofs.zt_xor.Reads as zt-xor
+use Rattle.firmware.proofs.zt_xor.Kinds as zt-xor-kinds
+use Rattle.firmware.proofs.zt_not.Reads as zt-not
+use Rattle.firmware.proofs.zt_not.Kinds as zt-not-kinds
 
 -- a part as it is lent, and as the call leaves it
 abbrev part : {X : Type 0} → RefT X → RefT X → Part X
@@ -99,6 +115,39 @@ module _ (κs : Lfts 16) (a : Dens κs export-kinds.ps) (r : Exported) (s : AtEx
       r
   export-promises p = p
 
+module _ (κs : Lfts 8) (a : Dens κs join-kinds.ps) (r : Joined) (s : AtExit (endedOf 8 join-kinds.ps join-kinds.r) κs) where
+  pub join-promises : join.Post κs a r s
+      → JoinPromise
+      (a .0)
+      (part (a .1 .0) (s .1 .0))
+      (part (a .1 .1 .0) (s .1 .1 .0))
+      (part (a .1 .1 .1 .0) (s .1 .1 .1 .0))
+      (part (a .1 .1 .1 .1 .0) (s .1 .1 .1 .1 .0))
+      (part (a .1 .1 .1 .1 .1 .0) (s .1 .1 .1 .1 .1 .0))
+      (part (a .1 .1 .1 .1 .1 .1 .0) (s .1 .1 .1 .1 .1 .1 .0))
+      (a .1 .1 .1 .1 .1 .1 .1 .0)
+      (a .1 .1 .1 .1 .1 .1 .1 .1 .0)
+      (a .1 .1 .1 .1 .1 .1 .1 .1 .1 .0)
+      (part (a .1 .1 .1 .1 .1 .1 .1 .1 .1 .1 .0) (s .1 .1 .1 .1 .1 .1 .1 .1 .1 .1 .0))
+      (part (a .1 .1 .1 .1 .1 .1 .1 .1 .1 .1 .1 .0) (s .1 .1 .1 .1 .1 .1 .1 .1 .1 .1 .1 .0))
+      r
+  join-promises p = p
+
+module _ (κs : Lfts 6) (a : Dens κs opposite-kinds.ps) (r : Joined) (s : AtExit (endedOf 6 opposite-kinds.ps opposite-kinds.r) κs) where
+  pub opposite-promises : opposite.Post κs a r s
+      → OppositePromise
+      (a .0)
+      (a .1 .0)
+      (part (a .1 .1 .0) (s .1 .1 .0))
+      (part (a .1 .1 .1 .0) (s .1 .1 .1 .0))
+      (part (a .1 .1 .1 .1 .0) (s .1 .1 .1 .1 .0))
+      (part (a .1 .1 .1 .1 .1 .0) (s .1 .1 .1 .1 .1 .0))
+      (part (a .1 .1 .1 .1 .1 .1 .0) (s .1 .1 .1 .1 .1 .1 .0))
+      (a .1 .1 .1 .1 .1 .1 .1 .0)
+      (part (a .1 .1 .1 .1 .1 .1 .1 .1 .0) (s .1 .1 .1 .1 .1 .1 .1 .1 .0))
+      r
+  opposite-promises p = p
+
 module _ (κs : Lfts 20) (a : Dens κs zt-load-kinds.ps) (r : LoadAnswer) (s : AtExit (endedOf 20 zt-load-kinds.ps zt-load-kinds.r) κs) where
   pub zt-load-promises : zt-load.Post κs a r s
       → ZtLoadPromise
@@ -169,3 +218,72 @@ module _ (κs : Lfts 16) (a : Dens κs zt-export-kinds.ps) (r : ExportAnswer) (s
       (part (a .1 .1 .1 .1 .1 .1 .1 .1 .1 .1 .1 .1 .1 .1 .1 .1 .1 .1 .1 .1 .1 .0) (s .1 .1 .1 .1 .1 .1 .1 .1 .1 .1 .1 .1 .1 .1 .1 .1 .1 .1 .1 .1 .1 .0))
       r
   zt-export-promises p = p
+
+module _ (κs : Lfts 8) (a : Dens κs zt-and-kinds.ps) (r : JoinAnswer) (s : AtExit (endedOf 8 zt-and-kinds.ps zt-and-kinds.r) κs) where
+  pub zt-and-promises : zt-and.Post κs a r s
+      → ZtJoinPromise
+      op.And
+      (a .0)
+      (part (a .1 .0) (s .1 .0))
+      (part (a .1 .1 .0) (s .1 .1 .0))
+      (part (a .1 .1 .1 .0) (s .1 .1 .1 .0))
+      (part (a .1 .1 .1 .1 .0) (s .1 .1 .1 .1 .0))
+      (part (a .1 .1 .1 .1 .1 .0) (s .1 .1 .1 .1 .1 .0))
+      (part (a .1 .1 .1 .1 .1 .1 .0) (s .1 .1 .1 .1 .1 .1 .0))
+      (a .1 .1 .1 .1 .1 .1 .1 .0)
+      (a .1 .1 .1 .1 .1 .1 .1 .1 .0)
+      (part (a .1 .1 .1 .1 .1 .1 .1 .1 .1 .0) (s .1 .1 .1 .1 .1 .1 .1 .1 .1 .0))
+      (part (a .1 .1 .1 .1 .1 .1 .1 .1 .1 .1 .0) (s .1 .1 .1 .1 .1 .1 .1 .1 .1 .1 .0))
+      r
+  zt-and-promises p = p
+
+module _ (κs : Lfts 8) (a : Dens κs zt-or-kinds.ps) (r : JoinAnswer) (s : AtExit (endedOf 8 zt-or-kinds.ps zt-or-kinds.r) κs) where
+  pub zt-or-promises : zt-or.Post κs a r s
+      → ZtJoinPromise
+      op.Or
+      (a .0)
+      (part (a .1 .0) (s .1 .0))
+      (part (a .1 .1 .0) (s .1 .1 .0))
+      (part (a .1 .1 .1 .0) (s .1 .1 .1 .0))
+      (part (a .1 .1 .1 .1 .0) (s .1 .1 .1 .1 .0))
+      (part (a .1 .1 .1 .1 .1 .0) (s .1 .1 .1 .1 .1 .0))
+      (part (a .1 .1 .1 .1 .1 .1 .0) (s .1 .1 .1 .1 .1 .1 .0))
+      (a .1 .1 .1 .1 .1 .1 .1 .0)
+      (a .1 .1 .1 .1 .1 .1 .1 .1 .0)
+      (part (a .1 .1 .1 .1 .1 .1 .1 .1 .1 .0) (s .1 .1 .1 .1 .1 .1 .1 .1 .1 .0))
+      (part (a .1 .1 .1 .1 .1 .1 .1 .1 .1 .1 .0) (s .1 .1 .1 .1 .1 .1 .1 .1 .1 .1 .0))
+      r
+  zt-or-promises p = p
+
+module _ (κs : Lfts 8) (a : Dens κs zt-xor-kinds.ps) (r : JoinAnswer) (s : AtExit (endedOf 8 zt-xor-kinds.ps zt-xor-kinds.r) κs) where
+  pub zt-xor-promises : zt-xor.Post κs a r s
+      → ZtJoinPromise
+      op.Xor
+      (a .0)
+      (part (a .1 .0) (s .1 .0))
+      (part (a .1 .1 .0) (s .1 .1 .0))
+      (part (a .1 .1 .1 .0) (s .1 .1 .1 .0))
+      (part (a .1 .1 .1 .1 .0) (s .1 .1 .1 .1 .0))
+      (part (a .1 .1 .1 .1 .1 .0) (s .1 .1 .1 .1 .1 .0))
+      (part (a .1 .1 .1 .1 .1 .1 .0) (s .1 .1 .1 .1 .1 .1 .0))
+      (a .1 .1 .1 .1 .1 .1 .1 .0)
+      (a .1 .1 .1 .1 .1 .1 .1 .1 .0)
+      (part (a .1 .1 .1 .1 .1 .1 .1 .1 .1 .0) (s .1 .1 .1 .1 .1 .1 .1 .1 .1 .0))
+      (part (a .1 .1 .1 .1 .1 .1 .1 .1 .1 .1 .0) (s .1 .1 .1 .1 .1 .1 .1 .1 .1 .1 .0))
+      r
+  zt-xor-promises p = p
+
+module _ (κs : Lfts 6) (a : Dens κs zt-not-kinds.ps) (r : JoinAnswer) (s : AtExit (endedOf 6 zt-not-kinds.ps zt-not-kinds.r) κs) where
+  pub zt-not-promises : zt-not.Post κs a r s
+      → ZtNotPromise
+      (a .0)
+      (a .1 .0)
+      (part (a .1 .1 .0) (s .1 .1 .0))
+      (part (a .1 .1 .1 .0) (s .1 .1 .1 .0))
+      (part (a .1 .1 .1 .1 .0) (s .1 .1 .1 .1 .0))
+      (part (a .1 .1 .1 .1 .1 .0) (s .1 .1 .1 .1 .1 .0))
+      (part (a .1 .1 .1 .1 .1 .1 .0) (s .1 .1 .1 .1 .1 .1 .0))
+      (a .1 .1 .1 .1 .1 .1 .1 .0)
+      (part (a .1 .1 .1 .1 .1 .1 .1 .1 .0) (s .1 .1 .1 .1 .1 .1 .1 .1 .0))
+      r
+  zt-not-promises p = p

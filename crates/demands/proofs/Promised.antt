@@ -1,6 +1,6 @@
 -- One law for each public call: what its function promises is what `leaves` says of the call, so that the demands speak of the functions. A
--- list that is added to a call is a parameter of its promise, and so can't be forgotten here. `leaves` doesn't speak of the work: no answer
--- depends on it, and that it ends as zeros each promise says itself.
+-- list that is added to a call is a parameter of its promise, and so can't be forgotten here. `leaves` doesn't speak of work and cache: no answer
+-- depends on them, and that they end as zeros each promise says itself.
 use Prim.Native.Nat.{ℕ}
 use mathlib.Core.Path.{_≡_, refl, sym, subst}
 use mathlib.Core.Bool.{Bool}
@@ -22,12 +22,18 @@ use Rattle.exporter.specs.declared.Exported.{Exported}
 use Rattle.exporter.specs.Promise.{ofExported, exporting, exportLeaves, ExportPromise}
 use Rattle.exporter.specs.Settings.{ofSettings}
 use Rattle.calls.specs.Load.{Parts, loadInto}
-use Rattle.calls.specs.Calls.{Call, load, evaluate, export, evaluateOf}
+use Rattle.calls.specs.Calls.{Call, load, evaluate, export, join, opposite, evaluateOf}
 use Rattle.dddmp.specs.Promises.{oldParts, newParts, loaded, LoadPromise, EvaluatePromise}
-use Rattle.firmware.specs.Promises.{ZtLoadPromise, ZtEvaluatePromise, ZtExportPromise}
+use Rattle.joined.specs.declared.Op.{Op}
+use Rattle.joined.specs.Roots.{joinRoots, oppositeRoot}
+use Rattle.joins.specs.declared.Joined.{Joined}
+use Rattle.joins.specs.Kinds.{ofJoined}
+use Rattle.joins.specs.Promises.{JoinPromise, OppositePromise}
+use Rattle.firmware.specs.Promises.{ZtLoadPromise, ZtEvaluatePromise, ZtExportPromise, ZtJoinPromise, ZtNotPromise}
 use Rattle.c_answers.specs.declared.LoadAnswer.{LoadAnswer}
 use Rattle.c_answers.specs.declared.EvaluateAnswer.{EvaluateAnswer}
 use Rattle.c_answers.specs.declared.ExportAnswer.{ExportAnswer}
+use Rattle.c_answers.specs.declared.JoinAnswer.{JoinAnswer}
 use Rattle.c_answers.specs.Settings.{settingsOf}
 use Rattle.c_answers.specs.Answers as C
 use Rattle.calls.specs.Outcome as outcomes
@@ -150,3 +156,42 @@ module _ (version text ddstart ddlen : ℕ) (levels count : ℕ) (level : Part (
       ≡ leaving t levels count level then els next heads roots order bytes starts lens rootstarts rootlens slots numbers out answer)
       × Tells (r .refusal) (r .line) (verdictRead answer)
   zt-export-leaves p = (rw (p .out-left, p .slots-left, p .numbers-left), rw (p .answer) (zt-exported answer))
+
+-- number and line of a join's and an opposite's answer in C
+zt-rooted : (a : Read ℤ) → Tells (C.ofRoot a .refusal) (C.ofRoot a .line) (verdictRead a)
+zt-rooted (value x) = (refl, refl)
+zt-rooted (refused n) = (refl, refl)
+
+-- `dddmp::join`
+module _ (levels : ℕ) (count : Part ℕ) (level : Part (List ℕ)) (then els : Part (List ℤ)) (next heads : Part (List ℕ)) (o : Op) (a b : ℤ)
+    (cache : Part (List ℤ)) (work : Part (List ℕ)) where
+  abbrev σ : Store
+  σ = oldStore levels (old count) level then els next heads
+
+  abbrev τ : Store
+  τ = newStore levels (new count) level then els next heads
+
+  pub join-leaves : {r : Joined} → JoinPromise levels count level then els next heads o a b cache work r
+      → leaves limits (join o a b) σ ≡ outcome (verdictRead (ofJoined r)) τ [] []
+  join-leaves p = rw (p .answer, p .store)
+
+  -- `zt_and`, `zt_or` and `zt_xor`
+  pub zt-join-leaves : {r : JoinAnswer} → ZtJoinPromise o levels count level then els next heads a b cache work r
+      → (leaves limits (join o a b) σ ≡ outcome (verdictRead (joinRoots limits o σ a b .answer)) τ [] [])
+      × Tells (r .refusal) (r .line) (leaves limits (join o a b) σ .verdict)
+  zt-join-leaves p = (rw (p .store), rw (p .answer) (zt-rooted (joinRoots limits o σ a b .answer)))
+
+-- `dddmp::opposite`
+module _ (levels count : ℕ) (level : Part (List ℕ)) (then els : Part (List ℤ)) (next heads : Part (List ℕ)) (root : ℤ) (work : Part (List ℕ)) where
+  abbrev υ : Store
+  υ = oldStore levels count level then els next heads
+
+  pub opposite-leaves : {r : Joined} → OppositePromise levels count level then els next heads root work r
+      → leaves limits (opposite root) υ ≡ outcome (verdictRead (ofJoined r)) υ [] []
+  opposite-leaves p = rw (p .answer)
+
+  -- `zt_not`
+  pub zt-not-leaves : {r : JoinAnswer} → ZtNotPromise levels count level then els next heads root work r
+      → (leaves limits (opposite root) υ ≡ outcome (verdictRead (oppositeRoot limits υ root)) υ [] [])
+      × Tells (r .refusal) (r .line) (leaves limits (opposite root) υ .verdict)
+  zt-not-leaves p = (refl, rw (p .answer) (zt-rooted (oppositeRoot limits υ root)))

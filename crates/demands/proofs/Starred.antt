@@ -32,6 +32,7 @@ use Rattle.codes.specs.Faults.{firstFault}
 use Rattle.header_checks.specs.Whole.{numberFaults, supportFaults, nameCountFaults, nameFaults, rootFaults, wholeFault}
 use Rattle.store.specs.Make.{findUpTo, find, added, insert, make}
 use Rattle.store.specs.Empty.{empty}
+use Rattle.store.specs.Firsts.{without, firstOnes}
 use Rattle.header.specs.Header as head
 use Rattle.header.specs.Header.{tableOf, readOf, atLeast}
 use Rattle.node_lines.specs.Line.{Line, terminal, inner, deeper, childFault}
@@ -43,7 +44,7 @@ use Rattle.import_bin.specs.Bin.{binLineAt}
 use Rattle.imported.specs.Build.{edgeFor, addLine, buildOn, build}
 use Rattle.imported.specs.Import.{lineBy, linesIn, linesAnswer, blankAll, endsWell, importOf}
 use Rattle.level_list.specs.List.{listFits}
-use Rattle.reached.specs.Walk.{walkBy, walk, without, firstOnes, firstMet}
+use Rattle.reached.specs.Walk.{walkBy, walk, firstMet}
 use Rattle.numbering.specs.Numbering.{atDepth, deepestFirst, numbering}
 use Rattle.numbering.specs.Support.{supportFrom}
 use Rattle.export_nodes.specs.Lines.{renumbered, lineOfNode, linesFor}

@@ -3,11 +3,15 @@ use Prim.Native.Nat.{ℕ}
 use mathlib.Core.Path.{_≡_}
 use mathlib.Core.List.{List}
 use lib.ListN.{length, replicate}
-use lib.IntN.{ℤ}
+use lib.IntN.{ℤ, pos}
 use Rattle.codes.specs.Limits.{limits}
 use Rattle.codes.specs.Lent.{Part, old, new}
 use Rattle.store.specs.Lent.{oldStore, newStore}
 use Rattle.exported.specs.Export.{ExportLeft}
+use Rattle.joined.specs.declared.Op.{Op}
+use Rattle.joined.specs.Roots.{oppositeRoot}
+use Rattle.store.specs.Make.{Made}
+use Rattle.joins.specs.Promises as joins
 use Rattle.exporter.specs.Promise.{exportLeaves}
 use Rattle.calls.specs.Load as calls
 use Rattle.calls.specs.Load.{Parts, lengthsOf, partsOf}
@@ -16,7 +20,8 @@ use Rattle.dddmp.specs.Promises as dddmp
 use Rattle.c_answers.specs.declared.LoadAnswer.{LoadAnswer}
 use Rattle.c_answers.specs.declared.EvaluateAnswer.{EvaluateAnswer}
 use Rattle.c_answers.specs.declared.ExportAnswer.{ExportAnswer}
-use Rattle.c_answers.specs.Answers.{ofLoadAnswer, ofEvaluated, ofLength}
+use Rattle.c_answers.specs.declared.JoinAnswer.{JoinAnswer}
+use Rattle.c_answers.specs.Answers.{ofLoadAnswer, ofEvaluated, ofLength, ofRoot}
 use Rattle.c_answers.specs.Settings.{settingsOf}
 
 module _ (file list : Part (List ℕ)) (levels : ℕ) (count : Part ℕ) (level : Part (List ℕ)) (then els : Part (List ℤ))
@@ -67,3 +72,23 @@ module _ (version text ddstart ddlen levels count : ℕ) (level : Part (List ℕ
     pub slots-left : new slots ≡ replicate (length (old slots)) 0
     pub numbers-left : new numbers ≡ replicate (length (old numbers)) 0
     pub work-left : new work ≡ replicate (length (old work)) 0
+
+module _ (op : Op) (levels : ℕ) (count : Part ℕ) (level : Part (List ℕ)) (then els : Part (List ℤ)) (next heads : Part (List ℕ)) (left right : ℤ) where
+  -- 'gives the root of their and, their or, or their exclusive or'; '3, 4, 40'
+  abbrev joined : Made
+  joined = joins.joining levels count level then els next heads op left right
+
+  pub record ZtJoinPromise (cache : Part (List ℤ)) (work : Part (List ℕ)) (r : JoinAnswer) : Type 0 where
+    pub answer : r ≡ ofRoot (joined .answer)
+    -- 'On any refusal .. the store is unchanged'
+    pub store : newStore levels (new count) level then els next heads ≡ joined .after
+    -- 'Scratch ends as zeros.'
+    pub cache-left : new cache ≡ replicate (length (old cache)) (pos 0)
+    pub work-left : new work ≡ replicate (length (old work)) 0
+
+pub record ZtNotPromise (levels count : ℕ) (level : Part (List ℕ)) (then els : Part (List ℤ)) (next heads : Part (List ℕ)) (root : ℤ)
+    (work : Part (List ℕ)) (r : JoinAnswer) : Type 0 where
+  -- 'another gives the opposite of one root'; '3, 4'
+  pub answer : r ≡ ofRoot (oppositeRoot limits (oldStore levels count level then els next heads) root)
+  -- 'Scratch ends as zeros.'
+  pub work-left : new work ≡ replicate (length (old work)) 0

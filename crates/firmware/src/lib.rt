@@ -1,10 +1,13 @@
 // The public calls for C: `include/zonetweed.h` declares and explains them. A slice is a pointer and then a length.
-ghost use Rattle.firmware.specs.Promises.{ZtLoadPromise, ZtEvaluatePromise, ZtExportPromise};
+ghost use Rattle.firmware.specs.Promises.{ZtLoadPromise, ZtEvaluatePromise, ZtExportPromise, ZtJoinPromise, ZtNotPromise};
+ghost use Rattle.joined.specs.declared.Op.the-variants as op;
 use c_answers::EvaluateAnswer;
 use c_answers::ExportAnswer;
+use c_answers::JoinAnswer;
 use c_answers::LoadAnswer;
 use edges::Edge;
 use edges::Index;
+use joined::Op;
 
 // Loads a file into the store.
 #[no_mangle]
@@ -138,6 +141,133 @@ pub extern "C" fn zt_export(
         slots,
         numbers,
         out,
+        work,
+    ))
+}
+
+// The root of the and of two roots of the store.
+#[no_mangle]
+pub extern "C" fn zt_and(
+    levels: u16,
+    count: &mut Index,
+    level: &mut [u16],
+    then: &mut [Edge],
+    els: &mut [Edge],
+    next: &mut [Index],
+    heads: &mut [Index],
+    left: Edge,
+    right: Edge,
+    cache: &mut [Edge],
+    work: &mut [Index],
+) -> JoinAnswer
+    ensures { λ r. ⌜ ZtJoinPromise op.And levels count level then els next heads left right cache work r ⌝ }
+{
+    c_answers::join_answer(dddmp::join(
+        levels,
+        count,
+        level,
+        then,
+        els,
+        next,
+        heads,
+        Op::And,
+        left,
+        right,
+        cache,
+        work,
+    ))
+}
+
+// The root of the or of two roots of the store.
+#[no_mangle]
+pub extern "C" fn zt_or(
+    levels: u16,
+    count: &mut Index,
+    level: &mut [u16],
+    then: &mut [Edge],
+    els: &mut [Edge],
+    next: &mut [Index],
+    heads: &mut [Index],
+    left: Edge,
+    right: Edge,
+    cache: &mut [Edge],
+    work: &mut [Index],
+) -> JoinAnswer
+    ensures { λ r. ⌜ ZtJoinPromise op.Or levels count level then els next heads left right cache work r ⌝ }
+{
+    c_answers::join_answer(dddmp::join(
+        levels,
+        count,
+        level,
+        then,
+        els,
+        next,
+        heads,
+        Op::Or,
+        left,
+        right,
+        cache,
+        work,
+    ))
+}
+
+// The root of the exclusive or of two roots of the store.
+#[no_mangle]
+pub extern "C" fn zt_xor(
+    levels: u16,
+    count: &mut Index,
+    level: &mut [u16],
+    then: &mut [Edge],
+    els: &mut [Edge],
+    next: &mut [Index],
+    heads: &mut [Index],
+    left: Edge,
+    right: Edge,
+    cache: &mut [Edge],
+    work: &mut [Index],
+) -> JoinAnswer
+    ensures { λ r. ⌜ ZtJoinPromise op.Xor levels count level then els next heads left right cache work r ⌝ }
+{
+    c_answers::join_answer(dddmp::join(
+        levels,
+        count,
+        level,
+        then,
+        els,
+        next,
+        heads,
+        Op::Xor,
+        left,
+        right,
+        cache,
+        work,
+    ))
+}
+
+// The opposite of a root of the store.
+#[no_mangle]
+pub extern "C" fn zt_not(
+    levels: u16,
+    count: Index,
+    level: &[u16],
+    then: &[Edge],
+    els: &[Edge],
+    next: &[Index],
+    heads: &[Index],
+    root: Edge,
+    work: &mut [Index],
+) -> JoinAnswer
+    ensures { λ r. ⌜ ZtNotPromise levels count level then els next heads root work r ⌝ }
+{
+    c_answers::join_answer(dddmp::opposite(
+        levels,
+        count,
+        level,
+        then,
+        els,
+        next,
+        heads,
+        root,
         work,
     ))
 }

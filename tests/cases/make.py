@@ -1,5 +1,6 @@
 #!/usr/bin/env python3
-"""Makes all stored cases again, with the Rust: those of the programs `vectors_*`, those that tests/firmware replays, and what `recode` writes.
+"""Makes all stored cases again, with the Rust: those of the programs `vectors_*`, those that tests/firmware replays, and what `recode` writes;
+and the tables of document 02 that scripts of this repository work out.
 
     python3 tests/cases/make.py ORACLE [install]
 
@@ -36,7 +37,9 @@ DATA = ("cases.bin", "falsified.bin", "cut.bin")
 # The generated files: folder, and the words for gen.py (seed, rounds).
 GENERATED = {"short": ("7", "1", "--short"), "seed7": ("7", "100")}
 LOAD, ROOM, STORES, EVALUATE, EXPORT = ("tests/vectors/%s.tsv" % x for x in ("load", "room", "stores", "evaluate", "export"))
-FILES, RECODED, ORDER = "tests/vectors/files", "tests/vectors/recoded", "tests/vectors/02/order.tsv"
+FILES, RECODED = "tests/vectors/files", "tests/vectors/recoded"
+# The tables of document 02 that a script works out from the definition.
+TABLES = {"order.tsv": "tests/export/order_cases.py", "joins.tsv": "tests/joins/make_cases.py"}
 
 
 def run(script, *words, output=None):
@@ -82,7 +85,8 @@ def make():
     made["exports"] = run("tests/export/make_cases.py", folder("exports"), *lists, "tests/export/differences.tsv")
     made["large"] = run("tests/export/large_cases.py", RUST_FOLDER, folder("large"))
     run("tests/export/recode_cases.py", RUST_FOLDER, FILES, folder("recoded"))
-    run("tests/export/order_cases.py", os.path.join(folder("02"), "order.tsv"))
+    for name, script in TABLES.items():
+        run(script, os.path.join(folder("02"), name))
     return {name: falsified(report) for name, report in made.items()}
 
 
@@ -215,7 +219,7 @@ def placed(cases, false):
         count = sum(c.replay == replay for c in cases)
         files[output] = expected_output(output, count, false[replay]).encode()
     files.update((os.path.join(RECODED, name), content(os.path.join(OUT, "recoded", name))) for name in sorted(os.listdir(FILES)))
-    files[ORDER] = content(os.path.join(OUT, "02", "order.tsv"))
+    files.update(("tests/vectors/02/" + name, content(os.path.join(OUT, "02", name))) for name in TABLES)
     files["tests/cases/INDEX.tsv"] = index_text(cases).encode()
     files["tests/cases/COVERAGE.md"] = coverage_text(cases).encode()
     return files

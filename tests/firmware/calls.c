@@ -7,8 +7,7 @@
 
 /* Work */
 
-/* The lengths around each that matters, one after the other from call to call: from none to more than enough for so many nodes. */
-static size_t work_for(size_t nodes)
+size_t work_for(size_t nodes)
 {
     static size_t calls;
     size_t numbers = nodes + 1, lengths[7];
@@ -23,22 +22,38 @@ static size_t work_for(size_t nodes)
     return lengths[calls++ % 7];
 }
 
-/* How many nodes a load may leave in a store. */
-static size_t most_nodes(const struct store *s)
+size_t most_nodes(const struct store *s)
 {
     return s->level_len < ZT_MOST_NODES ? s->level_len : ZT_MOST_NODES;
 }
 
-/* Do two parts of the same call hold the same? */
-static int alike(const struct lent *a, const struct lent *b)
+/* Stores */
+
+void lend_store(struct lent *p, const struct store *s)
 {
-    return a->entries == 0 || memcmp(a->at, b->at, a->entries * a->width) == 0;
+    p[STORE_LEVEL] = lend(s->level, s->level_len, sizeof *s->level);
+    p[STORE_THEN] = lend(s->then, s->then_len, sizeof *s->then);
+    p[STORE_ELS] = lend(s->els, s->els_len, sizeof *s->els);
+    p[STORE_NEXT] = lend(s->next, s->next_len, sizeof *s->next);
+    p[STORE_HEADS] = lend(s->heads, s->heads_len, sizeof *s->heads);
 }
 
-static int all_alike(const struct lent *a, const struct lent *b, size_t from, size_t to)
+void take_over(const struct lent *p, const struct lent *count, struct store *s)
 {
-    for (; from <= to; from++)
-        if (!alike(&a[from], &b[from]))
+    memcpy(&s->count, count->at, sizeof s->count);
+    memcpy(s->level, p[STORE_LEVEL].at, s->level_len * sizeof *s->level);
+    memcpy(s->then, p[STORE_THEN].at, s->then_len * sizeof *s->then);
+    memcpy(s->els, p[STORE_ELS].at, s->els_len * sizeof *s->els);
+    memcpy(s->next, p[STORE_NEXT].at, s->next_len * sizeof *s->next);
+    memcpy(s->heads, p[STORE_HEADS].at, s->heads_len * sizeof *s->heads);
+}
+
+int keeps_old_nodes(const struct lent *p, zt_index old)
+{
+    size_t part;
+
+    for (part = STORE_LEVEL; part <= STORE_NEXT; part++)
+        if (memcmp(p[part].at, p[part].before, old * p[part].width) != 0)
             return 0;
     return 1;
 }
@@ -88,11 +103,7 @@ static void lend_parts(struct load *c, const struct store *s)
     p[LOAD_FILE] = lend(c->file, c->file_len, sizeof *c->file);
     p[LOAD_LIST] = lend(c->list, c->list_len, sizeof *c->list);
     p[LOAD_COUNT] = lend(&s->count, 1, sizeof s->count);
-    p[LOAD_LEVEL] = lend(s->level, s->level_len, sizeof *s->level);
-    p[LOAD_THEN] = lend(s->then, s->then_len, sizeof *s->then);
-    p[LOAD_ELS] = lend(s->els, s->els_len, sizeof *s->els);
-    p[LOAD_NEXT] = lend(s->next, s->next_len, sizeof *s->next);
-    p[LOAD_HEADS] = lend(s->heads, s->heads_len, sizeof *s->heads);
+    lend_store(p + LOAD_LEVEL, s);
     for (part = LOAD_IDS; part < LOAD_PARTS; part++)
         p[part] = lend_room(c->lens[part], width_of((enum load_part)part));
 }
@@ -107,32 +118,6 @@ static struct zt_load_answer load_with(const struct lent *p, uint16_t levels)
         p[LOAD_ROOTS].at, p[LOAD_ROOTS].entries, p[LOAD_ROOTNAMES].at, p[LOAD_ROOTNAMES].entries,
         p[LOAD_ROOTLENS].at, p[LOAD_ROOTLENS].entries, p[LOAD_EDGES].at, p[LOAD_EDGES].entries, p[LOAD_SEATS].at, p[LOAD_SEATS].entries,
         p[LOAD_WORK].at, p[LOAD_WORK].entries);
-}
-
-static int all_as_before(const struct lent *parts, size_t from, size_t to)
-{
-    for (; from <= to; from++)
-        if (!as_before(&parts[from]))
-            return 0;
-    return 1;
-}
-
-static int all_zeros(const struct lent *parts, size_t from, size_t to)
-{
-    for (; from <= to; from++)
-        if (!zeros_from(&parts[from], 0))
-            return 0;
-    return 1;
-}
-
-static int all_guards_hold(const struct lent *parts, size_t count)
-{
-    size_t i;
-
-    for (i = 0; i < count; i++)
-        if (!guards_hold(&parts[i]))
-            return 0;
-    return 1;
 }
 
 static int has_no_values(const struct zt_load_answer *a)
@@ -161,29 +146,6 @@ static void check_unused(const struct load *c)
         holds(zeros_from(&c->parts[p], (size_t)a->nroots), "a root list is zeros after its entries");
 }
 
-/* The store's content after the call. */
-static void take_over(const struct load *c, struct store *s)
-{
-    const struct lent *p = c->parts;
-
-    memcpy(&s->count, p[LOAD_COUNT].at, sizeof s->count);
-    memcpy(s->level, p[LOAD_LEVEL].at, s->level_len * sizeof *s->level);
-    memcpy(s->then, p[LOAD_THEN].at, s->then_len * sizeof *s->then);
-    memcpy(s->els, p[LOAD_ELS].at, s->els_len * sizeof *s->els);
-    memcpy(s->next, p[LOAD_NEXT].at, s->next_len * sizeof *s->next);
-    memcpy(s->heads, p[LOAD_HEADS].at, s->heads_len * sizeof *s->heads);
-}
-
-static int keeps_old_nodes(const struct load *c, zt_index old)
-{
-    size_t p;
-
-    for (p = LOAD_LEVEL; p <= LOAD_NEXT; p++)
-        if (memcmp(c->parts[p].at, c->parts[p].before, old * c->parts[p].width) != 0)
-            return 0;
-    return 1;
-}
-
 static void check_accepted(struct load *c, struct store *s)
 {
     zt_index old = s->count;
@@ -191,9 +153,9 @@ static void check_accepted(struct load *c, struct store *s)
 
     holds(c->answer.line == 0, "an accepted load has line 0");
     check_unused(c);
-    take_over(c, s);
+    take_over(c->parts + LOAD_LEVEL, &c->parts[LOAD_COUNT], s);
     holds(s->count >= old, "the count doesn't fall");
-    holds(keeps_old_nodes(c, old), "old nodes stay as they were");
+    holds(keeps_old_nodes(c->parts + LOAD_LEVEL, old), "old nodes stay as they were");
     holds(keeps_rules(s), "an accepted load leaves a store that keeps the rules");
     for (i = 0; i < c->answer.nroots; i++)
         holds(magnitude_of(roots_of(c)[i]) >= 1 && magnitude_of(roots_of(c)[i]) <= s->count, "a root is an edge of the store");
@@ -248,19 +210,6 @@ const zt_edge *roots_of(const struct load *c)
 const uint32_t *numbers_of(const struct load *c, enum load_part part)
 {
     return c->parts[part].at;
-}
-
-/* Stores that are only read */
-
-enum store_part { STORE_LEVEL, STORE_THEN, STORE_ELS, STORE_NEXT, STORE_HEADS, STORE_PARTS };
-
-static void lend_store(struct lent *p, const struct store *s)
-{
-    p[STORE_LEVEL] = lend(s->level, s->level_len, sizeof *s->level);
-    p[STORE_THEN] = lend(s->then, s->then_len, sizeof *s->then);
-    p[STORE_ELS] = lend(s->els, s->els_len, sizeof *s->els);
-    p[STORE_NEXT] = lend(s->next, s->next_len, sizeof *s->next);
-    p[STORE_HEADS] = lend(s->heads, s->heads_len, sizeof *s->heads);
 }
 
 /* Evaluations */
@@ -376,7 +325,7 @@ static void export_without_work(const struct export *c, const struct store *s, c
     a = export_with(c, s, p);
     holds(all_guards_hold(p, EXPORT_PARTS), "an export without work writes nothing beside its parts");
     holds(a.refusal == c->answer.refusal && a.line == c->answer.line && a.len == c->answer.len, "an export without work answers the same");
-    holds(alike(&p[EXPORT_OUT], &parts[EXPORT_OUT]), "an export without work writes the same");
+    holds(all_alike(p, parts, EXPORT_OUT, EXPORT_OUT), "an export without work writes the same");
     holds(all_zeros(p, EXPORT_SLOTS, EXPORT_NUMBERS), "marks of an export without work end as zeros");
     give_back(p, EXPORT_PARTS);
 }

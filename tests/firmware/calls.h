@@ -1,7 +1,8 @@
 /*
- * The three calls, each with all that holds of every call: guards stay, what is only read stays, scratch, marks and work end as zeros, a
- * refusal leaves zeros in every output and the store as it was, and an accepted load leaves a store that keeps the rules and has only grown.
- * Each is made once without work and once with some, of a length that changes from call to call: both give the same.
+ * The calls, each with all that holds of every call: guards stay, what is only read stays, scratch, marks, work and cache end as zeros, a
+ * refusal leaves zeros in every output and the store as it was, and an accepted load or join leaves a store that keeps the rules and has only
+ * grown. Each is made once without work and once with some, of a length that changes from call to call: both give the same. A join is made with
+ * caches of several lengths likewise.
  */
 #ifndef CALLS_H
 #define CALLS_H
@@ -12,6 +13,24 @@
 #include "lent.h"
 #include "stores.h"
 #include "zonetweed.h"
+
+/* The length of the work for a call, where the store may have so many nodes after it. It is around one that matters, from none to more than
+   enough, another one from call to call. */
+size_t work_for(size_t nodes);
+
+/* How many nodes a load or a join may leave in a store. */
+size_t most_nodes(const struct store *s);
+
+/* The lists of a store as parts. */
+enum store_part { STORE_LEVEL, STORE_THEN, STORE_ELS, STORE_NEXT, STORE_HEADS, STORE_PARTS };
+
+void lend_store(struct lent *p, const struct store *s);
+
+/* The store's content after a call that was lent these lists and this count. */
+void take_over(const struct lent *p, const struct lent *count, struct store *s);
+
+/* Are the slots of so many nodes as they were handed in? */
+int keeps_old_nodes(const struct lent *p, zt_index old);
 
 /* The parts of a load: those that are only read, the store's, the outputs, the scratch, and the work. */
 enum load_part {
@@ -49,6 +68,19 @@ const zt_edge *roots_of(const struct load *c);
 const uint32_t *numbers_of(const struct load *c, enum load_part part);
 
 struct zt_evaluate_answer call_evaluate(const struct store *s, zt_edge root, const uint8_t *setting, size_t setting_len);
+
+enum operation { AND, OR, XOR };
+enum { OPERATIONS = XOR + 1 };
+
+/* An operation on two answers. */
+int operation_on(enum operation op, int a, int b);
+
+/* Where this is set, a join is made with a cache of each length that matters, else with some of them in turn. */
+extern int every_cache;
+
+/* Makes the call; the store is as the call leaves it. */
+struct zt_join_answer call_join(struct store *s, enum operation op, zt_edge left, zt_edge right);
+struct zt_join_answer call_opposite(const struct store *s, zt_edge root);
 
 /* Names of an export, as the places that are lent. */
 struct names {

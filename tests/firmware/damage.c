@@ -119,6 +119,34 @@ static void load_damaged(const struct store *s, int whole)
     drop_store(&copy);
 }
 
+static int answers_as(const struct store *s, enum operation op, zt_edge a, zt_edge b, zt_edge root)
+{
+    uint8_t *setting = room(s->levels);
+    size_t l;
+    int same;
+
+    for (l = 0; l < s->levels; l++)
+        setting[l] = (uint8_t)chance(2);
+    same = answer_of(s, root, setting) == operation_on(op, answer_of(s, a, setting), answer_of(s, b, setting));
+    free(setting);
+    return same;
+}
+
+static void join_damaged(const struct store *s, int whole)
+{
+    enum operation op = (enum operation)chance(OPERATIONS);
+    zt_edge a = (zt_edge)(whole ? 1 + chance(s->count) : chance(65536)), b = (zt_edge)(whole ? -1 - (long)chance(s->count) : (long)chance(65536));
+    struct store copy = copy_of(s);
+    struct zt_join_answer answer = call_join(&copy, op, a, b);
+
+    if (!whole)
+        holds(answer.refusal == 3, "a join sees that a store is broken");
+    else if (holds(answer.refusal == 0 || answer.refusal == 40, "a join goes on where it isn't") && answer.refusal == 0)
+        holds(answers_as(&copy, op, a, b, answer.root), "and answers as the operation says");
+    holds(call_opposite(s, a).refusal == (whole ? 0 : 3), "an opposite sees whether a store is broken");
+    drop_store(&copy);
+}
+
 /* The stored stores that keep the rules. */
 static size_t read_whole(struct store *whole)
 {
@@ -148,6 +176,7 @@ void try_damaged_stores(size_t cases)
         evaluate_damaged(&s, keeps);
         export_damaged(&s, keeps);
         load_damaged(&s, keeps);
+        join_damaged(&s, keeps);
         drop_store(&s);
     }
     holds(broken > cases / 2 && broken < cases, "most damaged stores are broken, and not all");

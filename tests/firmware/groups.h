@@ -53,6 +53,23 @@ void must_be_noticed(const char *change);
 void try_lists(void);
 void change_lists(void);
 
+/* joins.c: stored joins and opposites, and changed ones */
+void try_joins(void);
+void change_joins(void);
+
+/* joins.c: `and`, `or` or `xor` */
+enum operation operation_in(const char *column);
+
+/* small_joins.c: joins of every pair of edges of small stores, and changed ones */
+void try_small_joins(void);
+void change_small_joins(void);
+
+/* small_joins.c: its stores, as other groups use them, only each so-many-th; the edges of a store, counted from 0; a store with more slots */
+void with_small_stores(void (*each)(const struct store *s), size_t every);
+size_t edges_of(const struct store *s);
+zt_edge edge_at(size_t i);
+struct store with_slots(const struct store *s, size_t slots);
+
 /* replay_loads.c, replay_exports.c, replay_large.c: the stored cases in binary files, and falsified ones */
 void try_stored_loads(void);
 void try_stored_exports(void);
@@ -93,6 +110,12 @@ void hold_back(const struct store *s, const zt_edge *roots, size_t roots_len, co
 
 /* Loads the file that an export wrote likewise, and holds its header to what was exported. */
 void hold_header_back(const struct export *e, const struct store *s);
+
+/* join_limits.c: refusals of joins and opposites, chains of exclusive ors, and full stores */
+void try_join_limits(void);
+
+/* join_laws.c: what holds between several calls on the small stores */
+void try_join_laws(void);
 
 /* refusals.c */
 void try_refusals(void);

@@ -62,7 +62,7 @@ static size_t *length_of(struct store *s, size_t list)
     return lengths[list];
 }
 
-/* All three calls on a store, one of whose lists is an entry shorter than the others, or than 256. */
+/* All calls on a store, one of whose lists is an entry shorter than the others, or than 256. */
 static void shorten_list(size_t list)
 {
     static const zt_edge roots[1] = {3};
@@ -70,6 +70,7 @@ static void shorten_list(size_t list)
     struct store s = plan_store();
     struct load c = load_of(plan, strlen(plan), plan_levels, 2, 3);
     struct export e = export_of(&s, roots, 1, plan_levels, 2);
+    size_t op;
 
     case_is("store whose list %zu is too short", list);
     --*length_of(&s, list);
@@ -78,6 +79,9 @@ static void shorten_list(size_t list)
     holds(call_evaluate(&s, 3, setting, 2).refusal == 3, "an evaluation is refused");
     call_export(&e, &s);
     holds(e.answer.refusal == 3, "an export is refused");
+    for (op = 0; op < OPERATIONS; op++)
+        holds(call_join(&s, (enum operation)op, 3, 2).refusal == 3, "a join is refused");
+    holds(call_opposite(&s, 3).refusal == 3, "an opposite is refused");
     done_exporting(&e);
     done_with(&c);
     drop_store(&s);
@@ -152,6 +156,23 @@ static void evaluate_empty(size_t slots, size_t heads, uint16_t levels, unsigned
     cases++;
 }
 
+static void join_empty(size_t slots, size_t heads, unsigned refusal)
+{
+    struct store s = empty_store(0, slots);
+    size_t op;
+
+    case_is("joins with empty parts, %zu slots", slots);
+    s.heads_len = heads;
+    for (op = 0; op < OPERATIONS; op++) {
+        struct zt_join_answer a = call_join(&s, (enum operation)op, 1, -1);
+
+        holds(a.refusal == refusal && a.root == (refusal != 0 ? 0 : op == AND ? -1 : 1), "it is judged as any other");
+    }
+    holds(call_opposite(&s, 1).refusal == refusal, "so is an opposite");
+    drop_store(&s);
+    cases++;
+}
+
 static void export_empty(size_t slots, int lent, unsigned refusal)
 {
     static const char file[] = ".ver DDDMP-2.0\n.mode A\n.varinfo 4\n.nnodes 0\n.nvars 0\n.nsuppvars 0\n.suppvarnames\n"
@@ -192,6 +213,10 @@ void try_empty_parts(void)
     evaluate_empty(0, ZT_BUCKETS, 0, 3);
     evaluate_empty(1, ZT_BUCKETS, 0, 0);
     evaluate_empty(1, ZT_BUCKETS, 1, 4);
+    join_empty(0, 0, 3);
+    join_empty(1, 0, 3);
+    join_empty(0, ZT_BUCKETS, 3);
+    join_empty(1, ZT_BUCKETS, 0);
     export_empty(0, 0, 1);
     export_empty(0, 1, 3);
     export_empty(1, 0, 1);

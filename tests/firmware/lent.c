@@ -97,6 +97,40 @@ int zeros_from(const struct lent *part, size_t entry)
     return 1;
 }
 
+int all_as_before(const struct lent *parts, size_t from, size_t to)
+{
+    for (; from <= to; from++)
+        if (!as_before(&parts[from]))
+            return 0;
+    return 1;
+}
+
+int all_zeros(const struct lent *parts, size_t from, size_t to)
+{
+    for (; from <= to; from++)
+        if (!zeros_from(&parts[from], 0))
+            return 0;
+    return 1;
+}
+
+int all_alike(const struct lent *a, const struct lent *b, size_t from, size_t to)
+{
+    for (; from <= to; from++)
+        if (a[from].entries != 0 && memcmp(a[from].at, b[from].at, bytes_of(&a[from])) != 0)
+            return 0;
+    return 1;
+}
+
+int all_guards_hold(const struct lent *parts, size_t count)
+{
+    size_t i;
+
+    for (i = 0; i < count; i++)
+        if (!guards_hold(&parts[i]))
+            return 0;
+    return 1;
+}
+
 void give_back(struct lent *parts, size_t count)
 {
     size_t i;

@@ -33,6 +33,15 @@ int guards_hold(const struct lent *part);
 int as_before(const struct lent *part);
 int zeros_from(const struct lent *part, size_t entry);
 
+/* Of each part from one number to another. */
+int all_as_before(const struct lent *parts, size_t from, size_t to);
+int all_zeros(const struct lent *parts, size_t from, size_t to);
+
+/* Do two calls' parts, of the same lengths, hold the same, from one number to another? */
+int all_alike(const struct lent *a, const struct lent *b, size_t from, size_t to);
+
+int all_guards_hold(const struct lent *parts, size_t count);
+
 void give_back(struct lent *parts, size_t count);
 
 #endif

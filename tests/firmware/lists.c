@@ -6,7 +6,7 @@
 #include "report.h"
 
 enum { CALL_COLUMNS = 7, END_COLUMNS = 9 };
-enum kind { NEW, LOAD, END };
+enum kind { NEW, LOAD, JOIN, OPPOSITE, END };
 
 static const char lists[] = "02/lists.tsv";
 
@@ -19,6 +19,9 @@ struct listed {
     struct bytes file;
     uint16_t *list;
     size_t list_len;
+    /* those of a join, or, in `left`, of an opposite */
+    enum operation op;
+    zt_edge left, right;
     /* what a call must give */
     unsigned refusal;
     size_t line;
@@ -46,6 +49,20 @@ static void read_load(char *words, struct listed *c)
     c->list = unsigned_list(words, &c->list_len);
 }
 
+static void read_join(char *words, struct listed *c)
+{
+    c->kind = JOIN;
+    c->op = operation_in(cut(&words, ' '));
+    c->left = (zt_edge)number_in(cut(&words, ' '));
+    c->right = (zt_edge)number_in(words);
+}
+
+static void read_opposite(char *words, struct listed *c)
+{
+    c->kind = OPPOSITE;
+    c->left = (zt_edge)number_in(words);
+}
+
 static void read_call(char **column, struct listed *c)
 {
     char *words = column[2], *call = cut(&words, ' ');
@@ -54,6 +71,10 @@ static void read_call(char **column, struct listed *c)
         read_new(words, c);
     else if (strcmp(call, "load") == 0)
         read_load(words, c);
+    else if (strcmp(call, "join") == 0)
+        read_join(words, c);
+    else if (strcmp(call, "opposite") == 0)
+        read_opposite(words, c);
     else
         stop("a call of a list isn't known");
     c->refusal = (unsigned)number_in(column[3]);
@@ -85,7 +106,7 @@ static int next_listed(struct table *t, const struct store *s, struct listed *c)
 
 static void drop_listed(struct listed *c)
 {
-    if (c->kind != LOAD)
+    if (c->kind == NEW || c->kind == END)
         drop_store(&c->store);
     free(c->file.at);
     free(c->list);
@@ -105,6 +126,18 @@ static void hold_listed_load(const struct listed *c, struct store *s)
     done_with(&l);
 }
 
+/* A join or an opposite gives one root, or is refused. */
+static void hold_listed_root(const struct listed *c, struct store *s)
+{
+    struct zt_join_answer a = c->kind == JOIN ? call_join(s, c->op, c->left, c->right) : call_opposite(s, c->left);
+
+    holds(a.refusal == c->refusal, "the refusal is the stored one");
+    holds(a.line == c->line, "the line is the stored one");
+    holds(s->count == c->count, "the count afterwards is the stored one");
+    if (holds(c->roots_len == (a.refusal == 0), "a root is stored where there is one") && c->roots_len == 1)
+        holds(a.root == c->roots[0], "the root is the stored one");
+}
+
 /* Holds a line to what is stored; the store is as the call leaves it. */
 static void hold_listed(const struct listed *c, struct store *s)
 {
@@ -114,6 +147,8 @@ static void hold_listed(const struct listed *c, struct store *s)
         holds(c->refusal == 0 && c->line == 0 && c->roots_len == 0 && c->count == s->count, "a list starts with an empty store");
     } else if (c->kind == LOAD) {
         hold_listed_load(c, s);
+    } else if (c->kind == JOIN || c->kind == OPPOSITE) {
+        hold_listed_root(c, s);
     } else {
         holds(same_store(s, &c->store), "the store at the end of a list is the stored one");
     }

@@ -20,22 +20,6 @@ void setting_of(size_t k, size_t levels, uint8_t *setting)
         setting[l] = (uint8_t)(k >> l & 1);
 }
 
-/* The nodes from number 2 on, as `level:then:else` between commas. */
-static void add_nodes(struct store *s, const char *column)
-{
-    size_t n = entries_in(column), i;
-
-    for (i = 0; i < n; i++) {
-        const char *then = strchr(column, ':') + 1, *els = strchr(then, ':') + 1;
-
-        if (s->count >= s->level_len)
-            stop("a stored case has more nodes than slots");
-        add_node(s, (uint16_t)number_in(column), (zt_edge)number_in(then), (zt_edge)number_in(els));
-        if (i + 1 < n)
-            column = strchr(column, ',') + 1;
-    }
-}
-
 static void read_load(char **column, struct load_vector *v)
 {
     v->before = empty_store((uint16_t)number_in(column[1]), (size_t)number_in(column[3]));

@@ -1,12 +1,12 @@
 /*
- * The library for C, held to document 01 through its header file.
+ * The library for C, held to documents 01 and 02 through its header file.
  *
  *     firmware [-e] [-d DAMAGED] [-s STEP] VECTORS DIFFERENCES
  *
  * VECTORS is the folder of the stored cases, DIFFERENCES that of the inputs of docs/DIFFERENCES.md. -e gives each part memory of its own
  * size, for a run under a tool that watches memory, and leaves out the changed and the falsified cases, which make the same calls again;
- * -d sets the number of stores that are damaged; -s leaves out all but each STEP-th case of the binary files. The status is 0 where nothing
- * failed.
+ * -d sets the number of stores that are damaged; -s leaves out all but each STEP-th case of the binary files. With -e far fewer of the small
+ * stores are joined. The status is 0 where nothing failed.
  */
 #include <stdio.h>
 #include <stdlib.h>
@@ -38,6 +38,10 @@ static void try_all(size_t damaged)
     try_stores();
     try_evaluations();
     try_exports();
+    try_joins();
+    try_small_joins();
+    try_join_laws();
+    try_join_limits();
     try_lists();
     try_stored_loads();
     try_stored_exports();

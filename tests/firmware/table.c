@@ -305,3 +305,18 @@ struct store store_after(char **columns, uint16_t levels)
     heads_in(columns[5], s.heads, s.heads_len);
     return s;
 }
+
+void add_nodes(struct store *s, const char *column)
+{
+    size_t n = entries_in(column), i;
+
+    for (i = 0; i < n; i++) {
+        const char *then = strchr(column, ':') + 1, *els = strchr(then, ':') + 1;
+
+        if (s->count >= s->level_len)
+            stop("a stored case has more nodes than slots");
+        add_node(s, (uint16_t)number_in(column), (zt_edge)number_in(then), (zt_edge)number_in(els));
+        if (i + 1 < n)
+            column = strchr(column, ',') + 1;
+    }
+}

@@ -58,6 +58,9 @@ struct store store_in(char **columns);
 /* A store after a call, in six columns: its count, the four slot lists, the heads. It has so many levels. */
 struct store store_after(char **columns, uint16_t levels);
 
+/* Adds nodes at the next numbers, as `level:then:else` between commas. There must be slots. */
+void add_nodes(struct store *s, const char *column);
+
 /* Heads that aren't 0, as `bucket:head` between commas, into a list of so many. */
 void heads_in(const char *column, zt_index *heads, size_t heads_len);
 

@@ -133,12 +133,26 @@ static void hold_store_of_load(const struct store *s, unsigned refusal)
     drop_store(&copy);
 }
 
+/* The operations take turns. */
+static void hold_store_of_join(const struct store *s, unsigned refusal)
+{
+    static size_t stores;
+    enum operation op = (enum operation)(stores++ % OPERATIONS);
+    struct store copy = copy_of(s);
+
+    holds(call_join(&copy, op, 1, 1).refusal == refusal, "a join says what is stored of a store");
+    holds(same_store(&copy, s), "a join that takes no node leaves the store as it was");
+    holds(call_opposite(s, 1).refusal == refusal, "an opposite says what is stored of a store");
+    drop_store(&copy);
+}
+
 static void hold_store(const struct store *s, unsigned refusal)
 {
     holds(keeps_rules(s) == (refusal == 0), "the tests' own reading of the rules says what is stored");
     hold_store_of_evaluation(s, refusal);
     hold_store_of_export(s, refusal);
     hold_store_of_load(s, refusal);
+    hold_store_of_join(s, refusal);
 }
 
 void try_stores(void)
@@ -396,5 +410,7 @@ void try_changed_cases(void)
     for (i = 0; i < EXPORT_TABLES; i++)
         change_exports(export_tables[i]);
     change_lists();
+    change_joins();
+    change_small_joins();
     group_done("changed cases, which must be noticed", changed_cases);
 }

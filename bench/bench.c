@@ -2,11 +2,12 @@
  * Measures Zonetweed, and beside it the Rust module over its stand-in manager, on the same generated files:
  *
  *     bench ARCHIVE [LIBRARY]
+ *     bench joins
  *     bench once load|export|check text|binary NODES
  *
  * ARCHIVE is Zonetweed's archive, of which only the size is taken: the program is linked with it. LIBRARY is the Rust's half, as
- * bench/rust/build makes it; without it Zonetweed is measured alone. The second form makes one call, under the function `once`, for a
- * profile.
+ * bench/rust/build makes it; without it Zonetweed is measured alone. The second form measures joins only. The third makes one call, under
+ * the function `once`, for a profile.
  *
  * A time is the median of several runs. The runs of what is compared take turns, so that what else happens on the machine meets all of
  * them. Each run makes a call as often as takes some milliseconds. Emptying a store and opening a manager aren't timed. The clock is the
@@ -20,105 +21,20 @@
 #include <stdlib.h>
 #include <string.h>
 #include <sys/stat.h>
-#include <time.h>
 
+#include "goals.h"
+#include "joins.h"
 #include "ours.h"
 #include "plans.h"
 #include "rust.h"
 #include "stack.h"
+#include "timing.h"
 #include "zonetweed.h"
 
-enum { RUNS = 15, LEAST_RUNS = 3, MOST_TASKS = 4, SETTINGS = 64, TEXT = 1, BINARY = 0 };
-
-/* How long a run is to take, and all runs of a task at most, in seconds. */
-#define RUN 0.004
-#define ALL_RUNS 4.0
+enum { SETTINGS = 64, TEXT = 1, BINARY = 0 };
 
 static struct rust rust;
 static int with_rust;
-
-static clockid_t clock_used = CLOCK_MONOTONIC;
-
-static double now(void)
-{
-    struct timespec t;
-
-    clock_gettime(clock_used, &t);
-    return (double)t.tv_sec + 1e-9 * (double)t.tv_nsec;
-}
-
-/* What is timed: `run`, with `before` and `after` around it where they aren't null. */
-struct task {
-    void (*before)(void *with);
-    void (*run)(void *with);
-    void (*after)(void *with);
-    void *with;
-};
-
-static double seconds(const struct task *t, size_t times)
-{
-    double sum = 0, start = now();
-    size_t i;
-
-    if (t->before == NULL && t->after == NULL) {
-        for (i = 0; i < times; i++)
-            t->run(t->with);
-        return (now() - start) / (double)times;
-    }
-    for (i = 0; i < times; i++) {
-        if (t->before != NULL)
-            t->before(t->with);
-        start = now();
-        t->run(t->with);
-        sum += now() - start;
-        if (t->after != NULL)
-            t->after(t->with);
-    }
-    return sum / (double)times;
-}
-
-/* The times of the runs, by task. */
-static double samples[MOST_TASKS][RUNS];
-
-static int ascending(const void *a, const void *b)
-{
-    double x = *(const double *)a, y = *(const double *)b;
-
-    return x < y ? -1 : x > y;
-}
-
-static double median(const double *values, size_t count)
-{
-    double sorted[RUNS];
-
-    memcpy(sorted, values, count * sizeof *sorted);
-    qsort(sorted, count, sizeof *sorted, ascending);
-    return count % 2 == 1 ? sorted[count / 2] : (sorted[count / 2 - 1] + sorted[count / 2]) / 2;
-}
-
-/* Runs tasks in turns, and answers how often; the median time of each goes to `medians`. */
-static size_t measure(const struct task *tasks, size_t count, double *medians)
-{
-    size_t times[MOST_TASKS], runs = RUNS, i, r;
-    double all = 0;
-
-    for (i = 0; i < count; i++) {
-        double once = seconds(&tasks[i], 1);
-
-        if (once < ALL_RUNS / RUNS)
-            once = seconds(&tasks[i], 1 + (size_t)(RUN / 4 / (once + 1e-7)));
-        times[i] = 1 + (size_t)(RUN / (once + 1e-9));
-        all += once * (double)times[i];
-    }
-    while (runs > LEAST_RUNS && all * (double)runs > ALL_RUNS)
-        runs--;
-    for (r = 0; r < runs; r++)
-        for (i = 0; i < count; i++)
-            samples[i][r] = seconds(&tasks[i], times[i]);
-    for (i = 0; i < count; i++)
-        medians[i] = median(samples[i], runs);
-    return runs;
-}
 
 /* A diagram, its files, and both sides with it loaded. */
 struct subject {
@@ -382,72 +298,13 @@ static double time_evaluation(const struct subject *s, double *medians)
 {
     struct evaluating e[3];
     struct task tasks[3] = {{NULL, evaluate_ours, NULL, NULL}, {NULL, check_ours, NULL, NULL}, {NULL, evaluate_theirs, NULL, NULL}};
-    double walks[RUNS];
-    size_t i, runs;
+    size_t i;
 
     for (i = 0; i < 3; i++) {
         e[i] = evaluations_of(s, &s->ours);
         tasks[i].with = &e[i];
     }
-    runs = measure(tasks, with_rust ? 3 : 2, medians);
-    for (i = 0; i < runs; i++)
-        walks[i] = samples[0][i] - samples[1][i];
-    return median(walks, runs);
-}
-
-/* The goals. A goal keeps its worst value, and where it was seen. */
-struct goal {
-    const char *what;
-    double limit;
-    int at_least;
-    double worst;
-    char where[64];
-    int seen;
-};
-
-enum {
-    LOAD_GOAL, EXPORT_GOAL, CHECK_GOAL, WALK_GOAL, GROWTH_GOAL, HOSTILE_GOAL, WITHOUT_GOAL, LOAD_STACK, EXPORT_STACK, EVALUATE_STACK,
-    GOALS
-};
-
-static struct goal goals[GOALS] = {
-    {"load at least twice as fast as the Rust", 2, 1, 0, "", 0},
-    {"export at least twice as fast as the Rust", 2, 1, 0, "", 0},
-    {"the check of 32,000 nodes in at most 12 ns a node", 12, 0, 0, "", 0},
-    {"the walk of an evaluation at least as fast as the Rust's", 1, 1, 0, "", 0},
-    {"eightfold work in at most tenfold time", 10, 0, 0, "", 0},
-    {"a hostile file within twenty times an ordinary one of its size", 20, 0, 0, "", 0},
-    {"without work, an ordinary file within three times the time with it", 3, 0, 0, "", 0},
-    {"a load on at most 64 KB of stack", 64, 0, 0, "", 0},
-    {"an export on at most 48 KB", 48, 0, 0, "", 0},
-    {"an evaluation on at most 16 KB", 16, 0, 0, "", 0},
-};
-
-static void note(int goal, double value, const char *what, const char *name)
-{
-    struct goal *g = &goals[goal];
-
-    if (g->seen && (g->at_least ? value >= g->worst : value <= g->worst))
-        return;
-    g->worst = value;
-    g->seen = 1;
-    snprintf(g->where, sizeof g->where, "%s, %s", what, name);
-}
-
-static void tell_goals(void)
-{
-    size_t i;
-
-    printf("\nGoals\n");
-    for (i = 0; i < GOALS; i++) {
-        const struct goal *g = &goals[i];
-
-        if (!g->seen)
-            printf("  not measured  %s\n", g->what);
-        else
-            printf("  %-12s  %s: at worst %.2f (%s)\n", (g->at_least ? g->worst >= g->limit : g->worst <= g->limit) ? "met" : "MISSED",
-                g->what, g->worst, g->where);
-    }
+    return difference(0, 1, measure(tasks, with_rust ? 3 : 2, medians));
 }
 
 /* Tables. Times are in microseconds, MB are 1,000,000 bytes of the file. */
@@ -886,7 +743,7 @@ static void measure_all(const char *archive)
     size_t i;
 
     printf("Zonetweed%s. Times are medians of up to %d runs%s; MB are 1,000,000 bytes of the file", with_rust ? " and the Rust" : "", RUNS,
-        clock_used == CLOCK_MONOTONIC ? "" : ", by the processor's clock");
+        by_processor_clock() ? ", by the processor's clock" : "");
     printf("%s.\n\nFiles\n  %-14s %6s %7s %6s %9s %9s\n",
         with_rust ? "; a ratio is the Rust's time by Zonetweed's" : "", "", "nodes", "levels", "roots", "text", "binary");
     for (i = 0; i < SUBJECTS; i++) {
@@ -905,6 +762,7 @@ static void measure_all(const char *archive)
     tell_hostile();
     tell_without();
     tell_stack();
+    tell_joins();
     tell_archive(archive);
     tell_goals();
     for (i = 0; i < SUBJECTS; i++)
@@ -944,9 +802,14 @@ int main(int count, char **values)
     const char *clock_asked = getenv("CLOCK");
 
     if (clock_asked != NULL && strcmp(clock_asked, "cpu") == 0)
-        clock_used = CLOCK_PROCESS_CPUTIME_ID;
+        use_processor_clock();
     if (count == 5 && strcmp(values[1], "once") == 0)
         return profile(values[2], values[3], (size_t)atol(values[4]));
+    if (count == 2 && strcmp(values[1], "joins") == 0) {
+        tell_joins();
+        tell_goals();
+        return 0;
+    }
     if (count != 2 && count != 3) {
         fprintf(stderr, "bench ARCHIVE [LIBRARY]\n");
         return 2;

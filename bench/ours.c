@@ -46,7 +46,7 @@ void ours_close(struct ours *s)
     free(s->ids), free(s->order), free(s->permids), free(s->auxids), free(s->names), free(s->lens);
     free(s->roots), free(s->rootnames), free(s->rootlens);
     free(s->edges), free(s->seats);
-    free(s->marks), free(s->numbers), free(s->out), free(s->work);
+    free(s->marks), free(s->numbers), free(s->out), free(s->work), free(s->cache);
 }
 
 void ours_clear(struct ours *s)
@@ -107,4 +107,94 @@ size_t ours_export(struct ours *s, uint8_t text)
     if (answer.refusal != 0)
         give_up("an export was refused");
     return answer.len;
+}
+
+void ours_lend_cache(struct ours *s, size_t results)
+{
+    free(s->cache);
+    s->cache_len = ZT_CACHE_ENTRIES(results);
+    s->cache = room_for(s->cache_len, sizeof *s->cache);
+}
+
+zt_edge ours_join(struct ours *s, enum op op, zt_edge left, zt_edge right)
+{
+    struct zt_join_answer (*calls[OPS])(uint16_t levels, zt_index *count, uint16_t *level, size_t level_len, zt_edge *then, size_t then_len,
+        zt_edge *els, size_t els_len, zt_index *next, size_t next_len, zt_index *heads, size_t heads_len, zt_edge left, zt_edge right,
+        zt_edge *cache, size_t cache_len, zt_index *work, size_t work_len) = {zt_and, zt_or, zt_xor};
+    struct zt_join_answer answer = calls[op](s->levels, &s->count, s->level, s->slots, s->then, s->slots, s->els, s->slots,
+        s->next, s->slots, s->heads, ZT_BUCKETS, left, right, s->cache, s->cache_len, s->work, s->work_len);
+
+    if (answer.refusal != 0)
+        give_up("a join was refused");
+    return answer.root;
+}
+
+struct ours ours_with(const struct plan *plan)
+{
+    struct ours s = ours_open(plan->levels, ZT_MOST_NODES, ZT_MOST_NODES);
+    struct file f = text_file(plan);
+
+    if (ours_load(&s, f.bytes, f.len) != 0)
+        give_up("a generated file is refused");
+    drop_file(&f);
+    return s;
+}
+
+static size_t node_of(zt_edge e)
+{
+    return (size_t)(e < 0 ? -e : e);
+}
+
+/* Marks the nodes that marked ones lead to: a node's children have lower numbers. Answers how many are marked. */
+static size_t mark_below(const struct ours *s, uint8_t *marked)
+{
+    size_t n, count = 1;
+
+    for (n = s->count; n > 1; n--)
+        if (marked[n]) {
+            marked[node_of(s->then[n - 1])] = marked[node_of(s->els[n - 1])] = 1;
+            count++;
+        }
+    return count;
+}
+
+size_t ours_size(const struct ours *s, zt_edge root)
+{
+    uint8_t *marked = room_for((size_t)s->count + 1, 1);
+    size_t size;
+
+    marked[node_of(root)] = 1;
+    size = mark_below(s, marked);
+    free(marked);
+    return size;
+}
+
+static int32_t line_of(const int32_t *lines, zt_edge e)
+{
+    return e < 0 ? -lines[-e] : lines[e];
+}
+
+struct plan ours_plan(const struct ours *s, zt_edge left, zt_edge right)
+{
+    uint8_t *marked = room_for((size_t)s->count + 1, 1);
+    int32_t *lines = room_for((size_t)s->count + 1, sizeof *lines);
+    struct plan p;
+    size_t n;
+
+    marked[node_of(left)] = marked[node_of(right)] = 1;
+    p = room_for_plan(s->levels, mark_below(s, marked), 2);
+    lines[1] = 1;
+    p.count = 1;
+    for (n = 2; n <= s->count; n++)
+        if (marked[n]) {
+            struct node node = {s->level[n - 1], line_of(lines, s->then[n - 1]), line_of(lines, s->els[n - 1])};
+
+            p.nodes[p.count++] = node;
+            lines[n] = (int32_t)p.count;
+        }
+    p.roots[0] = line_of(lines, left);
+    p.roots[1] = line_of(lines, right);
+    free(marked);
+    free(lines);
+    return p;
 }

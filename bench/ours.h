@@ -32,7 +32,12 @@ struct ours {
     /* the work that the calls are lent: enough, unless `work_len` is set to less */
     zt_index *work;
     size_t work_len;
+    /* the cache that joins are lent: none, unless ours_lend_cache was called */
+    zt_edge *cache;
+    size_t cache_len;
 };
+
+enum op { AND, OR, XOR, OPS };
 
 /* An empty store. Its calls read files of at most so many lines. */
 struct ours ours_open(uint16_t levels, size_t slots, size_t lines);
@@ -52,5 +57,20 @@ int ours_evaluate(const struct ours *s, zt_edge root, const uint8_t *setting);
 
 /* Exports all roots that were loaded last. Answers the length. */
 size_t ours_export(struct ours *s, uint8_t text);
+
+/* Joins are lent a cache for so many results. */
+void ours_lend_cache(struct ours *s, size_t results);
+
+/* The root of an operation on two roots; a refusal ends the program. */
+zt_edge ours_join(struct ours *s, enum op op, zt_edge left, zt_edge right);
+
+/* An empty store with all slots that a store can have, into which a diagram was loaded. */
+struct ours ours_with(const struct plan *plan);
+
+/* The diagram of two roots. */
+struct plan ours_plan(const struct ours *s, zt_edge left, zt_edge right);
+
+/* How many nodes a root leads to, the terminal counted. */
+size_t ours_size(const struct ours *s, zt_edge root);
 
 #endif

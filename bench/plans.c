@@ -53,7 +53,7 @@ static int is_new(struct seen *s, struct node n)
     return 1;
 }
 
-static struct plan room_for_plan(uint16_t levels, size_t count, size_t nroots)
+struct plan room_for_plan(uint16_t levels, size_t count, size_t nroots)
 {
     struct plan p;
 

@@ -33,6 +33,9 @@ struct file {
  */
 struct plan random_plan(uint16_t levels, size_t count, uint64_t seed);
 
+/* Room for a diagram of so many lines and roots. */
+struct plan room_for_plan(uint16_t levels, size_t count, size_t nroots);
+
 /* Whether an odd number of levels is yes: one node for each level, and every setting leads down all levels. */
 struct plan parity_plan(uint16_t levels);
 

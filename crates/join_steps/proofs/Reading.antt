@@ -1,140 +1,125 @@
 -- The levels of nodes and the sides of edges in the form in which the code reads them from a store's lists.
-use mathlib.Core.Path.{_≡_, refl, sym, ap, _∙_}
-use mathlib.Core.Bool.{Bool, true, false, cond, _||_, true≢false}
-use mathlib.Core.List.{[]}
-use Prim.Native.Nat.{ℕ, zero, suc, _≤_, _<_}
+use mathlib.Core.Path.{_≡_, refl, sym, ap, ap₂, _∙_}
+use mathlib.Core.Bool.{Bool, true, false, cond}
+use mathlib.Core.List.{List, []}
+use Prim.Native.Nat.{ℕ, _-_, _≤_, _<_}
 use native.Mathlib.Omega.{arith}
-use borrow.Author.Tests.{eqb-false, eq-eqb, ne-eqb, lt-ltb, le-ltb}
-use lib.Dec.{eqb}
-use lib.IntN.{ℤ, negℤ, natAbs}
+use borrow.Author.Tests.{eqb-true, eqb-false, ltb-true, ltb-false, eq-eqb, ne-eqb, le-leb, lt-leb}
+use lib.Dec.{eqb, leb, ltb}
+use lib.ListN.{getD}
+use lib.IntN.{ℤ, pos, natAbs}
 use mir.Val.{SFits, toZ, ofZ}
 use mir.ValLaws.{toZ-ofZ}
-use Rattle.edges.specs.Edge.{IsEdge, minus}
+use Rattle.edges.specs.Edge.{IsEdge}
 use Rattle.edges.specs.Width.{edgeWidth}
-use Rattle.edges.proofs.Edge.{edge-neg}
-use Rattle.edges.proofs.Signed.{edge-fits, edge-back, abs-back}
-use Rattle.store.specs.Store.{Store, store, levelAt, thenAt, elseAt}
+use Rattle.edges.proofs.Signed.{edge-fits, abs-back}
+use Rattle.store.specs.Store.{Store, slots, levelAt}
 use Rattle.store.specs.Rules.{depth}
 use Rattle.store.proofs.Meaning.{depth-node}
-use Rattle.joined.specs.Join.{child, side, top}
-use Rattle.joined.specs.Shortcuts.{Apart}
-use Rattle.join_steps.specs.Slots.{Slots, SidesPromise}
-use Rattle.join_steps.proofs.Tests.{readBack}
-use Rattle.join_steps.proofs.Slotted.{depth-bare, top-bare}
+use Rattle.joined.specs.Join.{through, child, side, top}
+use Rattle.joined.specs.declared.Pair.{Pair}
+use Rattle.join_steps.specs.declared.Sides.{Sides}
+use Rattle.join_steps.specs.Slots.{Slots, BothSides, SplitAsks, SidesPromise, SplitPromise}
+use Rattle.join_steps.proofs.Tests.{readBack, read-back, through-kept}
 
 -- the number of a node, as it is read
 pub number-is : (a : ℤ) → SFits edgeWidth a → {n : ℕ} → n ≡ natAbs (readBack a) → n ≡ natAbs a
 number-is a f p = p ∙ abs-back edgeWidth a f
 
--- two edges that fail the tests for a shortcut
-pub far-apart : (a b : ℤ) (m n : ℕ) → m ≡ natAbs a → n ≡ natAbs b → (eqb m n || eqb m 1 || eqb n 1) ≡ false → Apart a b
-far-apart a b m n p q h = go (eqb m n) refl (eqb m 1) refl (eqb n 1) refl h
-  where
-    go : (x : Bool) → eqb m n ≡ x → (y : Bool) → eqb m 1 ≡ y → (z : Bool) → eqb n 1 ≡ z → (x || y || z) ≡ false → Apart a b
-    go true u y v z w h = absurd (true≢false h)
-    go false u true v z w h = absurd (true≢false h)
-    go false u false v true w h = absurd (true≢false h)
-    go false u false v false w h = record {
-      differ = λ e. eqb-false m n u (omega arith);
-      left = λ e. eqb-false m 1 v (omega arith);
-      right = λ e. eqb-false n 1 w (omega arith);
-    }
+-- A slot's edge, as it is read back.
+slot-read : (l : List ℤ) (a : ℤ) → IsEdge (getD l (natAbs a - 1) (pos 0)) → (n : ℕ) → n ≡ natAbs a
+    → readBack (getD l (n - 1) (pos 0)) ≡ getD l (natAbs a - 1) (pos 0)
+slot-read l a L n p = rw p (read-back (getD l (natAbs a - 1) (pos 0)) L)
 
--- where it lies
-depth-first : (σ : Store) (n : ℕ) → n < 2 → σ .levels ≡ depth σ n
-depth-first σ zero h = refl
-depth-first σ (suc zero) h = refl
-depth-first σ (suc (suc k)) h = absurd (omega arith)
-
-module _ (σ : Store) (a : ℤ) (f : SFits edgeWidth a) (n : ℕ) (p : n ≡ natAbs (readBack a)) where
-  pub depth-one : n < 2 → σ .levels ≡ depth σ (natAbs a)
-  depth-one h = depth-first σ n h ∙ ap (depth σ) (number-is a f p)
-
-  pub depth-slot : 2 ≤ n → levelAt σ n ≡ depth σ (natAbs a)
-  depth-slot h = sym (depth-node σ n h) ∙ ap (depth σ) (number-is a f p)
-
-depth-read : (σ : Store) (a : ℤ) → SFits edgeWidth a → {d : ℕ} → d ≡ depth σ (natAbs (readBack a)) → d ≡ depth σ (natAbs a)
-depth-read σ a f q = q ∙ ap (depth σ) (abs-back edgeWidth a f)
-
--- the smaller of two levels
-module _ (σ : Store) (a b : ℤ) (f : SFits edgeWidth a) (g : SFits edgeWidth b) (x y : ℕ) (p : x ≡ depth σ (natAbs (readBack a)))
-    (q : y ≡ depth σ (natAbs (readBack b))) where
-  pub upper-left : x < y → x ≡ top σ a b
-  unfolding top
-  upper-left h = rw (← depth-read σ a f p, ← depth-read σ b g q, lt-ltb x y h)
-
-  pub upper-right : y ≤ x → y ≡ top σ a b
-  unfolding top
-  upper-right h = rw (← depth-read σ a f p, ← depth-read σ b g q, le-ltb x y h)
-
--- the then or the else of its node, as bits x
-abbrev pub Child : Store → Bool → ℤ → ℕ → Type 0
-Child σ y a x = toZ edgeWidth x ≡ child σ y (natAbs a)
-
-child-edge : (σ : Store) (y : Bool) (a : ℤ) → Slots σ a → IsEdge (child σ y (natAbs a))
-child-edge σ true a S = S .child-then
-child-edge σ false a S = S .child-else
-
-module _ (σ : Store) (y : Bool) (a : ℤ) (f : SFits edgeWidth a) (n : ℕ) (p : n ≡ natAbs (readBack a)) (S : Slots σ a) (x : ℕ) where
-  pub then-read : y ≡ true → x ≡ ofZ edgeWidth (thenAt σ n) → Child σ y a x
-  then-read h q = rw (h, q, number-is a f p) (edge-back edgeWidth (thenAt σ (natAbs a)) (S .child-then))
-
-  pub else-read : y ≡ false → x ≡ ofZ edgeWidth (elseAt σ n) → Child σ y a x
-  else-read h q = rw (h, q, number-is a f p) (edge-back edgeWidth (elseAt σ (natAbs a)) (S .child-else))
-
-pub child-back : (σ : Store) (y : Bool) (a : ℤ) → Slots σ a → (x : ℕ) → Child σ y a x → IsEdge (toZ edgeWidth x)
-child-back σ y a S x X = rw X (child-edge σ y a S)
-
--- a side
-module _ (σ : Store) (l : ℕ) (y : Bool) (a : ℤ) (f : SFits edgeWidth a) (d : ℕ)
-    (q : d ≡ depth (store (σ .levels) 0 (σ .level) [] [] [] []) (natAbs (readBack a))) where
-  lies : d ≡ depth σ (natAbs a)
-  lies = depth-read (store (σ .levels) 0 (σ .level) [] [] [] []) a f q ∙ depth-bare σ (natAbs a)
-
-  -- of an edge whose node lies elsewhere
-  pub side-other : (d ≡ l → ⊥) → readBack a ≡ side σ l y a
-  unfolding side
-  side-other g = rw (← lies, ne-eqb d l g) (toZ-ofZ edgeWidth a f)
-
-  -- of one whose node lies there, from the bits x of its child
-  module _ (g : d ≡ l) (x : ℕ) (X : Child σ y a x) (S : Slots σ a) (z : Bool) (m : z ≡ minus (readBack a)) where
-    sign-is : minus a ≡ z
-    sign-is = sym (m ∙ ap minus (toZ-ofZ edgeWidth a f))
-
-    pub side-minus : z ≡ true → (v : ℤ) → v ≡ negℤ (toZ edgeWidth x) → readBack v ≡ side σ l y a
-    unfolding side
-    side-minus h v e =
-        let k : ℤ = child σ y (natAbs a) in
-        rw (← lies, eq-eqb d l g, sign-is, h, e, X) (edge-back edgeWidth (negℤ k) (edge-neg k (child-edge σ y a S)))
-
-    pub side-plain : z ≡ false → toZ edgeWidth x ≡ side σ l y a
-    unfolding side
-    side-plain h = rw (← lies, eq-eqb d l g, sign-is, h) X
+pub slot-edge : (l : List ℤ) (a : ℤ) → IsEdge (getD l (natAbs a - 1) (pos 0)) → (n : ℕ) → n ≡ natAbs a → IsEdge (readBack (getD l (n - 1) (pos 0)))
+slot-edge l a L n p = rw (slot-read l a L n p) L
 
 -- A side is a number of the width, so it is read as it was given.
-side-fits : (σ : Store) (l : ℕ) (y : Bool) (a : ℤ) → SFits edgeWidth a → Slots σ a → SFits edgeWidth (side σ l y a)
-unfolding side
-side-fits σ l y a f S = go (eqb (depth σ (natAbs a)) l) (minus a)
+picked : (y : Bool) (t a : ℤ) → SFits edgeWidth t → SFits edgeWidth a → SFits edgeWidth (cond y t a)
+picked true t a T A = T
+picked false t a T A = A
+
+module _ (l : List ℤ) (here : Bool) (a : ℤ) (f : SFits edgeWidth a) (L : IsEdge (getD l (natAbs a - 1) (pos 0))) where
+  abbrev seen : ℤ
+  seen = through a (getD l (natAbs a - 1) (pos 0))
+
+  seen-edge : IsEdge seen
+  seen-edge = through-kept a (getD l (natAbs a - 1) (pos 0)) L
+
+  side-back : (v : ℤ) → v ≡ cond here seen a → readBack v ≡ cond here seen a
+  side-back v q = rw q (toZ-ofZ edgeWidth (cond here seen a) (picked here seen a (edge-fits edgeWidth seen seen-edge) f))
+
+  -- a side from what the code read of the slot, and saw through the edge
+  pub side-read : (n : ℕ) → n ≡ natAbs a → (x v : ℤ) → x ≡ through (readBack a) (readBack (getD l (n - 1) (pos 0)))
+      → v ≡ cond here (readBack x) (readBack a) → readBack v ≡ cond here seen a
+  side-read n p x v X Y =
+      let Z : x ≡ seen = X ∙ ap₂ through (toZ-ofZ edgeWidth a f) (slot-read l a L n p) in
+      side-back v (Y ∙ ap₂ (λ (y z : ℤ). cond here y z) (ap readBack Z ∙ read-back seen seen-edge) (toZ-ofZ edgeWidth a f))
+
+-- Which of two edges lies at the smaller of their levels.
+here-left : (x y : ℕ) → eqb x (cond (ltb x y) x y) ≡ leb x y
+here-left x y = go (ltb x y) refl
   where
-    go : (u v : Bool) → SFits edgeWidth (cond u (cond v (negℤ (child σ y (natAbs a))) (child σ y (natAbs a))) a)
-    go true true = edge-fits edgeWidth (negℤ (child σ y (natAbs a))) (edge-neg (child σ y (natAbs a)) (child-edge σ y a S))
-    go true false = edge-fits edgeWidth (child σ y (natAbs a)) (child-edge σ y a S)
-    go false v = f
+    level : (z : Bool) → eqb x y ≡ z → y ≤ x → z ≡ leb x y
+    level true e h = sym (le-leb x y (omega (arith, eqb-true x y e)))
+    level false e h = sym (lt-leb x y (omega (arith, eqb-false x y e, h)))
 
--- the level of both
-pub top-read : (σ : Store) (a b : ℤ) → SFits edgeWidth a → SFits edgeWidth b → (l : ℕ)
-    → l ≡ top (store (σ .levels) 0 (σ .level) [] [] [] []) (readBack a) (readBack b) → l ≡ top σ a b
-top-read σ a b f g l q = rw (toZ-ofZ edgeWidth a f, toZ-ofZ edgeWidth b g) at q ∙ top-bare σ a b
+    go : (z : Bool) → ltb x y ≡ z → eqb x (cond z x y) ≡ leb x y
+    go true h = eq-eqb x x refl ∙ sym (le-leb x y (omega (arith, ltb-true x y h)))
+    go false h = level (eqb x y) refl (ltb-false x y h)
 
--- both sides
-module _ (σ : Store) (y : Bool) (a b : ℤ) (f : SFits edgeWidth a) (g : SFits edgeWidth b) (S : Slots σ a) (T : Slots σ b) (l : ℕ)
-    (q : l ≡ top (store (σ .levels) 0 (σ .level) [] [] [] []) (readBack a) (readBack b)) where
-  level-is : l ≡ top σ a b
-  level-is = top-read σ a b f g l q
+here-right : (x y : ℕ) → eqb y (cond (ltb x y) x y) ≡ leb y x
+here-right x y = go (ltb x y) refl
+  where
+    go : (z : Bool) → ltb x y ≡ z → eqb y (cond z x y) ≡ leb y x
+    go true h = ne-eqb y x (let p = ltb-true x y h in λ e. omega (arith, p, e)) ∙ sym (lt-leb y x (omega (arith, ltb-true x y h)))
+    go false h = eq-eqb y y refl ∙ sym (le-leb y x (omega (arith, ltb-false x y h)))
 
-  side-read : (e : ℤ) → SFits edgeWidth e → Slots σ e → (x : ℤ) → x ≡ side σ l y (readBack e) → readBack x ≡ side σ (top σ a b) y e
-  side-read e h U x p = rw (p, toZ-ofZ edgeWidth e h, level-is) (toZ-ofZ edgeWidth (side σ (top σ a b) y e) (side-fits σ (top σ a b) y e h U))
+-- The level of two edges and both sides of each, from what the code read.
+module _ (level : List ℕ) (then els : List ℤ) (a b : ℤ) (f : SFits edgeWidth a) (g : SFits edgeWidth b) where
+  abbrev σ : Store
+  σ = slots level then els
 
-  pub sides-read : (u v : ℤ) → u ≡ side σ l y (readBack a) → v ≡ side σ l y (readBack b)
-      → SidesPromise σ y a b (record { left = readBack u; right = readBack v })
-  sides-read u v p r = record { left = side-read a f S u p; right = side-read b g T v r }
+  module _ (Q : SplitAsks σ a b) (x y : ℕ) (X : x ≡ levelAt (slots level [] []) (natAbs (readBack a))) (Y : y ≡ levelAt (slots level [] []) (natAbs (readBack b))) where
+    left-lies : depth σ (natAbs a) ≡ x
+    left-lies = depth-node σ (natAbs a) (Q .left-deep) ∙ sym (X ∙ ap (levelAt σ) (abs-back edgeWidth a f))
+
+    right-lies : depth σ (natAbs b) ≡ y
+    right-lies = depth-node σ (natAbs b) (Q .right-deep) ∙ sym (Y ∙ ap (levelAt σ) (abs-back edgeWidth b g))
+
+    pub top-is : top σ a b ≡ cond (ltb x y) x y
+    unfolding top
+    top-is = rw (left-lies, right-lies)
+
+    left-side : (w : Bool) → side σ (top σ a b) w a ≡ cond (leb x y) (through a (child σ w (natAbs a))) a
+    unfolding side
+    left-side w = rw (left-lies, top-is, here-left x y)
+
+    right-side : (w : Bool) → side σ (top σ a b) w b ≡ cond (leb y x) (through b (child σ w (natAbs b))) b
+    unfolding side
+    right-side w = rw (right-lies, top-is, here-right x y)
+
+    module _ (p q : Sides) (P : BothSides then els (leb x y) (readBack a) p) (R : BothSides then els (leb y x) (readBack b) q) where
+      left-read : BothSides then els (leb x y) a p
+      left-read = rw (toZ-ofZ edgeWidth a f) at P
+
+      right-read : BothSides then els (leb y x) b q
+      right-read = rw (toZ-ofZ edgeWidth b g) at R
+
+      pub split-read : (l : ℕ) → l ≡ cond (ltb x y) x y
+          → SplitPromise σ a b (record {
+            level = l;
+            then = record { left = readBack (p .then); right = readBack (q .then) };
+            els = record { left = readBack (p .els); right = readBack (q .els) };
+          })
+      split-read l L = record {
+        level = L ∙ sym top-is;
+        then = record {
+          left = side-back then (leb x y) a f (Q .left .then-edge) (p .then) (left-read .yes) ∙ sym (left-side true);
+          right = side-back then (leb y x) b g (Q .right .then-edge) (q .then) (right-read .yes) ∙ sym (right-side true);
+        };
+        els = record {
+          left = side-back els (leb x y) a f (Q .left .else-edge) (p .els) (left-read .no) ∙ sym (left-side false);
+          right = side-back els (leb y x) b g (Q .right .else-edge) (q .els) (right-read .no) ∙ sym (right-side false);
+        };
+      }

@@ -1,79 +1,72 @@
--- What the steps ask and promise of a store's level count and lists, said of the store: where nodes lie, and what sides are, is a matter of
--- these alone.
-use mathlib.Core.Path.{_≡_, refl, ap, ap₂, _∙_}
+-- What the steps ask and promise of a store's lists, said of the store: where nodes lie, and what sides are, is a matter of these alone.
+use mathlib.Core.Path.{_≡_, sym, ap, ap₂, _∙_}
 use mathlib.Core.Bool.{Bool, true, false, cond}
-use mathlib.Core.List.{[]}
-use Prim.Native.Nat.{ℕ, zero, suc, _≤_}
+use Prim.Native.Nat.{ℕ, _≤_}
 use native.Mathlib.Omega.{arith}
 use lib.Dec.{eqb, ltb}
 use lib.IntN.{ℤ, natAbs}
 use Rattle.codes.specs.Limits.{limits}
 use Rattle.edges.specs.Edge.{IsEdge}
-use Rattle.store.specs.Store.{Store, store}
+use Rattle.store.specs.Store.{Store, slots}
 use Rattle.store.specs.Rules.{depth, Rules}
 use Rattle.store.specs.Growth.{EdgeOf}
+use Rattle.store.proofs.Meaning.{depth-node}
 use Rattle.joined.specs.Join.{through, child, side, top}
+use Rattle.joined.specs.Shortcuts.{Apart}
 use Rattle.joined.specs.declared.Pair.{Pair}
 use Rattle.join_steps.specs.declared.Split.{Split}
-use Rattle.join_steps.specs.Slots.{Slots, SidesPromise, SplitPromise}
+use Rattle.join_steps.specs.Slots.{Slots, SplitAsks, SidesPromise, SplitPromise}
 
-module _ (σ : Store) where
-  -- by levels alone
-  pub depth-bare : (n : ℕ) → depth (store (σ .levels) 0 (σ .level) [] [] [] []) n ≡ depth σ n
-  depth-bare zero = refl
-  depth-bare (suc zero) = refl
-  depth-bare (suc (suc k)) = refl
+module _ (σ : Store) (a b : ℤ) (E : EdgeOf σ a) (F : EdgeOf σ b) (D : Apart a b) where
+  abbrev lent : Store
+  lent = slots (σ .level) (σ .then) (σ .els)
 
-  pub top-bare : (a b : ℤ) → top (store (σ .levels) 0 (σ .level) [] [] [] []) a b ≡ top σ a b
+  left-deep : 2 ≤ natAbs a
+  left-deep = omega (arith, E .some, D .left)
+
+  right-deep : 2 ≤ natAbs b
+  right-deep = omega (arith, F .some, D .right)
+
+  depth-lent : (n : ℕ) → 2 ≤ n → depth lent n ≡ depth σ n
+  depth-lent n h = depth-node lent n h ∙ sym (depth-node σ n h)
+
+  top-lent : top lent a b ≡ top σ a b
   unfolding top
-  top-bare a b = ap₂ (λ (x y : ℕ). cond (ltb x y) x y) (depth-bare (natAbs a)) (depth-bare (natAbs b))
+  top-lent = ap₂ (λ (x y : ℕ). cond (ltb x y) x y) (depth-lent (natAbs a) left-deep) (depth-lent (natAbs b) right-deep)
 
-  -- and with the lists of edges
-  depth-slots : (n : ℕ) → depth (store (σ .levels) 0 (σ .level) (σ .then) (σ .els) [] []) n ≡ depth σ n
-  depth-slots zero = refl
-  depth-slots (suc zero) = refl
-  depth-slots (suc (suc k)) = refl
-
-  top-slots : (a b : ℤ) → top (store (σ .levels) 0 (σ .level) (σ .then) (σ .els) [] []) a b ≡ top σ a b
-  unfolding top
-  top-slots a b = ap₂ (λ (x y : ℕ). cond (ltb x y) x y) (depth-slots (natAbs a)) (depth-slots (natAbs b))
-
-  side-bare : (l : ℕ) (y : Bool) (a : ℤ) → side (store (σ .levels) 0 (σ .level) (σ .then) (σ .els) [] []) l y a ≡ side σ l y a
+  side-lent : (y : Bool) (e : ℤ) → 2 ≤ natAbs e → side lent (top lent a b) y e ≡ side σ (top σ a b) y e
   unfolding side
-  side-bare l y a = ap (λ (d : ℕ). cond (eqb d l) (through a (child σ y (natAbs a))) a) (depth-slots (natAbs a))
+  side-lent y e h = ap₂ (λ (d l : ℕ). cond (eqb d l) (through e (child σ y (natAbs e))) e) (depth-lent (natAbs e) h) top-lent
 
-  -- so the sides that were read are the store's
-  pub sides-of : (y : Bool) (a b : ℤ) (r : Pair) → SidesPromise (store (σ .levels) 0 (σ .level) (σ .then) (σ .els) [] []) y a b r → SidesPromise σ y a b r
-  sides-of y a b r P = record { left = P .left ∙ same a; right = P .right ∙ same b }
-    where
-      same : (e : ℤ) → side (store (σ .levels) 0 (σ .level) (σ .then) (σ .els) [] []) (top (store (σ .levels) 0 (σ .level) (σ .then) (σ .els) [] []) a b) y e
-          ≡ side σ (top σ a b) y e
-      same e = side-bare (top (store (σ .levels) 0 (σ .level) (σ .then) (σ .els) [] []) a b) y e ∙ ap (λ (l : ℕ). side σ l y e) (top-slots a b)
+  sides-of : (y : Bool) (r : Pair) → SidesPromise lent y a b r → SidesPromise σ y a b r
+  sides-of y r P = record { left = P .left ∙ side-lent y a left-deep; right = P .right ∙ side-lent y b right-deep }
 
-  pub split-of : (a b : ℤ) (r : Split) → SplitPromise (store (σ .levels) 0 (σ .level) (σ .then) (σ .els) [] []) a b r → SplitPromise σ a b r
-  split-of a b r P =
-      record { level = P .level ∙ top-slots a b; then = sides-of true a b (r .then) (P .then); els = sides-of false a b (r .els) (P .els) }
+  -- so the level and the sides that were read are the store's
+  pub split-of : (r : Split) → SplitPromise lent a b r → SplitPromise σ a b r
+  split-of r P = record { level = P .level ∙ top-lent; then = sides-of true (r .then) (P .then); els = sides-of false (r .els) (P .els) }
 
-  -- An edge of a store within the limits is one of the width, and so is what the slot of its node holds.
-  pub edge-is : (e : ℤ) → Rules limits σ → EdgeOf σ e → IsEdge e
-  edge-is e R E = omega (arith, E .there, R .sizes .count-limit)
+  -- What the slot of a node holds, in a store within the limits, is an edge of the width; so the steps may read two edges that are apart.
+  module _ (R : Rules limits σ) where
+    slots-of : (e : ℤ) → EdgeOf σ e → 2 ≤ natAbs e → Slots (σ .then) (σ .els) e
+    slots-of e G h =
+        let N = R .nodes .fits (natAbs e) h (G .there) in
+        let z = R .sizes in
+        record {
+          some = G .some;
+          then-long = omega (arith, G .there, z .count-slots, z .then-long);
+          else-long = omega (arith, G .there, z .count-slots, z .els-long);
+          then-edge = omega (arith, N .then-low, z .count-limit, G .there);
+          else-edge = omega (arith, N .else-low, z .count-limit, G .there);
+        }
 
-  child-is : (y : Bool) (n : ℕ) → Rules limits σ → 1 ≤ n → n ≤ σ .count → IsEdge (child σ y n)
-  child-is y zero R p h = absurd (omega arith)
-  child-is true (suc zero) R p h = rw (R .zeros .first .then) (omega arith)
-  child-is false (suc zero) R p h = rw (R .zeros .first .els) (omega arith)
-  child-is true (suc (suc k)) R p h = let F = R .nodes .fits (suc (suc k)) (omega arith) h in omega (arith, F .then-low, R .sizes .count-limit)
-  child-is false (suc (suc k)) R p h = let F = R .nodes .fits (suc (suc k)) (omega arith) h in omega (arith, F .else-low, R .sizes .count-limit)
-
-  -- So the steps may read an edge of a store that keeps the rules.
-  pub slots-of : (a : ℤ) → Rules limits σ → EdgeOf σ a → Slots (store (σ .levels) 0 (σ .level) (σ .then) (σ .els) [] []) a
-  slots-of a R E =
-      let z = R .sizes in
-      record {
-        some = E .some;
-        level = omega arith;
-        then = omega arith;
-        els = omega arith;
-        child-then = child-is true (natAbs a) R (E .some) (E .there);
-        child-else = child-is false (natAbs a) R (E .some) (E .there);
-      }
+    pub asks-of : SplitAsks lent a b
+    asks-of =
+        let z = R .sizes in
+        record {
+          left-deep = left-deep;
+          right-deep = right-deep;
+          left-level = omega (arith, E .there, z .count-slots);
+          right-level = omega (arith, F .there, z .count-slots);
+          left = slots-of a E left-deep;
+          right = slots-of b F right-deep;
+        }

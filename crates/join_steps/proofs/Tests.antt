@@ -1,16 +1,20 @@
--- The shortcuts in the form in which the code finds them, one test after another, with edges as they are read back from their bits.
-use mathlib.Core.Path.{_≡_, sym, ap, _∙_}
-use mathlib.Core.Bool.{Bool, true, false, cond}
+-- The shortcuts in the form in which the code finds them, with edges as they are read back from their bits.
+use mathlib.Core.Path.{_≡_, sym, ap, ap₂, _∙_}
+use mathlib.Core.Bool.{Bool, true, false, cond, _||_}
 use native.Mathlib.Omega.{arith}
-use lib.IntN.{ℤ, pos, negsuc, negℤ}
-use mir.Val.{toZ, ofZ}
-use Rattle.edges.specs.Edge.{IsEdge, eqZ}
+use lib.Dec.{eqb}
+use lib.IntN.{ℤ, pos, negsuc, negℤ, natAbs}
+use borrow.Author.Tests.{eq-eqb, ne-eqb}
+use mir.Val.{SFits, toZ, ofZ}
+use mir.ValLaws.{toZ-ofZ}
+use Rattle.edges.specs.Edge.{IsEdge, minus, eqZ}
 use Rattle.edges.specs.Width.{edgeWidth}
 use Rattle.edges.proofs.Edge.{edge-neg}
 use Rattle.edges.proofs.Signed.{edge-back}
 use Rattle.joined.specs.declared.Op.{Op}
 use Rattle.joined.specs.declared.Op.the-variants as op
-use Rattle.joined.specs.Shortcuts.{shortAnd, shortXor, short}
+use Rattle.joined.specs.Join.{through}
+use Rattle.joined.specs.Shortcuts.{near, shortAnd, shortXor, shortBy, short}
 
 -- an edge as it is read back
 abbrev pub readBack : ℤ → ℤ
@@ -26,141 +30,134 @@ opposite-back e c h q = ap readBack (q ∙ ap negℤ (read-back e h)) ∙ read-b
 pub opposite-kept : (e c : ℤ) → IsEdge e → c ≡ negℤ (readBack e) → IsEdge (readBack c)
 opposite-kept e c h q = rw (opposite-back e c h q) (edge-neg e h)
 
--- a test, with an edge, with the opposite of one, and with 1 or -1
-pub test-edge : (a b : ℤ) → IsEdge a → IsEdge b → {x y : Bool} → x ≡ eqZ (readBack a) (readBack b) → x ≡ y → eqZ a b ≡ y
-test-edge a b A B p q = sym (rw (read-back a A, read-back b B) at p) ∙ q
-
-pub test-opposite : (a b c : ℤ) → IsEdge a → IsEdge b → c ≡ negℤ (readBack b) → {x y : Bool} → x ≡ eqZ (readBack a) (readBack c) → x ≡ y
-    → eqZ a (negℤ b) ≡ y
-test-opposite a b c A B r p q = sym (rw (read-back a A, opposite-back b c B r) at p) ∙ q
-
-pub test-known : (a k : ℤ) → IsEdge a → {x y : Bool} → x ≡ eqZ (readBack a) k → x ≡ y → eqZ a k ≡ y
-test-known a k A p q = sym (rw (read-back a A) at p) ∙ q
-
--- the tests that have failed so far
-abbrev pub Past₁ : ℤ → ℤ → Type 0
-Past₁ a b = eqZ a b ≡ false
-
-abbrev pub Past₂ : ℤ → ℤ → Type 0
-Past₂ a b = Past₁ a b × (eqZ a (negℤ b) ≡ false)
-
-abbrev pub Past₃ : ℤ → ℤ → Type 0
-Past₃ a b = Past₂ a b × (eqZ a (pos 1) ≡ false)
-
-abbrev pub Past₄ : ℤ → ℤ → Type 0
-Past₄ a b = Past₃ a b × (eqZ b (pos 1) ≡ false)
-
-abbrev pub Past₅ : ℤ → ℤ → Type 0
-Past₅ a b = Past₄ a b × (eqZ a (negsuc 0) ≡ false)
-
-abbrev pub Past₆ : ℤ → ℤ → Type 0
-Past₆ a b = Past₅ a b × (eqZ b (negsuc 0) ≡ false)
-
--- what the next one gives
-module _ (a b : ℤ) where
-  pub and₁ : eqZ a b ≡ true → a ≡ shortAnd a b
-  unfolding shortAnd
-  and₁ q = rw q
-
-  pub and₂ : Past₁ a b → eqZ a (negℤ b) ≡ true → negsuc 0 ≡ shortAnd a b
-  unfolding shortAnd
-  and₂ P q = rw (P, q)
-
-  pub and₃ : Past₂ a b → eqZ a (pos 1) ≡ true → b ≡ shortAnd a b
-  unfolding shortAnd
-  and₃ P q = rw (P .0, P .1, q)
-
-  pub and₄ : Past₃ a b → eqZ b (pos 1) ≡ true → a ≡ shortAnd a b
-  unfolding shortAnd
-  and₄ P q = rw (P .0 .0, P .0 .1, P .1, q)
-
-  pub and₅ : Past₄ a b → eqZ a (negsuc 0) ≡ true → negsuc 0 ≡ shortAnd a b
-  unfolding shortAnd
-  and₅ P q = rw (P .0 .0 .0, P .0 .0 .1, P .0 .1, P .1, q)
-
-  pub and₆ : Past₅ a b → eqZ b (negsuc 0) ≡ true → negsuc 0 ≡ shortAnd a b
-  unfolding shortAnd
-  and₆ P q = rw (P .0 .0 .0 .0, P .0 .0 .0 .1, P .0 .0 .1, P .0 .1, P .1, q)
-
-  pub and₇ : Past₆ a b → pos 0 ≡ shortAnd a b
-  unfolding shortAnd
-  and₇ P = rw (P .0 .0 .0 .0 .0, P .0 .0 .0 .0 .1, P .0 .0 .0 .1, P .0 .0 .1, P .0 .1, P .1)
-
-  pub xor₁ : eqZ a b ≡ true → negsuc 0 ≡ shortXor a b
-  unfolding shortXor
-  xor₁ q = rw q
-
-  pub xor₂ : Past₁ a b → eqZ a (negℤ b) ≡ true → pos 1 ≡ shortXor a b
-  unfolding shortXor
-  xor₂ P q = rw (P, q)
-
-  pub xor₃ : Past₂ a b → eqZ a (pos 1) ≡ true → negℤ b ≡ shortXor a b
-  unfolding shortXor
-  xor₃ P q = rw (P .0, P .1, q)
-
-  pub xor₄ : Past₃ a b → eqZ b (pos 1) ≡ true → negℤ a ≡ shortXor a b
-  unfolding shortXor
-  xor₄ P q = rw (P .0 .0, P .0 .1, P .1, q)
-
-  pub xor₅ : Past₄ a b → eqZ a (negsuc 0) ≡ true → b ≡ shortXor a b
-  unfolding shortXor
-  xor₅ P q = rw (P .0 .0 .0, P .0 .0 .1, P .0 .1, P .1, q)
-
-  pub xor₆ : Past₅ a b → eqZ b (negsuc 0) ≡ true → a ≡ shortXor a b
-  unfolding shortXor
-  xor₆ P q = rw (P .0 .0 .0 .0, P .0 .0 .0 .1, P .0 .0 .1, P .0 .1, P .1, q)
-
-  pub xor₇ : Past₆ a b → pos 0 ≡ shortXor a b
-  unfolding shortXor
-  xor₇ P = rw (P .0 .0 .0 .0 .0, P .0 .0 .0 .0 .1, P .0 .0 .0 .1, P .0 .0 .1, P .0 .1, P .1)
-
--- a shortcut, or 0, is an edge of the width
 one-of : (x : Bool) (a b : ℤ) → IsEdge a → IsEdge b → IsEdge (cond x a b)
 one-of true a b A B = A
 one-of false a b A B = B
 
+-- an edge of a node, seen through an edge to that node
+pub through-kept : (a x : ℤ) → IsEdge x → IsEdge (through a x)
+through-kept a x X = one-of (minus a) (negℤ x) x (edge-neg x X) X
+
+module _ (a x : ℤ) (f : SFits edgeWidth a) (X : IsEdge x) (z : Bool) (m : z ≡ minus (readBack a)) where
+  sign-is : minus a ≡ z
+  sign-is = sym (m ∙ ap minus (toZ-ofZ edgeWidth a f))
+
+  pub through-minus : z ≡ true → (v : ℤ) → v ≡ negℤ (readBack x) → readBack v ≡ through a x
+  through-minus h v q = rw (sign-is, h) (opposite-back x v X q)
+
+  pub through-plain : z ≡ false → readBack x ≡ through a x
+  through-plain h = rw (sign-is, h) (read-back x X)
+
+module _ (a b : ℤ) (A : IsEdge a) (B : IsEdge b) where
+  -- a test, with an edge, with the opposite of one, and with 1 or -1
+  test-edge : {x : Bool} → x ≡ eqZ (readBack a) (readBack b) → x ≡ eqZ a b
+  test-edge p = rw (read-back a A, read-back b B) at p
+
+  test-opposite : (c : ℤ) → c ≡ negℤ (readBack b) → {x : Bool} → x ≡ eqZ (readBack a) (readBack c) → x ≡ eqZ a (negℤ b)
+  test-opposite c r p = rw (read-back a A, opposite-back b c B r) at p
+
+  test-known : (e : ℤ) → IsEdge e → (k : ℤ) → {x : Bool} → x ≡ eqZ (readBack e) k → x ≡ eqZ e k
+  test-known e E k p = rw (read-back e E) at p
+
+  -- the and: whether it is no, and else which edge it is
+  module _ {x y z : Bool} (p : x ≡ eqZ (readBack a) (negsuc 0)) (q : y ≡ eqZ (readBack b) (negsuc 0)) (c : ℤ) (r : c ≡ negℤ (readBack b))
+      (s : z ≡ eqZ (readBack a) (readBack c)) where
+    none-is : (eqZ a (negsuc 0) || eqZ b (negsuc 0) || eqZ a (negℤ b)) ≡ (x || y || z)
+    none-is = rw (test-known a A (negsuc 0) p, test-known b B (negsuc 0) q, test-opposite c r s)
+
+    pub and-none : (x || y || z) ≡ true → negsuc 0 ≡ shortAnd a b
+    unfolding shortAnd
+    and-none h = rw (none-is ∙ h)
+
+    module _ (h : (x || y || z) ≡ false) {t : Bool} (u : t ≡ eqZ (readBack a) (pos 1)) where
+      pub and-other : t ≡ true → readBack b ≡ shortAnd a b
+      unfolding shortAnd
+      and-other k = rw (none-is ∙ h, sym (test-known a A (pos 1) u) ∙ k) (read-back b B)
+
+      pub and-first : t ≡ false → readBack a ≡ shortAnd a b
+      unfolding shortAnd
+      and-first k = rw (none-is ∙ h, sym (test-known a A (pos 1) u) ∙ k) (read-back a A)
+
+  -- the exclusive or, one test after another
+  module _ {x : Bool} (p : x ≡ eqZ (readBack a) (readBack b)) where
+    pub xor-same : x ≡ true → negsuc 0 ≡ shortXor a b
+    unfolding shortXor
+    xor-same h = rw (sym (test-edge p) ∙ h)
+
+    module _ (h : x ≡ false) (c : ℤ) (r : c ≡ negℤ (readBack b)) {y : Bool} (q : y ≡ eqZ (readBack a) (readBack c)) where
+      pub xor-opposite : y ≡ true → pos 1 ≡ shortXor a b
+      unfolding shortXor
+      xor-opposite k = rw (sym (test-edge p) ∙ h, sym (test-opposite c r q) ∙ k)
+
+      module _ (k : y ≡ false) (n : _) (N : n ≡ natAbs (readBack a)) (v : ℤ) where
+        number-is : n ≡ natAbs a
+        number-is = N ∙ ap natAbs (read-back a A)
+
+        pub xor-left : n ≡ 1 → v ≡ through (readBack a) (readBack c) → readBack v ≡ shortXor a b
+        unfolding shortXor
+        xor-left e w =
+            rw (sym (test-edge p) ∙ h, sym (test-opposite c r q) ∙ k, eq-eqb (natAbs a) 1 (sym number-is ∙ e), w, read-back a A, opposite-back b c B r)
+            (read-back (through a (negℤ b)) (through-kept a (negℤ b) (edge-neg b B)))
+
+        pub xor-right : (n ≡ 1 → ⊥) → (d : ℤ) → d ≡ negℤ (readBack a) → v ≡ through (readBack b) (readBack d) → readBack v ≡ shortXor a b
+        unfolding shortXor
+        xor-right e d u w =
+            rw (sym (test-edge p) ∙ h, sym (test-opposite c r q) ∙ k, ne-eqb (natAbs a) 1 (λ g. e (number-is ∙ g)), w, read-back b B, opposite-back a d A u)
+            (read-back (through b (negℤ a)) (through-kept b (negℤ a) (edge-neg a A)))
+
+-- a shortcut, or 0, is an edge of the width
 no-edge : IsEdge (negsuc 0)
 no-edge = omega arith
 
 and-kept : (a b : ℤ) → IsEdge a → IsEdge b → IsEdge (shortAnd a b)
 unfolding shortAnd
-and-kept a b A B =
-    one-of (eqZ a b) _ _ A (one-of (eqZ a (negℤ b)) _ _ no-edge (one-of (eqZ a (pos 1)) _ _ B
-    (one-of (eqZ b (pos 1)) _ _ A (one-of (eqZ a (negsuc 0)) _ _ no-edge (one-of (eqZ b (negsuc 0)) _ _ no-edge (omega arith))))))
+and-kept a b A B = one-of (eqZ a (negsuc 0) || eqZ b (negsuc 0) || eqZ a (negℤ b)) _ _ no-edge (one-of (eqZ a (pos 1)) b a B A)
 
 xor-kept : (a b : ℤ) → IsEdge a → IsEdge b → IsEdge (shortXor a b)
 unfolding shortXor
 xor-kept a b A B =
-    one-of (eqZ a b) _ _ no-edge (one-of (eqZ a (negℤ b)) _ _ (omega arith) (one-of (eqZ a (pos 1)) _ _ (edge-neg b B)
-    (one-of (eqZ b (pos 1)) _ _ (edge-neg a A) (one-of (eqZ a (negsuc 0)) _ _ B (one-of (eqZ b (negsuc 0)) _ _ A (omega arith))))))
+    one-of (eqZ a b) _ _ no-edge (one-of (eqZ a (negℤ b)) _ _ (omega arith)
+    (one-of (eqb (natAbs a) 1) _ _ (through-kept a (negℤ b) (edge-neg b B)) (through-kept b (negℤ a) (edge-neg a A))))
+
+by-kept : (o : Op) (a b : ℤ) → IsEdge a → IsEdge b → IsEdge (shortBy o a b)
+unfolding shortBy
+by-kept op.And a b A B = and-kept a b A B
+by-kept op.Or a b A B = edge-neg (shortAnd (negℤ a) (negℤ b)) (and-kept (negℤ a) (negℤ b) (edge-neg a A) (edge-neg b B))
+by-kept op.Xor a b A B = xor-kept a b A B
 
 pub short-kept : (o : Op) (a b : ℤ) → IsEdge a → IsEdge b → IsEdge (short o a b)
 unfolding short
-short-kept op.And a b A B = and-kept a b A B
-short-kept op.Or a b A B = edge-neg (shortAnd (negℤ a) (negℤ b)) (and-kept (negℤ a) (negℤ b) (edge-neg a A) (edge-neg b B))
-short-kept op.Xor a b A B = xor-kept a b A B
+short-kept o a b A B = one-of (near a b) _ _ (by-kept o a b A B) (omega arith)
 
 -- the shortcuts by the operation
-module _ (a b : ℤ) (A : IsEdge a) (B : IsEdge b) (o : Op) (x : ℤ) where
-  pub by-and : o ≡ op.And → x ≡ shortAnd (readBack a) (readBack b) → readBack x ≡ short o a b
+module _ (a b : ℤ) (A : IsEdge a) (B : IsEdge b) (o : Op) {y : Bool} (n : y ≡ near (readBack a) (readBack b)) where
+  near-read : near a b ≡ y
+  near-read = sym (rw (read-back a A, read-back b B) at n)
+
+  pub by-none : y ≡ false → pos 0 ≡ short o a b
   unfolding short
-  by-and e q = rw (e, q, read-back a A, read-back b B) (read-back (shortAnd a b) (and-kept a b A B))
+  by-none h = rw (near-read ∙ h)
 
-  pub by-xor : o ≡ op.Xor → x ≡ shortXor (readBack a) (readBack b) → readBack x ≡ short o a b
-  unfolding short
-  by-xor e q = rw (e, q, read-back a A, read-back b B) (read-back (shortXor a b) (xor-kept a b A B))
+  module _ (h : y ≡ true) (x : ℤ) where
+    pub by-and : o ≡ op.And → x ≡ shortAnd (readBack a) (readBack b) → readBack x ≡ short o a b
+    unfolding short shortBy
+    by-and e q = rw (near-read ∙ h, e, q, read-back a A, read-back b B) (read-back (shortAnd a b) (and-kept a b A B))
 
-  -- an or, by the and of the opposites c and d
-  module _ (c d : ℤ) (C : c ≡ negℤ (readBack a)) (D : d ≡ negℤ (readBack b)) (q : x ≡ shortAnd (readBack c) (readBack d)) where
-    and-opposites : x ≡ shortAnd (negℤ a) (negℤ b)
-    and-opposites = rw (opposite-back a c A C, opposite-back b d B D) at q
+    pub by-xor : o ≡ op.Xor → x ≡ shortXor (readBack a) (readBack b) → readBack x ≡ short o a b
+    unfolding short shortBy
+    by-xor e q = rw (near-read ∙ h, e, q, read-back a A, read-back b B) (read-back (shortXor a b) (xor-kept a b A B))
 
-    and-opposites-kept : IsEdge x
-    and-opposites-kept = rw and-opposites (and-kept (negℤ a) (negℤ b) (edge-neg a A) (edge-neg b B))
+    -- an or, by the and of the opposites c and d
+    module _ (c d : ℤ) (C : c ≡ negℤ (readBack a)) (D : d ≡ negℤ (readBack b)) (q : x ≡ shortAnd (readBack c) (readBack d)) where
+      and-opposites : x ≡ shortAnd (negℤ a) (negℤ b)
+      and-opposites = rw (opposite-back a c A C, opposite-back b d B D) at q
 
-    pub or-kept : IsEdge (readBack x)
-    or-kept = rw (read-back x and-opposites-kept) and-opposites-kept
+      and-opposites-kept : IsEdge x
+      and-opposites-kept = rw and-opposites (and-kept (negℤ a) (negℤ b) (edge-neg a A) (edge-neg b B))
 
-    pub by-or : o ≡ op.Or → (y : ℤ) → y ≡ negℤ (readBack x) → readBack y ≡ short o a b
-    unfolding short
-    by-or e y r = rw e (opposite-back x y and-opposites-kept r ∙ ap negℤ and-opposites)
+      pub or-kept : IsEdge (readBack x)
+      or-kept = rw (read-back x and-opposites-kept) and-opposites-kept
+
+      pub by-or : o ≡ op.Or → (v : ℤ) → v ≡ negℤ (readBack x) → readBack v ≡ short o a b
+      unfolding short shortBy
+      by-or e v r = rw (near-read ∙ h, e) (opposite-back x v and-opposites-kept r ∙ ap negℤ and-opposites)

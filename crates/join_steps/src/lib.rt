@@ -1,19 +1,18 @@
 // One step of a join: the result where it needs no node, and otherwise the level of the upper of two edges and their sides there.
 ghost use mathlib.Core.Path.{_≡_};
-ghost use mathlib.Core.Bool.{false};
+ghost use mathlib.Core.Bool.{cond};
 ghost use mathlib.Core.List.{[]};
 ghost use Prim.Native.Nat.{_≤_};
+ghost use lib.Dec.{ltb};
 ghost use lib.ListN.{length};
 ghost use lib.IntN.{natAbs};
 ghost use Rattle.codes.specs.Lent.{old};
 ghost use Rattle.edges.specs.Edge.{IsEdge};
-ghost use Rattle.store.specs.Store.{store};
-ghost use Rattle.store.specs.Rules.{depth};
+ghost use Rattle.store.specs.Store.{slots, levelAt};
 ghost use Rattle.joined.specs.Join as joins;
-ghost use Rattle.joined.specs.Shortcuts.{Apart, shortAnd, shortXor, short};
-ghost use Rattle.join_steps.specs.Slots.{Slots, SidesPromise, SplitPromise};
+ghost use Rattle.joined.specs.Shortcuts.{near, shortAnd, shortXor, short};
+ghost use Rattle.join_steps.specs.Slots.{Slots, BothSides, SplitAsks, SplitPromise};
 use edges::Edge;
-use edges::Index;
 use joined::Op;
 use joined::Pair;
 
@@ -24,42 +23,45 @@ pub struct Split {
     pub els: Pair,
 }
 
+// The sides of one edge, where a level is yes and where it is no.
+pub struct Sides {
+    then: Edge,
+    els: Edge,
+}
+
 // Is one of two edges an edge to node 1, or have they one node? Then their join needs no node; it is asked for every pair, so it is one test.
 fn is_short(a: Edge, b: Edge) -> bool
-    ensures { λ r. ⌜ (r ≡ false → Apart a b) ⌝ }
+    ensures { λ r. ⌜ r ≡ near a b ⌝ }
 {
     let m = edges::magnitude(a);
     let n = edges::magnitude(b);
     (m == n) | (m == 1) | (n == 1)
 }
 
-// The and of two edges where it needs no node: of an edge with itself, with its opposite, with 1 and with -1. Else 0.
+// An edge of a node, seen through an edge to that node: a minus turns it over.
+fn through(a: Edge, x: Edge) -> Edge
+    requires { ⌜ IsEdge x ⌝ }
+    ensures { λ r. ⌜ r ≡ joins.through a x ⌝ }
+{
+    if edges::is_minus(a) {
+        edges::negate(x)
+    } else {
+        x
+    }
+}
+
+// The and of two edges that needs no node: no where one is or they are opposites, else the one that isn't yes.
 fn short_and(a: Edge, b: Edge) -> Edge
     requires { ⌜ IsEdge a × IsEdge b ⌝ }
     ensures { λ r. ⌜ r ≡ shortAnd a b ⌝ }
 {
-    if edges::same(a, b) {
-        return a;
-    }
-    if edges::same(a, edges::negate(b)) {
+    if edges::same(a, -1) | edges::same(b, -1) | edges::same(a, edges::negate(b)) {
         return -1;
     }
-    if edges::same(a, 1) {
-        return b;
-    }
-    if edges::same(b, 1) {
-        return a;
-    }
-    if edges::same(a, -1) {
-        return -1;
-    }
-    if edges::same(b, -1) {
-        return -1;
-    }
-    0
+    if edges::same(a, 1) { b } else { a }
 }
 
-// Their exclusive or, likewise.
+// Their exclusive or: no where they are one, yes where they are opposites, else one of them, turned over where the other is yes.
 fn short_xor(a: Edge, b: Edge) -> Edge
     requires { ⌜ IsEdge a × IsEdge b ⌝ }
     ensures { λ r. ⌜ r ≡ shortXor a b ⌝ }
@@ -67,22 +69,14 @@ fn short_xor(a: Edge, b: Edge) -> Edge
     if edges::same(a, b) {
         return -1;
     }
-    if edges::same(a, edges::negate(b)) {
+    let c = edges::negate(b);
+    if edges::same(a, c) {
         return 1;
     }
-    if edges::same(a, 1) {
-        return edges::negate(b);
+    if edges::magnitude(a) == 1 {
+        return through(a, c);
     }
-    if edges::same(b, 1) {
-        return edges::negate(a);
-    }
-    if edges::same(a, -1) {
-        return b;
-    }
-    if edges::same(b, -1) {
-        return a;
-    }
-    0
+    through(b, edges::negate(a))
 }
 
 // The result of a join where it needs no node, else 0. An or is the opposite of the and of the opposites.
@@ -100,85 +94,64 @@ pub fn shortcut(op: Op, a: Edge, b: Edge) -> Edge
     }
 }
 
-// Where the node of an edge lies.
-fn depth_of(levels: u16, level: &[u16], a: Edge) -> u16
-    requires { ⌜ natAbs a ≤ length (now level) ⌝ }
-    ensures { λ r. ⌜ r ≡ depth (store levels 0 (old level) [] [] [] []) (natAbs a) ⌝ }
+// Where the node of an edge lies, other than node 1.
+fn level_of(level: &[u16], a: Edge) -> u16
+    requires { ⌜ (1 ≤ natAbs a) × (natAbs a ≤ length (now level)) ⌝ }
+    ensures { λ r. ⌜ r ≡ levelAt (slots (old level) [] []) (natAbs a) ⌝ }
 {
-    let n = edges::magnitude(a);
-    if n < 2 {
-        return levels;
-    }
-    level[(n - 1) as usize]
+    let i = (edges::magnitude(a) - 1) as usize;
+    level[i]
 }
 
-// The smaller of the levels of two edges.
-fn upper(levels: u16, level: &[u16], a: Edge, b: Edge) -> u16
-    requires { ⌜ (natAbs a ≤ length (now level)) × (natAbs b ≤ length (now level)) ⌝ }
-    ensures { λ r. ⌜ r ≡ joins.top (store levels 0 (old level) [] [] [] []) a b ⌝ }
+// The smaller of two levels.
+fn upper(x: u16, y: u16) -> u16
+    ensures { λ r. ⌜ r ≡ cond (ltb x y) x y ⌝ }
 {
-    let x = depth_of(levels, level, a);
-    let y = depth_of(levels, level, b);
     if x < y { x } else { y }
 }
 
-// The side of an edge at a level: what is left of it where the level is yes, or where it is no.
-fn side(levels: u16, level: &[u16], then: &[Edge], els: &[Edge], l: u16, yes: bool, a: Edge) -> Edge
-    requires { ⌜ Slots (store levels 0 (now level) (now then) (now els) [] []) a ⌝ }
-    ensures { λ r. ⌜ r ≡ joins.side (store levels 0 (old level) (old then) (old els) [] []) l yes a ⌝ }
+// A side of an edge at a level: x where its node lies there, else the edge itself.
+fn side(here: bool, x: Edge, a: Edge) -> Edge
+    ensures { λ r. ⌜ r ≡ cond here x a ⌝ }
 {
-    if depth_of(levels, level, a) != l {
-        return a;
-    }
-    let i = (edges::magnitude(a) - 1) as usize;
-    let x = if yes { then[i] } else { els[i] };
-    if edges::is_minus(a) {
-        edges::negate(x)
-    } else {
-        x
-    }
+    if here { x } else { a }
 }
 
-// The sides of two edges at the smaller of their levels.
-fn sides(
-    levels: u16,
-    level: &[u16],
-    then: &[Edge],
-    els: &[Edge],
-    yes: bool,
-    a: Edge,
-    b: Edge,
-) -> Pair
-    requires { ⌜ Slots (store levels 0 (now level) (now then) (now els) [] []) a ⌝ }
-    requires { ⌜ Slots (store levels 0 (now level) (now then) (now els) [] []) b ⌝ }
-    ensures { λ r. ⌜ SidesPromise (store levels 0 (old level) (old then) (old els) [] []) yes a b r ⌝ }
+// Both sides of an edge, whose node lies at the level or doesn't. Its slot is read in either case: which of two edges lies higher can't be foreseen,
+// and taking one of two values costs less than going one of two ways.
+fn sides_of(then: &[Edge], els: &[Edge], here: bool, a: Edge) -> Sides
+    requires { ⌜ Slots (now then) (now els) a ⌝ }
+    ensures { λ r. ⌜ BothSides (old then) (old els) here a r ⌝ }
 {
-    let l = upper(levels, level, a, b);
-    Pair {
-        left: side(levels, level, then, els, l, yes, a),
-        right: side(levels, level, then, els, l, yes, b),
+    let i = (edges::magnitude(a) - 1) as usize;
+    let t = then[i];
+    let e = els[i];
+    let yes = through(a, t);
+    let no = through(a, e);
+    Sides {
+        then: side(here, yes, a),
+        els: side(here, no, a),
     }
 }
 
 // The level where two edges are to be joined, and their sides there.
-pub fn split_pair(
-    levels: u16,
-    level: &[u16],
-    then: &[Edge],
-    els: &[Edge],
-    a: Edge,
-    b: Edge,
-) -> Split
-    requires { ⌜ Slots (store levels 0 (now level) (now then) (now els) [] []) a ⌝ }
-    requires { ⌜ Slots (store levels 0 (now level) (now then) (now els) [] []) b ⌝ }
-    ensures { λ r. ⌜ SplitPromise (store levels 0 (old level) (old then) (old els) [] []) a b r ⌝ }
+pub fn split_pair(level: &[u16], then: &[Edge], els: &[Edge], a: Edge, b: Edge) -> Split
+    requires { ⌜ SplitAsks (slots (now level) (now then) (now els)) a b ⌝ }
+    ensures { λ r. ⌜ SplitPromise (slots (old level) (old then) (old els)) a b r ⌝ }
 {
-    let l = upper(levels, level, a, b);
-    let t = sides(levels, level, then, els, true, a, b);
-    let e = sides(levels, level, then, els, false, a, b);
+    let x = level_of(level, a);
+    let y = level_of(level, b);
+    let left = sides_of(then, els, x <= y, a);
+    let right = sides_of(then, els, y <= x, b);
     Split {
-        level: l,
-        then: t,
-        els: e,
+        level: upper(x, y),
+        then: Pair {
+            left: left.then,
+            right: right.then,
+        },
+        els: Pair {
+            left: left.els,
+            right: right.els,
+        },
     }
 }

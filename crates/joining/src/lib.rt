@@ -101,7 +101,7 @@ pub fn join(
         if edges::same(result, 0) {
             let found = known(cache, op, left, right);
             if edges::same(found.result, 0) {
-                let split = join_steps::split_pair(levels, level, then, els, left, right);
+                let split = join_steps::split_pair(level, then, els, left, right);
                 waiting[n] = to_wait(left, right, split, found.line);
                 n += 1;
                 left = split.then.left;
@@ -119,6 +119,10 @@ pub fn join(
                 left = last.els.left;
                 right = last.els.right;
                 result = 0;
+            } else if edges::same(last.then, result) {
+                // equal sides need no node; many pairs end so, and the call that would find it out takes longer than the test
+                join_cache::keep(cache, last.line, op, last.left, last.right, result);
+                n -= 1;
             } else {
                 let made = nodes::make(
                     levels,

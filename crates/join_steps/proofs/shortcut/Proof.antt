@@ -1,8 +1,7 @@
 -- `shortcut` meets its contract: edges that are apart have none, and an or goes by the and of the opposites.
 use borrow.Author.Needs.{needs}
-use borrow.Author.Tests.{not-true}
-use Rattle.joined.proofs.Shortcut.{apart-none}
-use Rattle.join_steps.proofs.Tests.{read-back, opposite-kept, by-and, by-xor, or-kept, by-or}
+use borrow.Author.Tests.{not-true, not-false}
+use Rattle.join_steps.proofs.Tests.{opposite-kept, by-none, by-and, by-xor, or-kept, by-or}
 use Rattle.join_steps.proofs.shortcut.Statement.{statement}
 use Rattle.join_steps.proofs.shortcut.Tie as tie
 
@@ -12,8 +11,7 @@ is-short-requires c κs = search needs
 returns : tie.Need-returns
 returns c =
     let s = c .before .before in
-    apart-none (s .args .op) (s .args .a) (s .args .b)
-    (rw (read-back (s .args .a) (s .pre .0), read-back (s .args .b) (s .pre .1)) at (c .before .is-short .ensures (not-true _ (c .if1 .taken))))
+    by-none (s .args .a) (s .args .b) (s .pre .0) (s .pre .1) (s .args .op) (c .before .is-short .ensures) (not-true _ (c .if1 .taken))
 
 enum-told : tie.Need-enum-told
 enum-told c = search needs
@@ -37,8 +35,10 @@ short-and-requires-2 c κs =
 
 negate-requires-3 : tie.Need-negate-requires-3
 negate-requires-3 c κs =
-    let s = c .before .before .before .before .before .before .before in
-    or-kept (s .args .a) (s .args .b) (s .pre .0) (s .pre .1) (s .args .op) _ _ _ (c .before .before .negate .ensures) (c .before .negate2 .ensures) (c .short-and2 .ensures)
+    let n = c .before .before .before .before .before .before in let s = n .before in
+    or-kept (s .args .a) (s .args .b) (s .pre .0) (s .pre .1) (s .args .op) (n .is-short .ensures)
+    (not-false _ (c .before .before .before .before .before .if1 .left)) _ _ _ (c .before .before .negate .ensures) (c .before .negate2 .ensures)
+    (c .short-and2 .ensures)
 
 enum-told-3 : tie.Need-enum-told-3
 enum-told-3 c = search needs
@@ -48,19 +48,22 @@ short-xor-requires c κs = search needs
 
 returns-2 : tie.Need-returns-2
 returns-2 c =
-    let s = c .before .before .before .before .before in
-    by-and (s .args .a) (s .args .b) (s .pre .0) (s .pre .1) (s .args .op) _ (c .before .enum-told .given .1) (c .short-and .ensures)
+    let n = c .before .before .before .before in let s = n .before in
+    by-and (s .args .a) (s .args .b) (s .pre .0) (s .pre .1) (s .args .op) (n .is-short .ensures) (not-false _ (c .before .before .before .if1 .left))
+    _ (c .before .enum-told .given .1) (c .short-and .ensures)
 
 returns-3 : tie.Need-returns-3
 returns-3 c =
-    let s = c .before .before .before .before .before .before .before .before in
-    by-or (s .args .a) (s .args .b) (s .pre .0) (s .pre .1) (s .args .op) _ _ _ (c .before .before .before .negate .ensures) (c .before .before .negate2 .ensures) (c .before .short-and2 .ensures)
-    (c .before .before .before .before .enum-told2 .given .1) _ (c .negate3 .ensures)
+    let n = c .before .before .before .before .before .before .before in let s = n .before in
+    by-or (s .args .a) (s .args .b) (s .pre .0) (s .pre .1) (s .args .op) (n .is-short .ensures)
+    (not-false _ (c .before .before .before .before .before .before .if1 .left)) _ _ _ (c .before .before .before .negate .ensures)
+    (c .before .before .negate2 .ensures) (c .before .short-and2 .ensures) (c .before .before .before .before .enum-told2 .given .1) _ (c .negate3 .ensures)
 
 returns-4 : tie.Need-returns-4
 returns-4 c =
-    let s = c .before .before .before .before .before in
-    by-xor (s .args .a) (s .args .b) (s .pre .0) (s .pre .1) (s .args .op) _ (c .before .enum-told3 .given .1) (c .short-xor .ensures)
+    let n = c .before .before .before .before in let s = n .before in
+    by-xor (s .args .a) (s .args .b) (s .pre .0) (s .pre .1) (s .args .op) (n .is-short .ensures) (not-false _ (c .before .before .before .if1 .left))
+    _ (c .before .enum-told3 .given .1) (c .short-xor .ensures)
 
 pub shortcut-spec : {M : Type 1} → statement M
 shortcut-spec =

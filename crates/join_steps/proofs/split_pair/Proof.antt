@@ -1,33 +1,41 @@
 -- `split_pair` meets its contract: the level, and the sides of both edges there.
-use mathlib.Core.List.{[]}
+use mathlib.Core.Path.{_∙_}
 use borrow.Author.Needs.{needs}
-use mir.ValLaws.{toZ-ofZ}
-use Rattle.edges.specs.Width.{edgeWidth}
-use Rattle.store.specs.Store.{store}
-use Rattle.join_steps.proofs.Reading.{top-read}
+use Rattle.join_steps.proofs.Reading.{split-read}
 use Rattle.join_steps.proofs.split_pair.Statement.{statement}
 use Rattle.join_steps.proofs.split_pair.Tie as tie
+
+level-of-requires : tie.Need-level-of-requires
+level-of-requires c κs = search needs
+
+level-of-requires-2 : tie.Need-level-of-requires-2
+level-of-requires-2 c κs = search needs
+
+sides-of-requires : tie.Need-sides-of-requires
+sides-of-requires c κs = search needs
+
+sides-of-requires-2 : tie.Need-sides-of-requires-2
+sides-of-requires-2 c κs = search needs
 
 upper-requires : tie.Need-upper-requires
 upper-requires c κs = search needs
 
-sides-requires : tie.Need-sides-requires
-sides-requires c κs = search needs
-
-sides-requires-2 : tie.Need-sides-requires-2
-sides-requires-2 c κs = search needs
-
 returns : tie.Need-returns
 returns c =
-    let s = c .before .before .before .before in
-    let f = toZ-ofZ edgeWidth (s .args .a) (s .fits .a) in
-    let g = toZ-ofZ edgeWidth (s .args .b) (s .fits .b) in
-    record {
-      level = top-read (store (s .args .levels) 0 (s .args .level .now) (s .args .then .now) (s .args .els .now) [] []) (s .args .a) (s .args .b)
-          (s .fits .a) (s .fits .b) _ (c .before .before .upper .ensures);
-      then = rw (f, g) at (c .before .sides .ensures);
-      els = rw (f, g) at (c .sides2 .ensures);
-    }
+    let u = c .before .before .before .before in
+    let p = u .before .before in
+    let x = p .before .before in
+    let s = x .before .before in
+    split-read (s .args .level .now) (s .args .then .now) (s .args .els .now) (s .args .a) (s .args .b) (s .fits .a) (s .fits .b) (s .pre)
+    _ _ (x .level-of .ensures) (p .before .level-of2 .ensures) _ _ (p .sides-of .ensures) (u .before .sides-of2 .ensures) _ (u .upper .ensures)
 
 pub split-pair-spec : {M : Type 1} → statement M
-split-pair-spec = tie.close (tie.spec upper-requires sides-requires sides-requires-2 returns)
+split-pair-spec =
+    tie.close
+    (tie.spec
+    level-of-requires
+    level-of-requires-2
+    sides-of-requires
+    sides-of-requires-2
+    upper-requires
+    returns)

@@ -13,8 +13,9 @@ use Rattle.codes.specs.Limits.{limits}
 use mir.Val.{toZ, ofZ}
 use Rattle.edges.specs.Width.{edgeWidth}
 use Rattle.edges.specs.Edge.{IsEdge}
+use Rattle.edges.proofs.Edge.{eqZ-refl}
 use Rattle.edges.proofs.Signed.{edge-back}
-use Rattle.store.specs.Store.{Store}
+use Rattle.store.specs.Store.{Store, slots}
 use Rattle.store.specs.Rules.{Rules}
 use Rattle.store.specs.Growth.{EdgeOf, Grows}
 use Rattle.store.specs.Make.{Made, made, make, Makes}
@@ -26,7 +27,10 @@ use Rattle.insertion.specs.Known.{KnownNodes}
 use Rattle.joined.specs.declared.Op.{Op}
 use Rattle.joined.specs.Join.{top, joinOf, Ready, SaysJoin}
 use Rattle.join_steps.specs.declared.Split.{Split}
-use Rattle.join_steps.specs.Slots.{SplitPromise}
+use Rattle.joined.specs.Shortcuts.{Apart}
+use Rattle.joined.proofs.Shortcut.{apart-high}
+use Rattle.join_steps.specs.Slots.{SplitAsks, SplitPromise}
+use Rattle.join_steps.proofs.Slotted.{asks-of, split-of}
 use Rattle.join_cache.specs.Cache.{Cached, Turnable, Keeps}
 use Rattle.join_cache.proofs.Lines.{cached-turnable, cached-grows}
 use Rattle.join_course.specs.declared.Waiting.{Waiting}
@@ -119,15 +123,24 @@ module _ (width : ℕ) (o : Op) (σ : Store) (a b : ℤ) (τ : Store) (index : L
 
       -- or it isn't: there is room for one pair more
       module _ (q : x ≡ pos 0) where
+        pub next-apart : Apart left right
+        next-apart = K .none τ (I .rules) (next-pair .left) (next-pair .right) q
+
+        pub next-asks : SplitAsks (slots (τ .level) (τ .then) (τ .els)) left right
+        next-asks = asks-of τ left right (next-pair .left) (next-pair .right) next-apart (I .rules)
+
         high : top τ left right < τ .levels
-        high = K .none τ (I .rules) (next-pair .left) (next-pair .right) q
+        high = apart-high limits o τ left right (record { rules = I .rules; left = next-pair .left; right = next-pair .right }) next-apart
 
         pub room : n < 4096
         room =
             let k = waiting-few o τ (firstPairs w n) (top τ left right) (next-pair .waiting) in
             omega (arith, pairs-many w n, high, I .rules .sizes .levels-limit)
 
-        module _ (s : Split) (S : SplitPromise τ left right s) (line : ℕ) where
+        module _ (s : Split) (P : SplitPromise (slots (τ .level) (τ .then) (τ .els)) left right s) (line : ℕ) where
+          S : SplitPromise τ left right s
+          S = split-of τ left right (next-pair .left) (next-pair .right) next-apart s P
+
           abbrev pair : Waiting
           pair = waiting left right (s .level) (pos 0) (s .els .left) (s .els .right) line
 
@@ -294,6 +307,36 @@ module _ (width : ℕ) (o : Op) (σ : Store) (a b : ℤ) (τ : Store) (index : L
 
             pub full-cached : Cached τ₁ cache
             full-cached = cached-grows (I .rules .nodes) (rw v (subst (λ (y : ℤ). Grows τ (make limits τ (last .level) y result .after)) (sym u) grown)) cache (I .cached)
+
+          -- equal sides need no node: the store stays
+          module _ (g : t ≡ result) where
+            equal-made : made result τ ≡ madeNode
+            unfolding make
+            equal-made = rw (g, eqZ-refl result)
+
+            same-store : τ ≡ madeNode .after
+            same-store = ap (λ (m : Made). m .after) equal-made
+
+            same-edge : value result ≡ madeNode .answer
+            same-edge = ap (λ (m : Made). m .answer) equal-made
+
+            result-read : back result ≡ result
+            result-read = made-read τ same-store result same-edge
+
+            pub equal-edge : IsEdge result
+            equal-edge = rw result-read at (made-edge τ same-store result same-edge)
+
+            pub runs-equal : (cache₁ : List ℤ) → Keeps cache cache₁ o (back (last .left)) (back (last .right)) result
+                → Runs width o σ a b τ index cache₁ w (n - 1) left right result
+            runs-equal cache₁ P =
+                subst (λ (x : ℤ). Runs width o σ a b τ index cache₁ w (n - 1) left right x) result-read
+                (runs-made τ same-store result same-edge index (I .found) cache₁
+                (subst (λ (x : ℤ). Keeps cache cache₁ o (back (last .left)) (back (last .right)) x) (sym result-read) P))
+
+            pub equal-less : stepsLeft (τ .levels) (firstPairs w (n - 1)) result < stepsLeft (τ .levels) (firstPairs w n) result
+            equal-less =
+                subst (λ (x : ℤ). stepsLeft (τ .levels) (firstPairs w (n - 1)) x < stepsLeft (τ .levels) (firstPairs w n) result)
+                result-read (made-less-steps τ same-store result same-edge)
 
 pub runs-begin : (width : ℕ) (o : Op) (σ : Store) (a b : ℤ) (index : List ℕ) (cache : List ℤ) → Ready limits σ a b → KnownNodes width σ index → Cached σ cache
     → Runs width o σ (back a) (back b) σ index cache (replicate 4096 nothing) 0 (back a) (back b) (pos 0)

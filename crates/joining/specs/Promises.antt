@@ -1,5 +1,5 @@
 -- What joining two edges asks, and what it promises.
-use Prim.Native.Nat.{ℕ, _<_}
+use Prim.Native.Nat.{ℕ}
 use mathlib.Core.Path.{_≡_}
 use mathlib.Core.Logic.{_≢_}
 use mathlib.Core.List.{List}
@@ -15,13 +15,14 @@ use Rattle.insertion.specs.declared.Making.{Making}
 use Rattle.insertion.specs.Kinds.{ofMaking}
 use Rattle.insertion.specs.Known.{KnownNodes}
 use Rattle.joined.specs.declared.Op.{Op}
-use Rattle.joined.specs.Join.{top, joinOf, Ready, SaysJoin}
+use Rattle.joined.specs.Join.{joinOf, Ready, SaysJoin}
+use Rattle.joined.specs.Shortcuts.{Apart}
 use Rattle.join_cache.specs.Cache.{Cached}
 
--- a result that is known says the operation, in whatever store the lines of the cache are right; where none is, 0, there is a level to join at
+-- a result that is known says the operation, in whatever store the lines of the cache are right; where none is, 0, the edges are apart
 pub record Known (c : List ℤ) (o : Op) (a b x : ℤ) : Type 0 where
   pub says : (σ : Store) → Rules limits σ → Cached σ c → EdgeOf σ a → EdgeOf σ b → x ≢ pos 0 → SaysJoin o σ a b x
-  pub none : (σ : Store) → Rules limits σ → EdgeOf σ a → EdgeOf σ b → x ≡ pos 0 → top σ a b < σ .levels
+  pub none : (σ : Store) → Rules limits σ → EdgeOf σ a → EdgeOf σ b → x ≡ pos 0 → Apart a b
 
 -- two edges of a store that keeps its rules, an index that knows its nodes, and a cache whose lines are right in it
 pub record JoiningAsks (levels : ℕ) (count : RefT ℕ) (level : RefT (List ℕ)) (then els : RefT (List ℤ)) (next heads index : RefT (List ℕ)) (width : ℕ)

@@ -18,7 +18,7 @@ use Rattle.joined.specs.declared.Op.{Op}
 use Rattle.joined.specs.Join.{joinOf, Ready}
 use Rattle.joined.specs.Roots.{settledJoinBy, settledJoin}
 use Rattle.joined.proofs.Joins.{Joined, join-joined}
-use Rattle.joins.specs.Kinds.{stays}
+use Rattle.nodes.specs.Promises.{stays}
 use Rattle.joins.proofs.Calling.{back}
 
 module _ (o : Op) (σ : Store) (a b : ℤ) (Q : Ready limits σ a b) where

@@ -1,5 +1,4 @@
 -- What the answers of joins stand for.
-use Prim.Native.Nat.{ℕ}
 use lib.IntN.{ℤ}
 use Rattle.codes.specs.Answer.{Read, value, refused}
 use Rattle.joins.specs.declared.Joined.{Joined}
@@ -9,8 +8,3 @@ use Rattle.joins.specs.declared.Joined.the-variants as joined
 abbrev pub ofJoined : Joined → Read ℤ
 ofJoined (joined.Root x) = value x
 ofJoined (joined.Refused n) = refused n
-
--- how many nodes stay: all, or those that were there before
-abbrev pub stays : Read ℤ → ℕ → ℕ → ℕ
-stays (value x) before count = count
-stays (refused n) before count = before

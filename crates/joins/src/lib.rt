@@ -3,7 +3,7 @@ ghost use mathlib.Core.Path.{_≡_};
 ghost use lib.ListN.{length, replicate};
 ghost use lib.IntN.{pos};
 ghost use Rattle.insertion.specs.Kinds.{ofMaking};
-ghost use Rattle.joins.specs.Kinds.{ofJoined, stays};
+ghost use Rattle.joins.specs.Kinds.{ofJoined};
 ghost use Rattle.joins.specs.Promises.{JoinFaultPromise, SettleAsks, SettlePromise, JoinPromise, OppositePromise};
 use codes::refusal;
 use edges::Edge;
@@ -49,16 +49,6 @@ fn join_fault(
     0
 }
 
-// How many nodes stay: all, or those that were there before.
-fn staying(made: Making, before: Index, count: Index) -> Index
-    ensures { λ r. ⌜ r ≡ stays (ofMaking made) before count ⌝ }
-{
-    match made {
-        Making::Node(_) => count,
-        Making::Full => before,
-    }
-}
-
 // Joins, or leaves the store as it was.
 fn join_or_back(
     levels: u16,
@@ -95,7 +85,7 @@ fn join_or_back(
         a,
         b,
     );
-    let to = staying(made, before, *count);
+    let to = nodes::staying(made, before, *count);
     nodes::take_back(levels, count, level, then, els, next, heads, to);
     made
 }

@@ -5,6 +5,7 @@ use mathlib.Core.List.{List}
 use lib.IntN.{ℤ}
 use denote.Ref.{RefT, now}
 use Rattle.store.specs.Store.{Store}
+use Rattle.codes.specs.Answer.{Read, value, refused}
 use Rattle.codes.specs.Limits.{limits}
 use Rattle.store.specs.Rules.{Rules}
 use Rattle.codes.specs.Lent.{Part, old, new}
@@ -13,6 +14,11 @@ use Rattle.store.specs.Make as nodes
 use Rattle.insertion.specs.declared.Making.{Making}
 use Rattle.insertion.specs.Kinds.{ofMaking}
 use Rattle.insertion.specs.Known.{KnownNodes}
+
+-- how many nodes stay: all, or those that were there before
+abbrev pub stays : Read ℤ → ℕ → ℕ → ℕ
+stays (value x) before count = count
+stays (refused n) before count = before
 
 module _ (levels : ℕ) (count : RefT ℕ) (level : RefT (List ℕ)) (then els : RefT (List ℤ)) (next heads : RefT (List ℕ)) where
   abbrev σ : Store

@@ -5,7 +5,7 @@ ghost use Prim.Native.Nat.{_<_};
 ghost use lib.IntN.{negℤ};
 ghost use Rattle.edges.specs.Edge.{IsEdge};
 ghost use Rattle.insertion.specs.Kinds.{ofMaking, Turns};
-ghost use Rattle.nodes.specs.Promises.{MakeAsks, MakePromise, TakeBackAsks, TakeBackPromise};
+ghost use Rattle.nodes.specs.Promises.{stays, MakeAsks, MakePromise, TakeBackAsks, TakeBackPromise};
 ghost use Rattle.store.specs.Make as nodes;
 use edges::Edge;
 use edges::Index;
@@ -69,6 +69,16 @@ pub fn make(
         b,
     );
     complement_made(minus, made)
+}
+
+// How many nodes stay after an answer that was the last of several: all, or those that were there before.
+pub fn staying(made: Making, before: Index, count: Index) -> Index
+    ensures { λ r. ⌜ r ≡ stays (ofMaking made) before count ⌝ }
+{
+    match made {
+        Making::Node(_) => count,
+        Making::Full => before,
+    }
 }
 
 // The nodes above number `to` taken back, newest first.

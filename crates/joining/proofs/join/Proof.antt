@@ -14,9 +14,8 @@ use lib.IntN.{ℤ, pos}
 use mathlib.Core.Bool.{true, false}
 use Rattle.edges.specs.Edge.{eqZ}
 use Rattle.edges.proofs.Edge.{eqZ-true, eqZ-false}
-use Rattle.join_steps.proofs.Slotted.{slots-of, split-of}
 use Rattle.store.specs.Make.{Made}
-use Rattle.joining.proofs.Runs.{Runs, SameLengths, back, turnable, next-edges, runs-begin, result-back, next-pair, runs-known, known-less, room, runs-down, down-less, runs-end, few, runs-over, over-less, last-edges, may-make, made-edge, runs-made, made-less-steps, runs-full, full-cached, whole-read, node-answer, full-answer, nothing}
+use Rattle.joining.proofs.Runs.{Runs, SameLengths, back, turnable, next-edges, next-asks, runs-begin, result-back, runs-known, known-less, room, runs-down, down-less, runs-end, few, runs-over, over-less, last-edges, may-make, made-edge, runs-made, made-less-steps, equal-edge, runs-equal, equal-less, runs-full, full-cached, whole-read, node-answer, full-answer, nothing}
 use Rattle.joining.proofs.join.Statement.{statement}
 use Rattle.joining.proofs.join.Tie as tie
 
@@ -44,18 +43,18 @@ abbrev loop-before-last : tie.After-last Inv-loop μ-loop → tie.At-loop Inv-lo
 loop-before-last p = p .before .before .before .before
 
 abbrev last-before-make : tie.After-make Inv-loop μ-loop → tie.After-last Inv-loop μ-loop
-last-before-make p = p .before .before .before .before .before .before .before .before .before .before .before .before
+last-before-make p = p .before .before .before .before .before .before .before .before .before .before .before .before .before .before .before
 
 abbrev make-before-match : tie.After-slice-known8 Inv-loop μ-loop → tie.After-make Inv-loop μ-loop
 make-before-match p = p .before .before .before .before .before .before .before .before .before .before
 
 abbrev waits-before-make : tie.After-make Inv-loop μ-loop → tie.Else3 Inv-loop μ-loop
-waits-before-make p = p .before .before .before .before .before .before .before .before .before .before .before .before .before
+waits-before-make p = p .before .before .before .before .before .before .before .before .before .before .before .before .before .before .before .before
 
 abbrev has-before-make : tie.After-make Inv-loop μ-loop → tie.Else4 Inv-loop μ-loop
-has-before-make p = p .before .before .before .before .before .before .before .before .before
+has-before-make p = p .before .before .before .before .before .before .before .before .before .before .before .before
 
-abbrev make-before-keep : tie.After-keep Inv-loop μ-loop → tie.After-make Inv-loop μ-loop
+abbrev make-before-keep : tie.After-keep2 Inv-loop μ-loop → tie.After-make Inv-loop μ-loop
 make-before-keep p = make-before-match (p .before .before .before .before .before .before .before)
 
 loop-holds : tie.Need-loop-holds Inv-loop μ-loop
@@ -94,10 +93,8 @@ some-known p e = eqZ-false _ _ (sym (p .before .same2 .ensures) ∙ p .if2 .left
 
 split-pair-requires : tie.Need-split-pair-requires Inv-loop μ-loop
 split-pair-requires c κs =
-    let l = loop-before-known (c .before .before .before .before .before .before) in
-    let I = l .loop .inv .0 in
-    let S = next-pair _ _ _ _ _ _ _ _ _ _ _ _ _ I (pair-next (c .before .before .before .before .before .before .before .before)) in
-    (slots-of _ _ (I .rules) (S .left), slots-of _ _ (I .rules) (S .right))
+    let k = c .before .before .before .before .before .before in
+    next-asks _ _ _ _ _ _ _ _ _ _ _ _ _ (loop-before-known k .loop .inv .0) (pair-next (k .before .before)) _ (k .known .ensures) (none-known (c .before .before .before))
 
 to-wait-requires : tie.Need-to-wait-requires Inv-loop μ-loop
 to-wait-requires c κs = search needs
@@ -126,7 +123,7 @@ loop-less c =
     let k = known-before-split p in
     rw (c .before .before .to-wait .ensures)
     (down-less _ _ _ _ _ _ _ _ _ _ _ _ _ (loop-before-known k .loop .inv .0) (pair-next (k .before .before)) _ (k .known .ensures) (none-known (p .before .before .before .before)) _
-    (split-of _ _ _ _ (p .split-pair .ensures)) _)
+    (p .split-pair .ensures) _)
 
 loop-again : tie.Need-loop-again Inv-loop μ-loop
 loop-again c =
@@ -134,7 +131,7 @@ loop-again c =
     let k = known-before-split p in (
       rw (c .before .before .to-wait .ensures)
           (runs-down _ _ _ _ _ _ _ _ _ _ _ _ _ (loop-before-known k .loop .inv .0) (pair-next (k .before .before)) _ (k .known .ensures) (none-known (p .before .before .before .before)) _
-          (split-of _ _ _ _ (p .split-pair .ensures)) _),
+          (p .split-pair .ensures) _),
       loop-before-known k .loop .inv .1,
     )
 
@@ -244,13 +241,66 @@ loop-again-3 c =
       e .before .before .before .loop .inv .1,
     )
 
+same-requires-4 : tie.Need-same-requires-4 Inv-loop μ-loop
+same-requires-4 c κs = search needs
+
+-- its sides are equal
+abbrev has-before-equal : tie.Then5 Inv-loop μ-loop → tie.Else4 Inv-loop μ-loop
+has-before-equal p = p .before .before .before
+
+equal-sides : (p : tie.Then5 Inv-loop μ-loop)
+    → let l = has-before-equal p .before .before .before .before .before .before .before .loop in
+    back (getD (l .waiting) (l .n - 1) nothing .then) ≡ toZ edgeWidth (l .result)
+equal-sides p = eqZ-true _ _ (sym (p .before .same4 .ensures) ∙ p .if5 .taken)
+
+keep-requires : tie.Need-keep-requires Inv-loop μ-loop
+keep-requires c κs =
+    let p = c .before .before .before in
+    let h = has-before-equal p in
+    let e = h .before .before .before .before in
+    let I = e .before .before .before .loop .inv .0 in
+    let r = result-comes (e .before) in
+    let L = last-edges _ _ _ _ _ _ _ _ _ _ _ _ _ I r (some-waits e) (has-then h) in
+    (L .0, L .1, equal-edge _ _ _ _ _ _ _ _ _ _ _ _ _ I r (some-waits e) (has-then h) _ (then-read (h .before .before)) (equal-sides p))
+
+sub-n : tie.Need-sub-n Inv-loop μ-loop
+sub-n c = omega (arith, some-waits (has-before-equal (c .before .before .before .before .before) .before .before .before .before))
+
+loop-less-4 : tie.Need-loop-less-4 Inv-loop μ-loop
+loop-less-4 c =
+    let p = c .before .before .before .before .before in
+    let h = has-before-equal p in
+    let e = h .before .before .before .before in
+    equal-less _ _ _ _ _ _ _ _ _ _ _ _ _ (e .before .before .before .loop .inv .0) (result-comes (e .before)) (some-waits e) (has-then h)
+    _ (then-read (h .before .before)) (equal-sides p)
+
+loop-again-4 : tie.Need-loop-again-4 Inv-loop μ-loop
+loop-again-4 c =
+    let p = c .before .before .before .before .before in
+    let h = has-before-equal p in
+    let e = h .before .before .before .before in
+    let S = e .before .before .before .loop .inv .1 in (
+      runs-equal _ _ _ _ _ _ _ _ _ _ _ _ _ (e .before .before .before .loop .inv .0) (result-comes (e .before)) (some-waits e) (has-then h)
+          _ (then-read (h .before .before)) (equal-sides p) _ (c .before .keep .ensures),
+      record {
+        level = S .level;
+        then = S .then;
+        els = S .els;
+        next = S .next;
+        heads = S .heads;
+        index = S .index;
+        cache = c .before .keep .kept .0 ∙ S .cache;
+      },
+    )
+
 make-requires : tie.Need-make-requires Inv-loop μ-loop
 make-requires c κs =
-    let e = c .before .before .before .before .before .before .before .before .before .before .before .before in
+    let h = c .before .before .before .before .before .before .before .before .before .before .before in
+    let e = h .before .before .before .before in
     let I = e .before .before .before .loop .inv .0 in
     record {
       rules = I .rules;
-      children = may-make _ _ _ _ _ _ _ _ _ _ _ _ _ I (result-comes (e .before)) (some-waits e) (has-then (c .before .before .before .before .before .before .before .before)) _ (then-read (c .before .before .before .before .before .before .before .before .before .before));
+      children = may-make _ _ _ _ _ _ _ _ _ _ _ _ _ I (result-comes (e .before)) (some-waits e) (has-then h) _ (then-read (h .before .before));
       known = I .found;
     }
 
@@ -298,8 +348,8 @@ returns-2 c =
       cached = full-cached _ _ _ _ _ _ _ _ _ _ _ _ _ I r (some-waits e) h _ t _ (p .make .ensures .store);
     }
 
-keep-requires : tie.Need-keep-requires Inv-loop μ-loop
-keep-requires c κs =
+keep-requires-2 : tie.Need-keep-requires-2 Inv-loop μ-loop
+keep-requires-2 c κs =
     let p = make-before-match (c .before .before .before .before .before .before) in
     let e = waits-before-make p in
     let I = e .before .before .before .loop .inv .0 in
@@ -308,12 +358,12 @@ keep-requires c κs =
     let L = last-edges _ _ _ _ _ _ _ _ _ _ _ _ _ I r (some-waits e) h in
     (L .0, L .1, made-edge _ _ _ _ _ _ _ _ _ _ _ _ _ I r (some-waits e) h _ (then-read (has-before-make p .before .before)) _ (p .make .ensures .store) _ (node-answer _ _ _ (c .before .before .before .before .made .given .1) (p .make .ensures .answer)))
 
-sub-n : tie.Need-sub-n Inv-loop μ-loop
-sub-n c =
+sub-n-2 : tie.Need-sub-n-2 Inv-loop μ-loop
+sub-n-2 c =
     omega (arith, some-waits (waits-before-make (make-before-keep (c .before))))
 
-loop-less-4 : tie.Need-loop-less-4 Inv-loop μ-loop
-loop-less-4 c =
+loop-less-5 : tie.Need-loop-less-5 Inv-loop μ-loop
+loop-less-5 c =
     let p = make-before-keep (c .before) in
     let e = waits-before-make p in
     let I = e .before .before .before .loop .inv .0 in
@@ -322,8 +372,8 @@ loop-less-4 c =
     let t = then-read (has-before-make p .before .before) in
     made-less-steps _ _ _ _ _ _ _ _ _ _ _ _ _ I r (some-waits e) h _ t _ (p .make .ensures .store) _ (node-answer _ _ _ (c .before .before .before .before .before .before .made .given .1) (p .make .ensures .answer))
 
-loop-again-4 : tie.Need-loop-again-4 Inv-loop μ-loop
-loop-again-4 c =
+loop-again-5 : tie.Need-loop-again-5 Inv-loop μ-loop
+loop-again-5 c =
     let p = make-before-keep (c .before) in
     let e = waits-before-make p in
     let I = e .before .before .before .loop .inv .0 in
@@ -332,7 +382,7 @@ loop-again-4 c =
     let t = then-read (has-before-make p .before .before) in
     let S = e .before .before .before .loop .inv .1 in (
       runs-made _ _ _ _ _ _ _ _ _ _ _ _ _ I r (some-waits e) h _ t _ (p .make .ensures .store) _ (node-answer _ _ _ (c .before .before .before .before .before .before .made .given .1) (p .make .ensures .answer))
-          _ (p .make .ensures .known) _ (c .before .keep .ensures),
+          _ (p .make .ensures .known) _ (c .before .keep2 .ensures),
       record {
         level = p .make .kept .1 .1 .0 ∙ S .level;
         then = p .make .kept .1 .1 .1 .0 ∙ S .then;
@@ -340,7 +390,7 @@ loop-again-4 c =
         next = p .make .kept .1 .1 .1 .1 .1 .0 ∙ S .next;
         heads = p .make .kept .1 .1 .1 .1 .1 .1 .0 ∙ S .heads;
         index = p .make .kept .1 .1 .1 .1 .1 .1 .1 .0 ∙ S .index;
-        cache = c .before .keep .kept .0 ∙ S .cache;
+        cache = c .before .keep2 .kept .0 ∙ S .cache;
       },
     )
 
@@ -381,6 +431,11 @@ join-spec =
     array-set-from-waiting-2
     loop-less-3
     loop-again-3
+    same-requires-4
+    keep-requires
+    sub-n
+    loop-less-4
+    loop-again-4
     make-requires
     enum-known-made
     enum-told
@@ -392,7 +447,7 @@ join-spec =
     same-length-13
     same-length-14
     returns-2
-    keep-requires
-    sub-n
-    loop-less-4
-    loop-again-4)
+    keep-requires-2
+    sub-n-2
+    loop-less-5
+    loop-again-5)

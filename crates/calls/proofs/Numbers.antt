@@ -28,12 +28,11 @@ use Rattle.variable_order.specs.Order.{isOrder}
 use Rattle.exported.specs.Export.{rootsFit, longEnough, namesFit, exportFault, Export, exportBy, exportFaultOf, exportFileOf, exportOf}
 use Rattle.joined.specs.declared.Op.{Op}
 use Rattle.joined.specs.Roots.{joinRoots, oppositeRoot}
-use Rattle.joined.proofs.Roots.{opposite-numbers}
 use Rattle.calls.specs.Load.{Load, setupOf, loadOf}
 use Rattle.calls.specs.Calls.{Call, load, evaluate, export, join, opposite, evaluateOf}
 use Rattle.calls.specs.Outcome.{Verdict, accepted, refusal, Tells, verdictOf, verdictRead, leaves}
-use Rattle.calls.specs.Refusals.{RefusalNumber, LoadRefused, lists-short, store-broken, input-long, line-refused, whole-refused, scratch-short, list-refused, nodes-refused, CarriesLine, JoinRefused, join-broken, root-bad, join-crowded, RefusedFor}
-use Rattle.calls.proofs.JoinRefusals.{join-refused-exactly}
+use Rattle.calls.specs.Refusals.{RefusalNumber, LoadRefused, lists-short, store-broken, input-long, line-refused, whole-refused, scratch-short, list-refused, nodes-refused, CarriesLine, JoinRefused, join-broken, root-bad, join-crowded, OppositeRefused, opposite-broken, opposite-bad, RefusedFor}
+use Rattle.calls.proofs.JoinRefusals.{join-refused-exactly, opposite-refused-exactly}
 use Rattle.calls.proofs.Refusals.{refused-exactly}
 
 -- what is accepted is not refused
@@ -115,8 +114,9 @@ join-refuses m o a b σ n line q =
 
 -- an opposite: '3, 4'
 opposite-refuses : (m : Limits) (a : ℤ) (σ : Store) (n line : ℕ) → verdictRead (oppositeRoot m σ a) ≡ refusal n line
-    → ((n ≡ 3) ⊎ (n ≡ 4)) × (line ≡ 0)
-opposite-refuses m a σ n line q = let w = read-refused (oppositeRoot m σ a) n line q in (opposite-numbers m σ a n (w .0), w .1)
+    → OppositeRefused m σ a n × (line ≡ 0)
+opposite-refuses m a σ n line q =
+    let w = read-refused (oppositeRoot m σ a) n line q in (opposite-refused-exactly m σ a n .0 (w .0), w .1)
 
 -- Every call is refused by a rule that is broken, and at the line that document 01 names.
 pub refused-for : (m : Limits) (c : Call) (σ : Store) (n line : ℕ) → leaves m c σ .verdict ≡ refusal n line → RefusedFor m c σ n line
@@ -166,11 +166,15 @@ line-carried c σ (nodes-refused H S L (text r a e k t i l)) = (λ h. tt, λ z. 
 line-carried c σ (nodes-refused H S L (binary r a e k)) = (λ h. omega arith, λ z. absurd z)
 line-carried c σ (nodes-refused H S L (unended r e w)) = (λ h. omega arith, λ z. absurd z)
 
--- the numbers of a join's
+-- the numbers of a join's, and of an opposite's
 join-number : {m : Limits} {o : Op} {σ : Store} {a b : ℤ} {n : ℕ} → JoinRefused m o σ a b n → RefusalNumber n
 join-number (join-broken w) = inl (omega arith)
 join-number (root-bad R w) = inl (omega arith)
 join-number (join-crowded Q w) = inr (inr (omega arith))
+
+opposite-number : {m : Limits} {σ : Store} {a : ℤ} {n : ℕ} → OppositeRefused m σ a n → RefusalNumber n
+opposite-number (opposite-broken w) = inl (omega arith)
+opposite-number (opposite-bad R w) = inl (omega arith)
 
 -- Document 01's numbers are all that a call is refused with.
 pub refusal-number : (m : Limits) (c : Call) (σ : Store) (n line : ℕ) → RefusedFor m c σ n line → RefusalNumber n
@@ -178,7 +182,7 @@ refusal-number m (load c) σ n line w = load-number c σ w
 refusal-number m (evaluate e s) σ n line w = ⊎-elim (λ z. inl (omega (arith, z))) (λ z. inl (omega (arith, z))) (w .0)
 refusal-number m (export x) σ n line w = ⊎-elim (λ z. inl (omega (arith, z))) (λ z. inl (omega (arith, z .0, z .1))) (w .0)
 refusal-number m (join o a b) σ n line w = join-number (w .0)
-refusal-number m (opposite a) σ n line w = ⊎-elim (λ z. inl (omega (arith, z))) (λ z. inl (omega (arith, z))) (w .0)
+refusal-number m (opposite a) σ n line w = opposite-number (w .0)
 
 -- 0 is none of them
 pub number-some : {n : ℕ} → RefusalNumber n → 1 ≤ n

@@ -102,10 +102,15 @@ pub data JoinRefused (m : Limits) (o : Op) (σ : Store) (a b : ℤ) : ℕ → Ty
   root-bad : Rules m σ → ((EdgeOf σ a × EdgeOf σ b) → ⊥) → JoinRefused m o σ a b 4
   join-crowded : Ready m σ a b → (JoinFits m o σ a b → ⊥) → JoinRefused m o σ a b 40
 
+-- How an opposite is refused, by the same rules: 3, then 4.
+pub data OppositeRefused (m : Limits) (σ : Store) (a : ℤ) : ℕ → Type 0 where
+  opposite-broken : (Rules m σ → ⊥) → OppositeRefused m σ a 3
+  opposite-bad : Rules m σ → (EdgeOf σ a → ⊥) → OppositeRefused m σ a 4
+
 -- how each call is refused: the line is 0 'in every call that reads no file'
 abbrev pub RefusedFor : Limits → Call → Store → ℕ → ℕ → Type 0
 RefusedFor m (load c) σ n line = LoadRefused m c σ n line
 RefusedFor m (evaluate e s) σ n line = ((n ≡ 3) ⊎ (n ≡ 4)) × (line ≡ 0)
 RefusedFor m (export x) σ n line = ((n ≡ 1) ⊎ ((3 ≤ n) × (n ≤ 6))) × (line ≡ 0)
 RefusedFor m (join o a b) σ n line = JoinRefused m o σ a b n × (line ≡ 0)
-RefusedFor m (opposite a) σ n line = ((n ≡ 3) ⊎ (n ≡ 4)) × (line ≡ 0)
+RefusedFor m (opposite a) σ n line = OppositeRefused m σ a n × (line ≡ 0)

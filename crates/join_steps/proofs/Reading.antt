@@ -2,13 +2,13 @@
 use mathlib.Core.Path.{_≡_, refl, sym, ap, ap₂, _∙_}
 use mathlib.Core.Bool.{Bool, true, false, cond}
 use mathlib.Core.List.{List, []}
-use Prim.Native.Nat.{ℕ, _-_, _≤_, _<_}
+use Prim.Native.Nat.{ℕ, _-_, _≤_}
 use native.Mathlib.Omega.{arith}
 use borrow.Author.Tests.{eqb-true, eqb-false, ltb-true, ltb-false, eq-eqb, ne-eqb, le-leb, lt-leb}
 use lib.Dec.{eqb, leb, ltb}
 use lib.ListN.{getD}
 use lib.IntN.{ℤ, pos, natAbs}
-use mir.Val.{SFits, toZ, ofZ}
+use mir.Val.{SFits}
 use mir.ValLaws.{toZ-ofZ}
 use Rattle.edges.specs.Edge.{IsEdge}
 use Rattle.edges.specs.Width.{edgeWidth}
@@ -17,9 +17,8 @@ use Rattle.store.specs.Store.{Store, slots, levelAt}
 use Rattle.store.specs.Rules.{depth}
 use Rattle.store.proofs.Meaning.{depth-node}
 use Rattle.joined.specs.Join.{through, child, side, top}
-use Rattle.joined.specs.declared.Pair.{Pair}
 use Rattle.join_steps.specs.declared.Sides.{Sides}
-use Rattle.join_steps.specs.Slots.{Slots, BothSides, SplitAsks, SidesPromise, SplitPromise}
+use Rattle.join_steps.specs.Slots.{BothSides, SplitAsks, SplitPromise}
 use Rattle.join_steps.proofs.Tests.{readBack, read-back, through-kept}
 
 -- the number of a node, as it is read

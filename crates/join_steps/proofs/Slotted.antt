@@ -1,12 +1,11 @@
 -- What the steps ask and promise of a store's lists, said of the store: where nodes lie, and what sides are, is a matter of these alone.
-use mathlib.Core.Path.{_≡_, sym, ap, ap₂, _∙_}
+use mathlib.Core.Path.{_≡_, sym, ap₂, _∙_}
 use mathlib.Core.Bool.{Bool, true, false, cond}
 use Prim.Native.Nat.{ℕ, _≤_}
 use native.Mathlib.Omega.{arith}
 use lib.Dec.{eqb, ltb}
 use lib.IntN.{ℤ, natAbs}
 use Rattle.codes.specs.Limits.{limits}
-use Rattle.edges.specs.Edge.{IsEdge}
 use Rattle.store.specs.Store.{Store, slots}
 use Rattle.store.specs.Rules.{depth, Rules}
 use Rattle.store.specs.Growth.{EdgeOf}

@@ -50,7 +50,7 @@ fn through(a: Edge, x: Edge) -> Edge
     }
 }
 
-// The and of two edges that needs no node: no where one is or they are opposites, else the one that isn't yes.
+// The and of two edges where it needs no node: no, where one of them is no or they are opposites; else the one that isn't yes.
 fn short_and(a: Edge, b: Edge) -> Edge
     requires { ⌜ IsEdge a × IsEdge b ⌝ }
     ensures { λ r. ⌜ r ≡ shortAnd a b ⌝ }
@@ -61,7 +61,8 @@ fn short_and(a: Edge, b: Edge) -> Edge
     if edges::same(a, 1) { b } else { a }
 }
 
-// Their exclusive or: no where they are one, yes where they are opposites, else one of them, turned over where the other is yes.
+// Their exclusive or: no where they are one edge, yes where they are opposites; else one of them leads to node 1, and the other is turned over where
+// that one is yes.
 fn short_xor(a: Edge, b: Edge) -> Edge
     requires { ⌜ IsEdge a × IsEdge b ⌝ }
     ensures { λ r. ⌜ r ≡ shortXor a b ⌝ }

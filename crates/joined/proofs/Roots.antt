@@ -1,7 +1,7 @@
 -- Two roots joined, and the opposite of one, as calls: what they are refused with, that a refusal leaves the store as it is, and what the root
 -- means otherwise.
 use mathlib.Core.Path.{_≡_, refl, sym, ap, subst, _∙_}
-use mathlib.Core.Logic.{_⊎_, inl, inr, _↔_}
+use mathlib.Core.Logic.{_↔_}
 use mathlib.Core.Bool.{Bool, true, false, not, cond, _&&_, true≢false}
 use Prim.Native.Nat.{ℕ}
 use lib.Dec.{leb}
@@ -82,14 +82,6 @@ module _ (m : Limits) (o : Op) (σ : Store) (a b : ℤ) where
       same : (k : ℕ) → _≡_ {A = Read ℤ} (refused k) (refused n) → refusedWith k σ ≡ refusedWith n σ
       same k q = ap (λ i. refusedWith i σ) (refused-one k n q)
 
-  -- 'Full stores and bad roots meet the existing refusals, in the order 3, 4, 40'
-  pub join-numbers : (n : ℕ) → joinRoots m o σ a b .answer ≡ refused n → (n ≡ 3) ⊎ ((n ≡ 4) ⊎ (n ≡ 40))
-  join-numbers n = join-cases (λ r. r .answer ≡ refused n → (n ≡ 3) ⊎ ((n ≡ 4) ⊎ (n ≡ 40)))
-      (λ w q. inl (sym (refused-one 3 n q)))
-      (λ R w q. inr (inl (sym (refused-one 4 n q))))
-      (λ Q. settled-cases (λ r. r .answer ≡ refused n → (n ≡ 3) ⊎ ((n ≡ 4) ⊎ (n ≡ 40))) σ (joinOf m o σ a b) (λ x p q. no-refusal n x q)
-      (λ k p q. inr (inr (sym (refused-one k n q) ∙ join-joined m o σ a b Q .only k p))))
-
   -- '40 only where those nodes don't fit'
   pub crowded-refused : Ready m σ a b → (n : ℕ) → settledJoin σ (joinOf m o σ a b) .answer ≡ refused n → (n ≡ 40) × (JoinFits m o σ a b → ⊥)
   crowded-refused Q n = settled-cases (λ r. r .answer ≡ refused n → (n ≡ 40) × (JoinFits m o σ a b → ⊥)) σ (joinOf m o σ a b)
@@ -148,7 +140,7 @@ pub record Opposite (m : Limits) (σ : Store) (a x : ℤ) : Type 0 where
   pub says : (s : Setting) → answer σ s x ≡ not (answer σ s a)
 
 module _ (m : Limits) (σ : Store) (a : ℤ) where
-  opposite-cases : (P : Read ℤ → Type 0) → ((Rules m σ → ⊥) → P (refused 3)) → (Rules m σ → (EdgeOf σ a → ⊥) → P (refused 4))
+  pub opposite-cases : (P : Read ℤ → Type 0) → ((Rules m σ → ⊥) → P (refused 3)) → (Rules m σ → (EdgeOf σ a → ⊥) → P (refused 4))
       → (Rules m σ → EdgeOf σ a → P (value (negℤ a))) → P (oppositeRoot m σ a)
   unfolding oppositeRoot
   opposite-cases P f g h = go (keeps m σ) (isRoot σ a) refl refl
@@ -157,11 +149,6 @@ module _ (m : Limits) (σ : Store) (a : ℤ) where
       go false r p q = f (keeps-false m σ p)
       go true false p q = g (keeps-true m σ p) (untrue (isRoot σ a) (edge-root σ a) q)
       go true true p q = h (keeps-true m σ p) (root-edge σ a q)
-
-  -- '3, 4'
-  pub opposite-numbers : (n : ℕ) → oppositeRoot m σ a ≡ refused n → (n ≡ 3) ⊎ (n ≡ 4)
-  opposite-numbers n = opposite-cases (λ r. r ≡ refused n → (n ≡ 3) ⊎ (n ≡ 4))
-      (λ w q. inl (sym (refused-one 3 n q))) (λ R w q. inr (sym (refused-one 4 n q))) (λ R E q. no-refusal n (negℤ a) q)
 
   -- 'another gives the opposite of one root'
   pub opposite-means : (x : ℤ) → oppositeRoot m σ a ≡ value x → Opposite m σ a x

@@ -19,11 +19,12 @@ pub record Apart (a b : ℤ) : Type 0 where
   pub left : natAbs a ≢ 1
   pub right : natAbs b ≢ 1
 
--- The and of edges that are near: no where one is or they are opposites, else the one that isn't yes.
+-- The and of edges that are near: no, where one of them is no or they are opposites; else the one that isn't yes.
 unfoldable pub shortAnd : ℤ → ℤ → ℤ
 shortAnd a b = cond (eqZ a (negsuc 0) || eqZ b (negsuc 0) || eqZ a (negℤ b)) (negsuc 0) (cond (eqZ a (pos 1)) b a)
 
--- Their exclusive or: no where they are one, yes where they are opposites, else one of them, turned over where the other is yes.
+-- Their exclusive or: no where they are one edge, yes where they are opposites; else one of them leads to node 1, and the other is turned over where
+-- that one is yes.
 unfoldable pub shortXor : ℤ → ℤ → ℤ
 shortXor a b =
     cond (eqZ a b) (negsuc 0) (cond (eqZ a (negℤ b)) (pos 1) (cond (eqb (natAbs a) 1) (through a (negℤ b)) (through b (negℤ a))))

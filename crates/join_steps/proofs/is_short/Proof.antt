@@ -1,6 +1,6 @@
 -- `is_short` meets its contract: the three tests are those of its definition.
 use mathlib.Core.Path.{ap₂}
-use mathlib.Core.Bool.{Bool, _||_}
+use mathlib.Core.Bool.{_||_}
 use Prim.Native.Nat.{ℕ}
 use borrow.Author.Needs.{needs}
 use lib.Dec.{eqb}

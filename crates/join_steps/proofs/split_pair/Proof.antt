@@ -1,5 +1,4 @@
 -- `split_pair` meets its contract: the level, and the sides of both edges there.
-use mathlib.Core.Path.{_∙_}
 use borrow.Author.Needs.{needs}
 use Rattle.join_steps.proofs.Reading.{split-read}
 use Rattle.join_steps.proofs.split_pair.Statement.{statement}

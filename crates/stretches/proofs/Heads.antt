@@ -10,8 +10,8 @@ use Rattle.store.specs.Store.{Store, store, slots}
 use Rattle.store.specs.Rules.{bucket, Chains}
 use Rattle.store.proofs.Chain.{newest, chains-linked, bucket-small, newest-le, newest-own, newest-gap}
 use Rattle.unique_table.specs.Index.{AllAlone}
-use Rattle.stretches.specs.Chained.{linkedSlots, Chained, LikeNoOlder, ChainAlone}
-use Rattle.stretches.proofs.Steps.{slots-fall}
+use Rattle.stretch.specs.Chained.{linkedSlots, Chained, LikeNoOlder, ChainAlone}
+use Rattle.stretch.proofs.Steps.{slots-fall}
 
 -- n is the newest node of bucket b, or 0
 pub record Newest (σ : Store) (b n : ℕ) : Type 0 where

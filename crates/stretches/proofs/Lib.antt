@@ -1,5 +1,1 @@
-pub mod Steps
-pub mod Passed
-pub mod Copying
-pub mod Stretched
 pub mod Heads

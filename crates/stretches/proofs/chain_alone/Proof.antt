@@ -9,9 +9,9 @@ use lib.ListN.{length, drop}
 use lib.Seq.{length-take-le, length-front}
 use Rattle.store.specs.Store.{Store, slots}
 use Rattle.store.specs.Keeps.{says-yes, says-no}
-use Rattle.stretches.specs.Chained.{stretchSlots, linkedSlots, Chained, Copied, LikeNoOlder}
-use Rattle.stretches.proofs.Passed.{PassedBy, passed-start, passed-end, passed-here}
-use Rattle.stretches.proofs.Stretched.{stretch-sound, stretch-passed, stretch-chained, stretch-lower}
+use Rattle.stretch.specs.Chained.{stretchSlots, linkedSlots, Chained, Copied, LikeNoOlder}
+use Rattle.stretch.proofs.Passed.{PassedBy, passed-start, passed-end, passed-here}
+use Rattle.stretch.proofs.Stretched.{stretch-sound, stretch-passed, stretch-chained, stretch-lower}
 use Rattle.stretches.proofs.chain_alone.Statement.{statement}
 use Rattle.stretches.proofs.chain_alone.Tie as tie
 

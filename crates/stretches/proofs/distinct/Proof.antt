@@ -6,7 +6,7 @@ use borrow.Author.Tests.{not-true, not-false}
 use lib.ListN.{length, getD, length-replicate}
 use Rattle.store.specs.Store.{Store}
 use Rattle.store.specs.Keeps.{says-yes, says-no}
-use Rattle.stretches.specs.Chained.{stretchEntries, linkedSlots, Chained}
+use Rattle.stretch.specs.Chained.{stretchEntries, linkedSlots, Chained}
 use Rattle.stretches.proofs.Heads.{Newest, BucketsAlone, buckets-more, buckets-all, head-newest, head-chained, all-chain}
 use Rattle.stretches.proofs.distinct.Statement.{statement}
 use Rattle.stretches.proofs.distinct.Tie as tie

@@ -8,7 +8,7 @@ use lib.IntN.{ℤ}
 use Rattle.store.specs.Store.{Store, store, nextAt}
 use Rattle.store.specs.Rules.{bucket}
 use Rattle.store.proofs.Chain.{Linked, newest-le, newest-own, newest-gap}
-use Rattle.stretches.specs.Chained.{linkedSlots, ChainsDescend, Chained, nodeAfter, metAfter}
+use Rattle.stretch.specs.Chained.{linkedSlots, ChainsDescend, Chained, nodeAfter, metAfter}
 
 -- chains that hold just their buckets, newest first, fall so
 linked-falls : (σ : Store) → Linked σ → ChainsDescend σ

@@ -12,9 +12,9 @@ use Rattle.store.specs.Rules.{AlikeNodes, bucket}
 use Rattle.store.specs.Keeps.{Decides}
 use Rattle.store.proofs.Find.{holds-true, true-holds}
 use Rattle.unique_table.specs.Index.{Indexed, Sought, AllAlone}
-use Rattle.stretches.specs.Chained.{Chained, metAfter, SameNode, Copied, LikeNone, LikeNoOlder, NoneLike, ChainAlone}
-use Rattle.stretches.proofs.Steps.{met-is, met-chained, met-lower, met-under, met-all}
-use Rattle.stretches.proofs.Passed.{PassedBy, passed-on}
+use Rattle.stretch.specs.Chained.{Chained, metAfter, SameNode, Copied, LikeNone, LikeNoOlder, NoneLike, ChainAlone}
+use Rattle.stretch.proofs.Steps.{met-is, met-chained, met-lower, met-under, met-all}
+use Rattle.stretch.proofs.Passed.{PassedBy, passed-on}
 
 -- an index that was cleared
 pub zeros-again : (xs ys : List ℕ) → xs ≡ replicate (length ys) 0 → (xs ≡ replicate (length xs) 0) × (length xs ≡ length ys)

@@ -7,11 +7,11 @@ use mir.ValLaws.{toZ-ofZ}
 use Rattle.store.specs.Store.{Store, slots, levelAt, thenAt, elseAt}
 use Rattle.store.specs.Keeps.{says-yes, says-no}
 use Rattle.unique_table.specs.Index.{Sought}
-use Rattle.stretches.specs.Chained.{linkedSlots, LikeNone}
-use Rattle.stretches.proofs.Passed.{PassedBy, passed-start, passed-one, passed-end, passed-node}
-use Rattle.stretches.proofs.Stretched.{sought-none, sought-like}
-use Rattle.stretches.proofs.none_like.Statement.{statement}
-use Rattle.stretches.proofs.none_like.Tie as tie
+use Rattle.stretch.specs.Chained.{linkedSlots, LikeNone}
+use Rattle.stretch.proofs.Passed.{PassedBy, passed-start, passed-one, passed-end, passed-node}
+use Rattle.stretch.proofs.Stretched.{sought-none, sought-like}
+use Rattle.stretch.proofs.none_like.Statement.{statement}
+use Rattle.stretch.proofs.none_like.Tie as tie
 
 abbrev Inv-loop : tie.InvT-loop
 Inv-loop index width last levels thens elses count level then els next n at₀ at =

@@ -5,8 +5,8 @@ use native.Mathlib.Omega.{arith}
 use native.Mathlib.Decide.{decLt}
 use Rattle.store.specs.Store.{Store, nextAt}
 use Rattle.store.specs.Rules.{bucket}
-use Rattle.stretches.specs.Chained.{Chained, metAfter, EachOn}
-use Rattle.stretches.proofs.Steps.{after-node, met-is, met-chained, met-under, met-all}
+use Rattle.stretch.specs.Chained.{Chained, metAfter, EachOn}
+use Rattle.stretch.proofs.Steps.{after-node, met-is, met-chained, met-under, met-all}
 
 -- A walk from s on has come to n.
 pub record PassedBy (σ : Store) (s : ℕ) (P : ℕ → Type 0) (n : ℕ) : Type 0 where

@@ -8,10 +8,10 @@ use borrow.Author.Tests.{ltb-true, ltb-false}
 use Rattle.edges.specs.Width.{edgeWidth}
 use mir.ValLaws.{toZ-ofZ}
 use Rattle.store.specs.Store.{Store, thenAt, elseAt}
-use Rattle.stretches.specs.Chained.{stretchSlots, linkedSlots}
-use Rattle.stretches.proofs.Copying.{Copying, copying-start, copying-more, copying-two}
-use Rattle.stretches.proofs.copy_stretch.Statement.{statement}
-use Rattle.stretches.proofs.copy_stretch.Tie as tie
+use Rattle.stretch.specs.Chained.{stretchSlots, linkedSlots}
+use Rattle.stretch.proofs.Copying.{Copying, copying-start, copying-more, copying-two}
+use Rattle.stretch.proofs.copy_stretch.Statement.{statement}
+use Rattle.stretch.proofs.copy_stretch.Tie as tie
 
 abbrev Inv-loop : tie.InvT-loop
 Inv-loop count level then els next n levels₀ thens₀ elses₀ c₀ at₀ levels thens elses c at =

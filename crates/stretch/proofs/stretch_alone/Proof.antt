@@ -3,9 +3,9 @@ use native.Mathlib.Omega.{arith}
 use borrow.Author.Needs.{needs}
 use borrow.Author.Tests.{eqb-true, not-true, not-false}
 use Rattle.store.specs.Keeps.{says-yes, says-no}
-use Rattle.stretches.proofs.Stretched.{zeros-again, also-decides}
-use Rattle.stretches.proofs.stretch_alone.Statement.{statement}
-use Rattle.stretches.proofs.stretch_alone.Tie as tie
+use Rattle.stretch.proofs.Stretched.{zeros-again, also-decides}
+use Rattle.stretch.proofs.stretch_alone.Statement.{statement}
+use Rattle.stretch.proofs.stretch_alone.Tie as tie
 
 -- places of the course
 abbrev at-start : tie.After-distinct → tie.Start

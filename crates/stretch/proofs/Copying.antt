@@ -8,8 +8,8 @@ use lib.ListN.{length, set, length-set}
 use lib.Seq.{getD-set-same, getD-set-other}
 use lib.IntN.{ℤ, pos}
 use Rattle.store.specs.Store.{Store, slots, levelAt, thenAt, elseAt, nextAt}
-use Rattle.stretches.specs.Chained.{stretchSlots, Chained, metAfter, SameNode, Copied}
-use Rattle.stretches.proofs.Steps.{after-node, met-is}
+use Rattle.stretch.specs.Chained.{stretchSlots, Chained, metAfter, SameNode, Copied}
+use Rattle.stretch.proofs.Steps.{after-node, met-is}
 
 -- the slots below c are filled, and the walk has come to `at`
 pub record Copying (σ : Store) (n : ℕ) (lv : List ℕ) (tv ev : List ℤ) (c at : ℕ) : Type 0 where

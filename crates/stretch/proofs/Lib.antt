@@ -1,0 +1,4 @@
+pub mod Steps
+pub mod Passed
+pub mod Copying
+pub mod Stretched

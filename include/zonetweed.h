@@ -112,7 +112,7 @@ enum zt_refusal {
     ZT_NOT_A_NUMBER = 14,    /* a single number has a foreign character or no digit */
     ZT_TOO_LARGE = 15,       /* a number is too large */
     ZT_FOREIGN = 16,         /* a list has a foreign character */
-    ZT_MISPLACED_MINUS = 17, /* a second minus, or a minus after a digit */
+    ZT_MISPLACED_MINUS = 17, /* a second minus, a minus after a digit, or one without its digit */
     ZT_NOT_UTF8 = 18,        /* a name or the `.dd` value isn't UTF-8 */
     ZT_OVER_LIMIT = 19,      /* over a limit; line 0 for `.nvars`, `.nnodes` and the input's length */
 

@@ -39,7 +39,7 @@ pub const TOO_LARGE: u8 = 15;
 // A list has a foreign character.
 pub const FOREIGN: u8 = 16;
 
-// A second minus, or a minus after a digit.
+// A second minus, a minus after a digit, or one without its digit.
 pub const MISPLACED_MINUS: u8 = 17;
 
 // A name or the `.dd` value isn't UTF-8.

@@ -16,7 +16,7 @@ use Rattle.read_lines.specs.Line.{isOf, seek, trim, feedAt, lineOf, keyEnd, val
 use Rattle.read_numbers.specs.Number.{digit, number, single, first}
 use Rattle.read_lists.specs.Lists.{judge, u32List}
 use Rattle.read_lines.specs.Words.{wordsFrom, words}
-use Rattle.read_edges.specs.Edges.{entryStep, edgeAt, edgeEnd, edgeList, children}
+use Rattle.read_edges.specs.Edges.{entryBytes, edgeList, children}
 use Rattle.read_text.specs.Text.{utf8Next, isUtf8, nameList, textAt}
 use Rattle.read_text.specs.Alike.{alike}
 use Rattle.header_keys.specs.Keys.{lookup, keyOf}
@@ -81,7 +81,7 @@ bare-breaks =
 
 -- with one it is accepted
 bare-header : headerBy bareLoad true .answer ≡ head.header bareHeader
-unfolding run isBlank isLineEnd isOf seek trim feedAt lineOf keyEnd fieldOf single judge u32List wordsFrom words edgeEnd edgeList isUtf8 nameList textAt alike lookup keyOf linesFrom linesOf endFrom endOf allOf lastFrom lastOf lasts ascending lastBelow idsFit allBelow distinct permidsFit rootsFault numberIn asciiIn varinfoIn ddIn u32sIn namesIn rootsIn agree firstFault numberFaults supportFaults nameCountFaults nameFaults rootFaults wholeFault tableOf readOf head.lengthFault atLeast head.listsFault head.loadHeader
+unfolding run isBlank isLineEnd isOf seek trim feedAt lineOf keyEnd fieldOf single judge u32List wordsFrom words edgeList isUtf8 nameList textAt alike lookup keyOf linesFrom linesOf endFrom endOf allOf lastFrom lastOf lasts ascending lastBelow idsFit allBelow distinct permidsFit rootsFault numberIn asciiIn varinfoIn ddIn u32sIn namesIn rootsIn agree firstFault numberFaults supportFaults nameCountFaults nameFaults rootFaults wholeFault tableOf readOf head.lengthFault atLeast head.listsFault head.loadHeader
 bare-header = refl
 
 bare-passes : Passes limits bareLoad (empty 0 1) bareHeader
@@ -98,7 +98,7 @@ bare-loads = ap (λ r. r .answer) (passes-load limits bareLoad (empty 0 1) bareH
 
 -- the header of document 01's example
 example-header : headerBy exampleLoad true ≡ exampleLoaded
-unfolding run isBlank isDigit isLineEnd isOf seek trim feedAt lineOf keyEnd valueStart valueEnd fieldOf digit number single judge u32List wordsFrom words entryStep edgeAt edgeEnd edgeList utf8Next isUtf8 nameList textAt alike lookup keyOf versionFault modeFault varinfoFault textFault singleFault u32ListFault rootListFault nameListFault faultOf linesFrom linesOf endFrom endOf allOf lastFrom lastOf lasts seatOf ascending lastBelow idsFit allBelow distinct permidsFit orderFrom supportOrder places sameBytes sameName sameNames chosenPlaces freeFrom orderedFrom orderedSeats suppFrom suppSeats variableNames rootsFault spans numberIn asciiIn varinfoIn ddIn u32sIn namesIn rootsIn upFrom agree variableNamesIn firstFault numberFaults supportFaults nameCountFaults nameFaults rootFaults wholeFault tableOf readOf head.lengthFault atLeast head.listsFault head.loadHeader
+unfolding run isBlank isDigit isLineEnd isOf seek trim feedAt lineOf keyEnd valueStart valueEnd fieldOf digit number single judge u32List wordsFrom words entryBytes edgeList utf8Next isUtf8 nameList textAt alike lookup keyOf versionFault modeFault varinfoFault textFault singleFault u32ListFault rootListFault nameListFault faultOf linesFrom linesOf endFrom endOf allOf lastFrom lastOf lasts seatOf ascending lastBelow idsFit allBelow distinct permidsFit orderFrom supportOrder places sameBytes sameName sameNames chosenPlaces freeFrom orderedFrom orderedSeats suppFrom suppSeats variableNames rootsFault spans numberIn asciiIn varinfoIn ddIn u32sIn namesIn rootsIn upFrom agree variableNamesIn firstFault numberFaults supportFaults nameCountFaults nameFaults rootFaults wholeFault tableOf readOf head.lengthFault atLeast head.listsFault head.loadHeader
 example-header = refl
 
 example-read : (σ : Store) → keeps limits σ ≡ true → headerOf limits exampleLoad σ ≡ exampleLoaded
@@ -106,7 +106,7 @@ example-read σ q = header-by exampleLoad σ q ∙ example-header
 
 -- it is accepted where there is a slot for each of its nodes
 example-passes : Passes limits exampleLoad (empty 2 3) exampleHeader
-unfolding run isBlank isDigit isLineEnd isWhitespace isOf seek trim feedAt lineOf digit number single first wordsFrom words entryStep edgeAt edgeEnd edgeList children alike ascending lastBelow idsFit deeper childFault decodeFrom wordFrom numbered afterExtra variableWord textLine textLineAt minus eqZ empty findUpTo find added insert make edgeFor addLine buildOn build lineBy linesIn linesAnswer blankAll endsWell importOf listFits beforeNodes scratchFault listFault firstFault
+unfolding run isBlank isDigit isLineEnd isWhitespace isOf seek trim feedAt lineOf digit number single first wordsFrom words entryBytes judge edgeList children alike ascending lastBelow idsFit deeper childFault decodeFrom wordFrom numbered afterExtra variableWord textLine textLineAt minus eqZ empty findUpTo find added insert make edgeFor addLine buildOn build lineBy linesIn linesAnswer blankAll endsWell importOf listFits beforeNodes scratchFault listFault firstFault
 example-passes = record {
   header-read = ap (λ r. r .answer) (example-read (empty 2 3) (kept 2 3 (omega arith) (omega arith)));
   unrefused = refl;
@@ -119,7 +119,7 @@ example-loads = ap (λ r. r .answer) (passes-load limits exampleLoad (empty 2 3)
 
 -- its roots, in an empty store, are 3 and -3
 pub example-roots : loadOf limits exampleLoad (empty 2 3) .roots ≡ pos 3 ∷ negsuc 2 ∷ replicate 1022 (pos 0)
-unfolding run isBlank isDigit isLineEnd isWhitespace isOf seek trim feedAt lineOf digit number single first wordsFrom words entryStep edgeAt edgeEnd edgeList children alike ascending lastBelow idsFit deeper childFault decodeFrom wordFrom numbered afterExtra variableWord textLine textLineAt minus eqZ empty findUpTo find added insert make edgeFor addLine buildOn build lineBy linesIn linesAnswer blankAll endsWell importOf listFits beforeNodes scratchFault listFault firstFault laid
+unfolding run isBlank isDigit isLineEnd isWhitespace isOf seek trim feedAt lineOf digit number single first wordsFrom words entryBytes judge edgeList children alike ascending lastBelow idsFit deeper childFault decodeFrom wordFrom numbered afterExtra variableWord textLine textLineAt minus eqZ empty findUpTo find added insert make edgeFor addLine buildOn build lineBy linesIn linesAnswer blankAll endsWell importOf listFits beforeNodes scratchFault listFault firstFault laid
 example-roots =
     ap (λ r. r .roots) (passes-load limits exampleLoad (empty 2 3) exampleHeader example-passes)
     ∙ ap
@@ -129,7 +129,7 @@ example-roots =
 -- its lines, and the numbers of its roots
 example-lines : linesIn (setupOf exampleLoad 2 exampleHeader) (exampleLoad .file) 192 .lines
     ≡ terminal ∷ inner 1 (pos 1) (negsuc 0) ∷ inner 0 (pos 2) (negsuc 0) ∷ []
-unfolding run isBlank isDigit isLineEnd isOf seek trim feedAt lineOf digit number single first wordsFrom words entryStep edgeAt edgeEnd edgeList children deeper childFault decodeFrom wordFrom numbered afterExtra variableWord textLine textLineAt minus eqZ lineBy linesIn alike
+unfolding run isBlank isDigit isLineEnd isOf seek trim feedAt lineOf digit number single first wordsFrom words entryBytes judge edgeList children deeper childFault decodeFrom wordFrom numbered afterExtra variableWord textLine textLineAt minus eqZ lineBy linesIn alike
 example-lines = refl
 
 pub example-ids : rootsOf (exampleLoad .file) ≡ pos 3 ∷ negsuc 2 ∷ []
@@ -170,7 +170,7 @@ level-missing s = refl
 
 -- with a slot less it is refused with 40
 pub example-crowded : loadOf limits exampleLoad (empty 2 2) ≡ refusedAt exampleLoad (empty 2 2) 40 0
-unfolding run isBlank isDigit isLineEnd isWhitespace isOf seek trim feedAt lineOf digit number single first wordsFrom words entryStep edgeAt edgeEnd edgeList children alike ascending lastBelow idsFit deeper childFault decodeFrom wordFrom numbered afterExtra variableWord textLine textLineAt minus eqZ empty findUpTo find added insert make edgeFor addLine buildOn build lineBy linesIn linesAnswer blankAll endsWell importOf listFits beforeNodes scratchFault listFault firstFault loadOf
+unfolding run isBlank isDigit isLineEnd isWhitespace isOf seek trim feedAt lineOf digit number single first wordsFrom words entryBytes judge edgeList children alike ascending lastBelow idsFit deeper childFault decodeFrom wordFrom numbered afterExtra variableWord textLine textLineAt minus eqZ empty findUpTo find added insert make edgeFor addLine buildOn build lineBy linesIn linesAnswer blankAll endsWell importOf listFits beforeNodes scratchFault listFault firstFault loadOf
 example-crowded =
     load-refused limits exampleLoad (empty 2 2) 40 0
     (ap (λ a. withHeader limits exampleLoad (empty 2 2) a .answer)
@@ -188,7 +188,7 @@ filled-kept =
     rules-keeps limits filled (subst (Rules limits) after-filled (roots-answer limits exampleLoad (empty 2 3) exampleHeader example-loads .rules))
 
 again-passes : Passes limits exampleLoad filled exampleHeader
-unfolding run isBlank isDigit isLineEnd isWhitespace isOf seek trim feedAt lineOf digit number single first wordsFrom words entryStep edgeAt edgeEnd edgeList children alike ascending lastBelow idsFit deeper childFault decodeFrom wordFrom numbered afterExtra variableWord textLine textLineAt minus eqZ empty findUpTo find added insert make edgeFor addLine buildOn build lineBy linesIn linesAnswer blankAll endsWell importOf listFits beforeNodes scratchFault listFault firstFault
+unfolding run isBlank isDigit isLineEnd isWhitespace isOf seek trim feedAt lineOf digit number single first wordsFrom words entryBytes judge edgeList children alike ascending lastBelow idsFit deeper childFault decodeFrom wordFrom numbered afterExtra variableWord textLine textLineAt minus eqZ empty findUpTo find added insert make edgeFor addLine buildOn build lineBy linesIn linesAnswer blankAll endsWell importOf listFits beforeNodes scratchFault listFault firstFault
 again-passes = record {
   header-read = ap (λ r. r .answer) (example-read filled filled-kept);
   unrefused = refl;

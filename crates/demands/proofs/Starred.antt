@@ -14,7 +14,7 @@ use Rattle.read_lines.specs.Line.{isOf, seek, trim, feedAt, lineOf, keyEnd, val
 use Rattle.read_numbers.specs.Number.{digit, number, single, first}
 use Rattle.read_lists.specs.Lists.{judge, u32List}
 use Rattle.read_lines.specs.Words.{wordsFrom, words}
-use Rattle.read_edges.specs.Edges.{entryStep, edgeAt, edgeEnd, edgeList, children}
+use Rattle.read_edges.specs.Edges.{entryBytes, edgeList, children}
 use Rattle.read_text.specs.Text.{isUtf8, nameList, textAt}
 use Rattle.read_binary.specs.Binary.{meant, byteAt, groupsFrom, numberAt}
 use Rattle.writers.specs.Binary.{escaped, escapedAll, groupsBy, groups, sevenBit}
@@ -72,20 +72,20 @@ lines = terminal ∷ inner 1 (pos 1) (negsuc 0) ∷ inner 0 (pos 2) (negsuc 0) �
 
 -- so numbered as an export numbers them, they have the lines of the text
 lines-again : linesFor (exampleLeft .after) (numbering (exampleLeft .after) exampleRoots) ≡ lines
-unfolding run isBlank isDigit isLineEnd isWhitespace isOf seek trim feedAt lineOf digit number single first wordsFrom words entryStep edgeAt edgeEnd edgeList children alike ascending lastBelow idsFit deeper childFault decodeFrom wordFrom numbered afterExtra variableWord textLine textLineAt minus eqZ empty findUpTo find added insert make edgeFor addLine buildOn build lineBy linesIn linesAnswer blankAll endsWell importOf seatOf walkBy walk without firstOnes firstMet atDepth deepestFirst numbering supportFrom renumbered lineOfNode linesFor
+unfolding run isBlank isDigit isLineEnd isWhitespace isOf seek trim feedAt lineOf digit number single first wordsFrom words entryBytes judge edgeList children alike ascending lastBelow idsFit deeper childFault decodeFrom wordFrom numbered afterExtra variableWord textLine textLineAt minus eqZ empty findUpTo find added insert make edgeFor addLine buildOn build lineBy linesIn linesAnswer blankAll endsWell importOf seatOf walkBy walk without firstOnes firstMet atDepth deepestFirst numbering supportFrom renumbered lineOfNode linesFor
 lines-again =
     ap (λ rs. linesFor (exampleLeft .after) (numbering (exampleLeft .after) rs)) two-roots
     ∙ ap (λ σ. linesFor σ (numbering σ (pos 3 ∷ negsuc 2 ∷ []))) left-by-nodes
 
 -- their lines as text and in binary, written and read
 those-nodes : ThoseNodes lines (0x00 ∷ 0x00 ∷ 0x24 ∷ 0x02 ∷ 0x7c ∷ [])
-unfolding run isBlank isDigit isLineEnd isOf seek trim feedAt lineOf digit number single first wordsFrom words entryStep edgeAt edgeEnd edgeList children deeper childFault decodeFrom wordFrom numbered afterExtra variableWord textLine textLineAt lineBy linesIn minus escaped escapedAll groupsBy groups sevenBit childCode variableCode innerBytes binBytes encodeFrom nodeBytes codeOf byteAt meant groupsFrom numberAt idAt childAt variableAt binLineAt alike
+unfolding run isBlank isDigit isLineEnd isOf seek trim feedAt lineOf digit number single first wordsFrom words entryBytes judge edgeList children deeper childFault decodeFrom wordFrom numbered afterExtra variableWord textLine textLineAt lineBy linesIn minus escaped escapedAll groupsBy groups sevenBit childCode variableCode innerBytes binBytes encodeFrom nodeBytes codeOf byteAt meant groupsFrom numberAt idAt childAt variableAt binLineAt alike
 those-nodes = record { accepted = example-loads; of-text = refl; of-store = lines-again; written = refl; read = refl }
 
 -- the headers of the files with the ids 0 and 2
 headers : (headerBy threeVariables true .answer ≡ head.header threeHeader)
     × ((headerBy threeVariables true .ids ≡ 0 ∷ 2 ∷ []) × (headerBy twoVariables true .answer ≡ head.refusal 22 0))
-unfolding run isBlank isDigit isLineEnd isOf seek trim feedAt lineOf keyEnd valueStart valueEnd fieldOf digit number single judge u32List wordsFrom words edgeEnd edgeList isUtf8 nameList textAt alike lookup keyOf singleFault u32ListFault faultOf linesFrom linesOf endFrom endOf allOf lastFrom lastOf lasts seatOf ascending lastBelow idsFit allBelow distinct permidsFit rootsFault spans numberIn asciiIn varinfoIn ddIn u32sIn namesIn rootsIn agree firstFault numberFaults supportFaults nameCountFaults nameFaults rootFaults wholeFault tableOf readOf head.lengthFault atLeast head.listsFault head.loadHeader
+unfolding run isBlank isDigit isLineEnd isOf seek trim feedAt lineOf keyEnd valueStart valueEnd fieldOf digit number single judge u32List wordsFrom words edgeList isUtf8 nameList textAt alike lookup keyOf singleFault u32ListFault faultOf linesFrom linesOf endFrom endOf allOf lastFrom lastOf lasts seatOf ascending lastBelow idsFit allBelow distinct permidsFit rootsFault spans numberIn asciiIn varinfoIn ddIn u32sIn namesIn rootsIn agree firstFault numberFaults supportFaults nameCountFaults nameFaults rootFaults wholeFault tableOf readOf head.lengthFault atLeast head.listsFault head.loadHeader
 headers = (refl, (refl, refl))
 
 -- each in an empty store with one slot, which keeps the rules
@@ -121,5 +121,5 @@ two-loads = (two-refused, ap (λ r. r .ids) (load-refused limits twoVariables (e
 
 -- All starred cases of document 01.
 pub starred-holds : AllRows starred
-unfolding run isBlank isDigit entryStep edgeAt edgeEnd edgeList escaped escapedAll groupsBy groups sevenBit meant byteAt groupsFrom numberAt
+unfolding run isBlank isDigit digit number wordsFrom words judge entryBytes edgeList escaped escapedAll groupsBy groups sevenBit meant byteAt groupsFrom numberAt
 starred-holds = (those-nodes, ((refl, refl), ((refl, refl), ((refl, refl), ((refl, refl), (refl, (refl, (refl, (refl, (refl, (three-loads, (two-loads, ((refl, refl), tt)))))))))))))

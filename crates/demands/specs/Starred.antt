@@ -1,11 +1,12 @@
--- The starred cases of document 01, 'Tried by hand', all in one table; proofs/Starred.antt proves every row.
+-- The starred cases of document 01, 'Tried by hand', all in one table, with the two that document 02, request 3, changes; proofs/Starred.antt
+-- proves every row.
 use Prim.Native.Nat.{ℕ}
 use mathlib.Core.Path.{_≡_}
 use mathlib.Core.Bool.{true, false}
 use mathlib.Core.List.{List, [], _∷_, _++_}
 use lib.ListN.{length, take, replicate}
 use lib.IntN.{ℤ, pos, negℤ}
-use Rattle.codes.specs.Answer.{value, refused, Step, got, fails}
+use Rattle.codes.specs.Answer.{refused, Step, got, fails}
 use Rattle.codes.specs.Limits.{limits, rootLimit}
 use Rattle.read_lists.specs.Lists.{Listed, listed}
 use Rattle.read_edges.specs.Edges.{edgeList}
@@ -110,10 +111,10 @@ starred =
     ∷ reads (0x01 ∷ 0x01 ∷ 0x02 ∷ []) (got 1 3)
     -- 03, nine times 01, 02: 38
     ∷ reads (0x03 ∷ (replicate 9 0x01 ++ (0x02 ∷ []))) (fails 38)
-    -- `- 5 7` reads -5, 7
-    ∷ roots (bytes "- 5 7") (listed (value 2) (negℤ (pos 5) ∷ pos 7 ∷ []))
-    -- `3 -` reads 3
-    ∷ roots (bytes "3 -") (listed (value 1) (pos 3 ∷ []))
+    -- `- 5 7`: 17, since request 3 of document 02
+    ∷ roots (bytes "- 5 7") (listed (refused 17) [])
+    -- `3 -`: 17, likewise
+    ∷ roots (bytes "3 -") (listed (refused 17) (pos 3 ∷ []))
     -- `3-`: 17
     ∷ roots (bytes "3-") (listed (refused 17) [])
     -- ids `0 2`, three variables: accepted

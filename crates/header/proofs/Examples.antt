@@ -6,7 +6,7 @@ use Rattle.read_lines.specs.Line.{isOf, seek, trim, feedAt, lineOf, keyEnd, val
 use Rattle.read_numbers.specs.Number.{digit, number, single}
 use Rattle.read_lists.specs.Lists.{judge, u32List}
 use Rattle.read_lines.specs.Words.{wordsFrom, words}
-use Rattle.read_edges.specs.Edges.{entryStep, edgeAt, edgeEnd, edgeList}
+use Rattle.read_edges.specs.Edges.{entryBytes, edgeList}
 use Rattle.read_text.specs.Text.{utf8Next, isUtf8, nameList, textAt}
 use Rattle.read_text.specs.Alike.{alike}
 use Rattle.header_keys.specs.Keys.{lookup, keyOf}
@@ -25,14 +25,14 @@ use Rattle.header.specs.Header.{tableOf, readOf, lengthFault, loadHeader
 use Rattle.header.specs.Examples.{loadedHead, exampleHead, exampleLoaded, starredHead, starredLoaded, AllHeaders, headRefusals}
 
 pub example-loads : loadedHead exampleHead ≡ exampleLoaded
-unfolding run isBlank isDigit isLineEnd isOf seek trim feedAt lineOf keyEnd valueStart valueEnd fieldOf digit number single judge u32List wordsFrom words entryStep edgeAt edgeEnd edgeList utf8Next isUtf8 nameList textAt alike lookup keyOf versionFault modeFault varinfoFault textFault singleFault u32ListFault rootListFault nameListFault faultOf linesFrom linesOf endFrom endOf allOf sound lastFrom lastOf lasts stepAt seatOf ascending lastBelow idsFit allBelow distinct permidsFit orderFrom supportOrder places sameBytes sameName sameNames chosenPlaces freeFrom orderedFrom orderedSeats suppFrom suppSeats variableNames rootsFault edgeOf spans numberIn asciiIn varinfoIn ddIn u32sIn namesIn rootsIn upFrom agree variableNamesIn firstFault numberFaults supportFaults nameCountFaults nameFaults rootFaults wholeFault tableOf readOf lengthFault loadHeader
+unfolding run isBlank isDigit isLineEnd isOf seek trim feedAt lineOf keyEnd valueStart valueEnd fieldOf digit number single judge u32List wordsFrom words entryBytes edgeList utf8Next isUtf8 nameList textAt alike lookup keyOf versionFault modeFault varinfoFault textFault singleFault u32ListFault rootListFault nameListFault faultOf linesFrom linesOf endFrom endOf allOf sound lastFrom lastOf lasts stepAt seatOf ascending lastBelow idsFit allBelow distinct permidsFit orderFrom supportOrder places sameBytes sameName sameNames chosenPlaces freeFrom orderedFrom orderedSeats suppFrom suppSeats variableNames rootsFault edgeOf spans numberIn asciiIn varinfoIn ddIn u32sIn namesIn rootsIn upFrom agree variableNamesIn firstFault numberFaults supportFaults nameCountFaults nameFaults rootFaults wholeFault tableOf readOf lengthFault loadHeader
 example-loads = refl
 
 pub starred-loads : loadedHead starredHead ≡ starredLoaded
-unfolding run isBlank isDigit isLineEnd isOf seek trim feedAt lineOf keyEnd valueStart valueEnd fieldOf digit number single judge u32List wordsFrom words entryStep edgeAt edgeEnd edgeList utf8Next isUtf8 nameList textAt alike lookup keyOf versionFault modeFault varinfoFault textFault singleFault u32ListFault rootListFault nameListFault faultOf linesFrom linesOf endFrom endOf allOf sound lastFrom lastOf lasts stepAt seatOf ascending lastBelow idsFit allBelow distinct permidsFit orderFrom supportOrder places sameBytes sameName sameNames chosenPlaces freeFrom orderedFrom orderedSeats suppFrom suppSeats variableNames rootsFault edgeOf spans numberIn asciiIn varinfoIn ddIn u32sIn namesIn rootsIn upFrom agree variableNamesIn firstFault numberFaults supportFaults nameCountFaults nameFaults rootFaults wholeFault tableOf readOf lengthFault loadHeader
+unfolding run isBlank isDigit isLineEnd isOf seek trim feedAt lineOf keyEnd valueStart valueEnd fieldOf digit number single judge u32List wordsFrom words entryBytes edgeList utf8Next isUtf8 nameList textAt alike lookup keyOf versionFault modeFault varinfoFault textFault singleFault u32ListFault rootListFault nameListFault faultOf linesFrom linesOf endFrom endOf allOf sound lastFrom lastOf lasts stepAt seatOf ascending lastBelow idsFit allBelow distinct permidsFit orderFrom supportOrder places sameBytes sameName sameNames chosenPlaces freeFrom orderedFrom orderedSeats suppFrom suppSeats variableNames rootsFault edgeOf spans numberIn asciiIn varinfoIn ddIn u32sIn namesIn rootsIn upFrom agree variableNamesIn firstFault numberFaults supportFaults nameCountFaults nameFaults rootFaults wholeFault tableOf readOf lengthFault loadHeader
 starred-loads = refl
 
 -- every row of the table holds
 pub refusals-hold : AllHeaders headRefusals
-unfolding run isBlank isDigit isLineEnd isOf seek trim feedAt lineOf keyEnd valueStart valueEnd fieldOf digit number single judge u32List wordsFrom words entryStep edgeAt edgeEnd edgeList utf8Next isUtf8 nameList textAt alike lookup keyOf versionFault modeFault varinfoFault textFault singleFault u32ListFault rootListFault nameListFault faultOf linesFrom linesOf endFrom endOf allOf sound lastFrom lastOf lasts stepAt seatOf ascending lastBelow idsFit allBelow distinct permidsFit orderFrom supportOrder places sameBytes sameName sameNames chosenPlaces freeFrom orderedFrom orderedSeats suppFrom suppSeats variableNames rootsFault edgeOf spans numberIn asciiIn varinfoIn ddIn u32sIn namesIn rootsIn upFrom agree variableNamesIn firstFault numberFaults supportFaults nameCountFaults nameFaults rootFaults wholeFault tableOf readOf lengthFault loadHeader
+unfolding run isBlank isDigit isLineEnd isOf seek trim feedAt lineOf keyEnd valueStart valueEnd fieldOf digit number single judge u32List wordsFrom words entryBytes edgeList utf8Next isUtf8 nameList textAt alike lookup keyOf versionFault modeFault varinfoFault textFault singleFault u32ListFault rootListFault nameListFault faultOf linesFrom linesOf endFrom endOf allOf sound lastFrom lastOf lasts stepAt seatOf ascending lastBelow idsFit allBelow distinct permidsFit orderFrom supportOrder places sameBytes sameName sameNames chosenPlaces freeFrom orderedFrom orderedSeats suppFrom suppSeats variableNames rootsFault edgeOf spans numberIn asciiIn varinfoIn ddIn u32sIn namesIn rootsIn upFrom agree variableNamesIn firstFault numberFaults supportFaults nameCountFaults nameFaults rootFaults wholeFault tableOf readOf lengthFault loadHeader
 refusals-hold = (refl, (refl, (refl, (refl, (refl, (refl, (refl, (refl, (refl, (refl, (refl, (refl, (refl, (refl, (refl, (refl, (refl, (refl, (refl, (refl, (refl, (refl, (refl, (refl, (refl, (refl, (refl, (refl, (refl, (refl, tt))))))))))))))))))))))))))))))

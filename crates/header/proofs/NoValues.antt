@@ -8,7 +8,7 @@ use Rattle.codes.specs.Machine.{run}
 use Rattle.read_numbers.specs.Number.{single}
 use Rattle.read_lines.specs.Words.{wordsFrom, words}
 use Rattle.read_lists.specs.Lists.{judge, u32List}
-use Rattle.read_edges.specs.Edges.{edgeEnd, edgeList}
+use Rattle.read_edges.specs.Edges.{edgeList}
 use Rattle.read_text.specs.Text.{nameList}
 use Rattle.header_lines.specs.Sweep.{Span, noSpan, keys}
 use Rattle.support.specs.Support.{orderFrom, supportOrder}
@@ -24,7 +24,7 @@ noValues = replicate keys noSpan
 
 -- it gives no lists
 pub no-lists : (f : List ℕ) (a : HeaderAnswer) → listsIn f noValues a ≡ nothing a
-unfolding numberIn single u32sIn u32List judge words wordsFrom namesIn nameList rootsIn edgeList edgeEnd run variableNamesIn variableNames supportOrder orderFrom
+unfolding numberIn single u32sIn u32List judge words wordsFrom namesIn nameList rootsIn edgeList run variableNamesIn variableNames supportOrder orderFrom
 no-lists f a = refl
 
 -- what the last phase leans on

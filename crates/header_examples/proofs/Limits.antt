@@ -12,7 +12,7 @@ use Rattle.read_lines.specs.Each.{Each, none, each}
 use Rattle.read_lines.specs.Words.{wordsFrom, words}
 use Rattle.read_numbers.specs.Number.{digit, number, single}
 use Rattle.read_lists.specs.Lists.{judge, u32List}
-use Rattle.read_edges.specs.Edges.{entryStep, edgeAt, edgeEnd, edgeList}
+use Rattle.read_edges.specs.Edges.{entryBytes, edgeList}
 use Rattle.read_text.specs.Text.{utf8Next, isUtf8, nameList}
 use Rattle.header_keys.specs.declared.Key.{Key}
 use Rattle.header_keys.specs.declared.Key.the-variants.{Nvars, Varnames, Ids, Rootids, Rootnames}
@@ -45,12 +45,12 @@ x-on-line = each (each refl none) none
 
 -- '4,096 entries in a variable list and 1,024 in a root list': 1,025 roots are over the limit,
 many-ones : (at : ℕ) → faultOf Rootids at (lineValue (onesLine Rootids 1025 [])) ≡ 19
-unfolding run isBlank isDigit isLineEnd wordsFrom words digit number single judge u32List entryStep edgeAt edgeEnd edgeList utf8Next isUtf8 nameList singleFault u32ListFault rootListFault nameListFault faultOf spaced withoutFront withoutBack trimmed lineValue
+unfolding run isBlank isDigit isLineEnd wordsFrom words digit number single judge u32List entryBytes edgeList utf8Next isUtf8 nameList singleFault u32ListFault rootListFault nameListFault faultOf spaced withoutFront withoutBack trimmed lineValue
 many-ones at = refl
 
 -- and 1,024 are not.
 pub most-ones : (at : ℕ) → faultOf Rootids at (lineValue (onesLine Rootids 1024 [])) ≡ 0
-unfolding run isBlank isDigit isLineEnd wordsFrom words digit number single judge u32List entryStep edgeAt edgeEnd edgeList utf8Next isUtf8 nameList singleFault u32ListFault rootListFault nameListFault faultOf spaced withoutFront withoutBack trimmed lineValue
+unfolding run isBlank isDigit isLineEnd wordsFrom words digit number single judge u32List entryBytes edgeList utf8Next isUtf8 nameList singleFault u32ListFault rootListFault nameListFault faultOf spaced withoutFront withoutBack trimmed lineValue
 most-ones at = refl
 
 -- `.nvars 1`
@@ -58,7 +58,7 @@ abbrev varsLine : HeaderLine
 varsLine = onesLine Nvars 1 []
 
 vars-faultless : Faultless varsLine
-unfolding run isBlank isDigit isLineEnd wordsFrom words digit number single judge u32List entryStep edgeAt edgeEnd edgeList utf8Next isUtf8 nameList singleFault u32ListFault rootListFault nameListFault faultOf spaced withoutFront withoutBack trimmed lineValue
+unfolding run isBlank isDigit isLineEnd wordsFrom words digit number single judge u32List entryBytes edgeList utf8Next isUtf8 nameList singleFault u32ListFault rootListFault nameListFault faultOf spaced withoutFront withoutBack trimmed lineValue
 vars-faultless at = refl
 
 -- '19 (added) over a limit', with its line: 1,025 roots on line 2 get it, whatever follows. So 'replaced lists' are 'counted too'.
@@ -70,7 +70,7 @@ many-roots rest =
 
 -- 'an entry's own fault before the count': behind 1,024 roots an `x` gets 16, though it is an entry over the limit,
 own-fault : (at : ℕ) → faultOf Rootids at (lineValue (onesLine Rootids 1024 (bytes "x" ∷ []))) ≡ 16
-unfolding run isBlank isDigit isLineEnd wordsFrom words digit number single judge u32List entryStep edgeAt edgeEnd edgeList utf8Next isUtf8 nameList singleFault u32ListFault rootListFault nameListFault faultOf spaced withoutFront withoutBack trimmed lineValue
+unfolding run isBlank isDigit isLineEnd wordsFrom words digit number single judge u32List entryBytes edgeList utf8Next isUtf8 nameList singleFault u32ListFault rootListFault nameListFault faultOf spaced withoutFront withoutBack trimmed lineValue
 own-fault at = refl
 
 pub own-fault-first : (rest : List ℕ) → readOf limits (startingWith [] (onesLine Rootids 1024 (bytes "x" ∷ [])) rest) ≡ refusal 16 1
@@ -80,7 +80,7 @@ own-fault-first rest =
 
 -- and behind 1,025 it isn't met: 'Entries of a line are judged left to right'.
 left-fault : (at : ℕ) → faultOf Rootids at (lineValue (onesLine Rootids 1025 (bytes "x" ∷ []))) ≡ 19
-unfolding run isBlank isDigit isLineEnd wordsFrom words digit number single judge u32List entryStep edgeAt edgeEnd edgeList utf8Next isUtf8 nameList singleFault u32ListFault rootListFault nameListFault faultOf spaced withoutFront withoutBack trimmed lineValue
+unfolding run isBlank isDigit isLineEnd wordsFrom words digit number single judge u32List entryBytes edgeList utf8Next isUtf8 nameList singleFault u32ListFault rootListFault nameListFault faultOf spaced withoutFront withoutBack trimmed lineValue
 left-fault at = refl
 
 pub left-first : (rest : List ℕ) → readOf limits (startingWith [] (onesLine Rootids 1025 (bytes "x" ∷ [])) rest) ≡ refusal 19 1
@@ -90,7 +90,7 @@ left-first rest =
 
 -- 1,025 names of roots get 19 too.
 many-names : (at : ℕ) → faultOf Rootnames at (lineValue (onesLine Rootnames 1025 [])) ≡ 19
-unfolding run isBlank isDigit isLineEnd wordsFrom words digit number single judge u32List entryStep edgeAt edgeEnd edgeList utf8Next isUtf8 nameList singleFault u32ListFault rootListFault nameListFault faultOf spaced withoutFront withoutBack trimmed lineValue
+unfolding run isBlank isDigit isLineEnd wordsFrom words digit number single judge u32List entryBytes edgeList utf8Next isUtf8 nameList singleFault u32ListFault rootListFault nameListFault faultOf spaced withoutFront withoutBack trimmed lineValue
 many-names at = refl
 
 pub many-names-refused : (rest : List ℕ) → readOf limits (startingWith [] (onesLine Rootnames 1025 []) rest) ≡ refusal 19 1
@@ -100,11 +100,11 @@ many-names-refused rest =
 
 -- 4,097 entries of a variable list are too many for the checker to compute with. The readers have their limit as a parameter: here it is 2,
 pub ids-over-two : (why (u32List 2 (bytes "7 8") .answer) ≡ 0) × (why (u32List 2 (bytes "7 8 9") .answer) ≡ 19)
-unfolding run isBlank isDigit isLineEnd wordsFrom words digit number single judge u32List entryStep edgeAt edgeEnd edgeList utf8Next isUtf8 nameList singleFault u32ListFault rootListFault nameListFault faultOf spaced withoutFront withoutBack trimmed lineValue
+unfolding run isBlank isDigit isLineEnd wordsFrom words digit number single judge u32List entryBytes edgeList utf8Next isUtf8 nameList singleFault u32ListFault rootListFault nameListFault faultOf spaced withoutFront withoutBack trimmed lineValue
 ids-over-two = (refl, refl)
 
 pub names-over-two : (why (nameList 2 0 (bytes "a b") .answer) ≡ 0) × (why (nameList 2 0 (bytes "a b c") .answer) ≡ 19)
-unfolding run isBlank isDigit isLineEnd wordsFrom words digit number single judge u32List entryStep edgeAt edgeEnd edgeList utf8Next isUtf8 nameList singleFault u32ListFault rootListFault nameListFault faultOf spaced withoutFront withoutBack trimmed lineValue
+unfolding run isBlank isDigit isLineEnd wordsFrom words digit number single judge u32List entryBytes edgeList utf8Next isUtf8 nameList singleFault u32ListFault rootListFault nameListFault faultOf spaced withoutFront withoutBack trimmed lineValue
 names-over-two = (refl, refl)
 
 -- and `.ids` and `.varnames` are read with 4,096 there.

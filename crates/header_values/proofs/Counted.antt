@@ -4,8 +4,7 @@ use mathlib.Core.Bool.{Bool, true, false}
 use mathlib.Core.List.{List, [], _∷_, _++_}
 use Prim.Native.Nat.{ℕ, _≤_}
 use native.Mathlib.Omega.{arith}
-use lib.ListN.{length, length-append}
-use lib.IntN.{ℤ}
+use lib.ListN.{length}
 use lib.Dec.{ltb}
 use borrow.Author.Tests.{ltb-true, ltb-false}
 use Rattle.codes.specs.Answer.{Read, value, refused}
@@ -13,13 +12,10 @@ use Rattle.codes.specs.Limits.{varLimit, rootLimit}
 use Rattle.read_lines.specs.Words.{Word, words}
 use Rattle.read_lists.specs.Lists.{Listed, listed, judged, judge, u32Of, u32List}
 use Rattle.read_text.specs.Text.{nameOf, nameList}
-use Rattle.read_edges.specs.Edges.{signed, edgeList}
+use Rattle.read_edges.specs.Edges.{entryOf, edgeList}
 use Rattle.read_lists.specs.Judged.{Judged, whole, fault, full}
-use Rattle.read_edges.specs.Signed.{EdgeAnswers, last, over, strange, second, inside, full-last}
-use Rattle.read_edges.specs.Signed as said
 use Rattle.read_lists.proofs.Another.{another-more, another-full}
 use Rattle.read_lists.proofs.Judged.{judge-judged}
-use Rattle.read_edges.proofs.SignedEntries.{edge-answers}
 use Rattle.header_lines.specs.Sweep.{Span}
 use Rattle.header_keys.specs.declared.Key.{Key}
 use Rattle.header_keys.specs.declared.Key.the-variants.{Rootids}
@@ -81,28 +77,6 @@ module _ {A : Type 0} (read : Word → Read A) (max : ℕ) where
   pub judge-most : (es : List A) (ws : List Word) → length es ≤ max → length (judge read max es ws .entries) ≤ max
   judge-most es ws h = judged-most (judge-judged read max es ws h)
 
--- an edge list has as many entries as its answer says,
-edges-count : {max : ℕ} {s : List ℕ} {r : Listed ℤ} {n : ℕ} → EdgeAnswers max s r → r .answer ≡ value n → length (r .entries) ≡ n
-edges-count (said.whole k h g i) e = value-one e
-edges-count (last k h g i) e = value-one e
-edges-count (over k h g p i) e = refused-none e
-edges-count (strange x r k h g d m b i) e = refused-none e
-edges-count (second r k h g i) e = refused-none e
-edges-count (inside r k h g i) e = refused-none e
-edges-count (said.full x r k h g b i) e = refused-none e
-edges-count (full-last k h g i) e = refused-none e
-
--- and no more than its limit
-edges-most : {max : ℕ} {s : List ℕ} {r : Listed ℤ} → EdgeAnswers max s r → length (r .entries) ≤ max
-edges-most (said.whole k h g i) = h
-edges-most (last {es = es} {negative = m} {v = v} k h g i) = omega (arith, length-append es (signed m v ∷ []))
-edges-most (over k h g p i) = h
-edges-most (strange x r k h g d m b i) = h
-edges-most (second r k h g i) = h
-edges-most (inside r k h g i) = h
-edges-most (said.full x r k h g b i) = omega arith
-edges-most (full-last k h g i) = omega arith
-
 module _ (max : ℕ) (s : List ℕ) where
   -- a list of numbers, of names, of edges has as many entries as its answer says,
   pub u32-count : Counts (u32List max s)
@@ -114,7 +88,8 @@ module _ (max : ℕ) (s : List ℕ) where
   name-count at = judge-count nameOf max [] (words at s)
 
   pub edge-count : Counts (edgeList max s)
-  edge-count = λ n e. edges-count (edge-answers max s) e
+  unfolding edgeList
+  edge-count = judge-count entryOf max [] (words 0 s)
 
   -- and no more than its limit
   pub u32-most : length (u32List max s .entries) ≤ max
@@ -126,7 +101,8 @@ module _ (max : ℕ) (s : List ℕ) where
   name-most at = judge-most nameOf max [] (words at s) (omega arith)
 
   pub edge-most : length (edgeList max s .entries) ≤ max
-  edge-most = edges-most (edge-answers max s)
+  unfolding edgeList
+  edge-most = judge-most entryOf max [] (words 0 s) (omega arith)
 
 module _ (f : List ℕ) (t : List Span) where
   -- so the lists of a header: as many entries as their answers say, none where they are missing,

@@ -14,7 +14,7 @@ use Rattle.read_lines.specs.Each.{Each}
 use Rattle.read_lines.specs.Words.{wordsFrom, words}
 use Rattle.read_numbers.specs.Number.{single}
 use Rattle.read_lists.specs.Lists.{Listed, listed, judge, u32List}
-use Rattle.read_edges.specs.Edges.{edgeEnd, edgeList}
+use Rattle.read_edges.specs.Edges.{edgeList}
 use Rattle.read_text.specs.Text.{Place, place, isUtf8, nameList, textAt}
 use Rattle.read_text.specs.Alike.{alike}
 use Rattle.header_faults.specs.Judge.{modeA, modeB}
@@ -89,7 +89,7 @@ module _ (f : List ℕ) where
   no-names max = refl
 
   no-roots : rootsAt noSpan ≡ []
-  unfolding edgeList edgeEnd run
+  unfolding edgeList judge words wordsFrom
   no-roots = refl
 
   -- of a sound value it is what is read

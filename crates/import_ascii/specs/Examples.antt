@@ -66,7 +66,7 @@ abbrev pub accepted : List TextRow
 accepted =
     row one (bytes "2 1 1 -1\n") (got (inner 1 (pos 1) (negsuc 0)) 9)
     ∷ row one (bytes "2 1 1 -1") (got (inner 1 (pos 1) (negsuc 0)) 8)
-    ∷ row one (bytes "  02\t1 1  - 1 \r\n3 0 2 -1\n") (got (inner 1 (pos 1) (negsuc 0)) 16)
+    ∷ row one (bytes "  02\t1 1  -1 \r\n3 0 2 -1\n") (got (inner 1 (pos 1) (negsuc 0)) 15)
     ∷ row one (bytes "2 T 0 0\n") (got terminal 8)
     ∷ row one (bytes "2 T 7 0\n") (got terminal 8)  -- the other child is parsed but unused
     ∷ row one (bytes "2 T -0 7\n") (got terminal 9)
@@ -86,6 +86,9 @@ textRefusals =
     ∷ row one (bytes "2 0 1 a\n") (fails 16)
     ∷ row one (bytes "2 0 1 --1\n") (fails 17)
     ∷ row one (bytes "2 0 1-1\n") (fails 17)
+    ∷ row one (bytes "2 0 1 - 1\n") (fails 17)  -- a minus touches its digit: no blank,
+    ∷ row one (bytes "2 0 1 -\t1\n") (fails 17)  -- no tab,
+    ∷ row one (bytes "2 0 1 1 -\r\n") (fails 17)  -- and not the end
     ∷ row one (bytes "") (fails 30)
     ∷ row one (bytes "1 0 1 -1\n") (fails 31)
     ∷ row one (bytes "3 0 1 -1\n") (fails 31)
@@ -107,6 +110,8 @@ abbrev pub firsts : List TextRow
 firsts =
     row one (bytes "1 x 1\n") (fails 31)
     ∷ row one (bytes "2 x 1 a\n") (fails 16)  -- the child list is judged before the variable word
+    ∷ row one (bytes "2 0 - a\n") (fails 17)  -- the blank after a minus stands before a
+    ∷ row one (bytes "2 0 -a -\n") (fails 16)  -- and a before the end
     ∷ row one (bytes "2 x 1\n") (fails 32)
     ∷ row one (bytes "2 x 0 a\n") (fails 16)
     ∷ row one (bytes "2 2 2 2\n") (fails 34)

@@ -1,5 +1,5 @@
 pub mod EdgeList
-pub mod EdgeSteps
-pub mod EdgeWords
+pub mod Entries
+pub mod Examples
 pub mod Refusals
-pub mod SignedEntries
+pub mod Touching

@@ -1,4 +1,4 @@
-pub mod EdgeWords
 pub mod Edges
+pub mod Entries
+pub mod Examples
 pub mod Kinds
-pub mod Signed

@@ -1,25 +1,20 @@
 // Edge lists: the roots of a file, and the children of a text node line.
 ghost use mathlib.Core.Path.{_≡_};
 ghost use Prim.Native.Nat.{_<_, _^_};
-ghost use lib.ListN.{set};
+ghost use lib.ListN.{length, set};
 ghost use Rattle.codes.specs.Lent.{laid};
-ghost use Rattle.read_edges.specs.Edges.{signed, grown, onDigit, onMinus, onBlank, entryStep, edgeList, children, SmallEntry};
+ghost use Rattle.read_edges.specs.Edges.{signed, magnitudeOf, entryBytes, edgeList, children};
+ghost use Rattle.read_edges.specs.Kinds.{ofEntry, ofChildren};
 ghost use Rattle.read_lists.specs.Kinds.{ofCount};
-ghost use Rattle.read_edges.specs.Kinds.{ofChildren};
 use codes::refusal;
+use read_lines::Class;
 use read_lists::Count;
+use read_numbers::Number64;
+use read_numbers::Role;
 
-// What was seen of the entry that is being read: nothing, a minus, or digits and whether a minus stands before them.
+// An entry, or a refusal.
 pub enum Entry {
-    Fresh,
-    Minus,
-    Digits(bool, u64),
-}
-
-// What one more byte makes of an entry.
-pub enum EntryStep {
-    More(Entry),
-    Ends(i64),
+    Value(i64),
     Refused(u8),
 }
 
@@ -40,63 +35,29 @@ fn signed(minus: bool, magnitude: u64) -> i64
     }
 }
 
-// One more digit.
-fn grown(minus: bool, magnitude: u64, d: u64) -> EntryStep
-    requires { ⌜ d < 10 ⌝ }
-    ensures { λ r. ⌜ r ≡ grown minus magnitude d ⌝ }
+// Digits, after a minus or with none.
+fn parse_magnitude(minus: bool, input: &[u8]) -> Entry
+    ensures { λ r. ⌜ ofEntry r ≡ magnitudeOf minus (now (input .entry)) ⌝ }
 {
-    if (9223372036854775807 - d) / 10 < magnitude {
-        return EntryStep::Refused(refusal::TOO_LARGE);
-    }
-    EntryStep::More(Entry::Digits(minus, magnitude * 10 + d))
-}
-
-fn on_digit(e: Entry, d: u64) -> EntryStep
-    requires { ⌜ d < 10 ⌝ }
-    ensures { λ r. ⌜ r ≡ onDigit e d ⌝ }
-{
-    match e {
-        Entry::Fresh => grown(false, 0, d),
-        Entry::Minus => grown(true, 0, d),
-        Entry::Digits(minus, magnitude) => grown(minus, magnitude, d),
+    match read_numbers::parse_digits(input, i64::MAX as u64, Role::Magnitude) {
+        Number64::Value(v) => Entry::Value(signed(minus, v)),
+        Number64::Refused(k) => Entry::Refused(k),
     }
 }
 
-fn on_minus(e: Entry) -> EntryStep
-    ensures { λ r. ⌜ r ≡ onMinus e ⌝ }
+// An optional minus and digits.
+fn parse_entry(input: &[u8]) -> Entry
+    requires { ⌜ 0 < length (now input) ⌝ }
+    ensures { λ r. ⌜ ofEntry r ≡ entryBytes (now (input .entry)) ⌝ }
 {
-    match e {
-        Entry::Fresh => EntryStep::More(Entry::Minus),
-        Entry::Minus => EntryStep::Refused(refusal::MISPLACED_MINUS),
-        Entry::Digits(_, _) => EntryStep::Refused(refusal::MISPLACED_MINUS),
+    if input[0] != b'-' {
+        return parse_magnitude(false, input);
     }
-}
-
-fn on_blank(e: Entry) -> EntryStep
-    requires { ⌜ SmallEntry e ⌝ }
-    ensures { λ r. ⌜ r ≡ onBlank e ⌝ }
-{
-    match e {
-        Entry::Fresh => EntryStep::More(Entry::Fresh),
-        Entry::Minus => EntryStep::More(Entry::Minus),
-        Entry::Digits(minus, magnitude) => EntryStep::Ends(signed(minus, magnitude)),
+    // A blank or the end stands behind this minus.
+    if input.len() == 1 {
+        return Entry::Refused(refusal::MISPLACED_MINUS);
     }
-}
-
-fn entry_step(e: Entry, b: u8) -> EntryStep
-    requires { ⌜ SmallEntry e ⌝ }
-    ensures { λ r. ⌜ r ≡ entryStep e b ⌝ }
-{
-    if codes::is_digit(b) {
-        return on_digit(e, (b - b'0') as u64);
-    }
-    if b == b'-' {
-        return on_minus(e);
-    }
-    if codes::is_blank(b) {
-        return on_blank(e);
-    }
-    EntryStep::Refused(refusal::FOREIGN)
+    parse_magnitude(true, &input[1..])
 }
 
 fn put_i64(dst: &mut [i64], at: usize, x: i64)
@@ -112,41 +73,25 @@ pub fn parse_edge_list(input: &[u8], max: usize, dst: &mut [i64]) -> Count
     ensures { λ r. ⌜ ofCount r ≡ edgeList max (now (input .entry)) .answer ⌝ }
     ensures { λ _. ⌜ now (dst .exit) ≡ laid (edgeList max (now (input .entry)) .entries) (now (dst .entry)) ⌝ }
 {
-    let mut e = Entry::Fresh;
     let mut n: usize = 0;
-    let mut i = 0;
-    while i < input.len() {
-        match entry_step(e, input[i]) {
-            EntryStep::More(next) => {
-                e = next;
-                i += 1;
-            }
-            EntryStep::Ends(x) => {
+    let mut at = read_lines::forward(input, 0, input.len(), Class::NonBlank);
+    while at < input.len() {
+        let end = read_lines::forward(input, at, input.len(), Class::Blank);
+        match parse_entry(&input[at..end]) {
+            Entry::Value(x) => {
                 if max <= n {
                     return Count::Refused(refusal::OVER_LIMIT);
                 }
                 put_i64(dst, n, x);
                 n += 1;
-                e = Entry::Fresh;
-                i += 1;
+                at = read_lines::forward(input, end, input.len(), Class::NonBlank);
             }
-            EntryStep::Refused(k) => {
+            Entry::Refused(k) => {
                 return Count::Refused(k);
             }
         }
     }
-    // The end of the list ends an entry as a blank does.
-    match on_blank(e) {
-        EntryStep::Ends(x) => {
-            if max <= n {
-                return Count::Refused(refusal::OVER_LIMIT);
-            }
-            put_i64(dst, n, x);
-            Count::Entries(n + 1)
-        }
-        EntryStep::More(_) => Count::Entries(n),
-        EntryStep::Refused(k) => Count::Refused(k),
-    }
+    Count::Entries(n)
 }
 
 // The children of a text node line: all are read and counted, two are kept.

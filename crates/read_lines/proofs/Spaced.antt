@@ -2,7 +2,7 @@
 use mathlib.Core.Path.{_≡_, refl, sym, ap, subst, _∙_}
 use mathlib.Core.Bool.{Bool, true, false}
 use mathlib.Core.List.{List, [], _∷_, _++_, append-assoc, append-nil}
-use Prim.Native.Nat.{ℕ, suc, _+_, _-_}
+use Prim.Native.Nat.{ℕ, suc, _+_, _-_, _≤_}
 use native.Mathlib.Omega.{arith}
 use lib.ListN.{length, length-append}
 use Rattle.codes.specs.Bytes.{isBlank}
@@ -114,6 +114,16 @@ spaced-texts (blanks h) = none
 spaced-texts (last b w h t) = each t none
 spaced-texts (next b w h t e k) = each t (spaced-texts k)
 
+text-some : (w : List ℕ) → Text w → 1 ≤ length w
+text-some [] t = absurd (t .some refl)
+text-some (x ∷ w) t = omega arith
+
+-- Each word has a byte of its own.
+spaced-few : {at : ℕ} {s : List ℕ} {ws : List Word} → Spaced at s ws → length ws ≤ length s
+spaced-few (blanks h) = omega arith
+spaced-few (last b w h t) = omega (arith, length-append b w, text-some w t)
+spaced-few (next b w {x = x} {s = s} h t e k) = omega (arith, length-append b (w ++ (x ∷ s)), length-append w (x ∷ s), text-some w t, spaced-few k)
+
 module _ (at : ℕ) (s : List ℕ) where
   pub words-spaced : Spaced at s (words at s)
   unfolding words
@@ -122,3 +132,7 @@ module _ (at : ℕ) (s : List ℕ) where
   -- No word is empty or has a blank.
   pub words-texts : Each (λ w. Text (w .bytes)) (words at s)
   words-texts = spaced-texts words-spaced
+
+  -- There are no more words than bytes.
+  pub words-few : length (words at s) ≤ length s
+  words-few = spaced-few words-spaced

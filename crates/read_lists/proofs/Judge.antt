@@ -1,7 +1,7 @@
 -- Lists by words: one turn of a reader that finds a word, judges it, and finds the next.
 use mathlib.Core.Path.{_≡_, refl, ap, _∙_}
 use mathlib.Core.List.{List, [], _∷_, _++_}
-use Prim.Native.Nat.{ℕ, _+_, _-_, _^_, _≤_, _<_}
+use Prim.Native.Nat.{ℕ, _+_, _-_, _≤_, _<_}
 use native.Mathlib.Omega.{arith}
 use lib.ListN.{length, getD, take, drop, set, length-append}
 use mathlib.Core.Bool.{false}
@@ -10,12 +10,11 @@ use Rattle.codes.specs.Bytes.{isBlank}
 use Rattle.read_lines.specs.declared.Class.the-variants.{Blank, NonBlank}
 use Rattle.read_lines.specs.Words.{Word, word, words}
 use Rattle.read_lines.specs.Line.{isOf, seek}
-use Rattle.read_lists.specs.Lists.{Listed, listed, judge, u32Of, u32List}
-use Rattle.read_numbers.specs.Number.{number}
+use Rattle.read_lists.specs.Lists.{Listed, listed, judge}
 use Rattle.codes.specs.Lent.{laid}
-use Rattle.codes.proofs.Lent.{laid-more, length-laid}
+use Rattle.codes.proofs.Lent.{laid-none, laid-more, length-laid}
 use Rattle.read_lists.proofs.Another.{another-more, another-full}
-use Rattle.read_numbers.proofs.Words.{from, words-start, words-skip, words-next, words-none, at-text}
+use Rattle.read_numbers.proofs.Words.{from, words-start, words-skip, words-next, words-none, at-text, end-after}
 
 module _ {A : Type 0} (read : Word → Read A) (max : ℕ) where
   -- a word more
@@ -79,27 +78,46 @@ module _ {A : Type 0} (read : Word → Read A) (max : ℕ) where
               rest = turned ∙ judge-more es _ _ r (omega (arith, held .count)) ∙ ap (judge read max _) (words-skip base s end b ∙ rw k);
             }
 
--- a list of numbers as it is read into a lent list: the entries so far lie over what it held
-pub record U32s (max : ℕ) (s old dst : List ℕ) (n at : ℕ) : Type 0 where
-  pub entries : List ℕ
-  pub held : Held u32Of max 0 s n at entries
-  pub lies : dst ≡ laid entries old
+-- A list as it is read into a lent one: the entries so far lie over what that held.
+module _ {A : Type 0} (read : Word → Read A) (max : ℕ) (s : List ℕ) (old : List A) where
+  pub record Laying (dst : List A) (n at : ℕ) : Type 0 where
+    pub entries : List A
+    pub held : Held read max 0 s n at entries
+    pub lies : dst ≡ laid entries old
 
-module _ {max : ℕ} {s old dst : List ℕ} {n at : ℕ} (u : U32s max s old dst n at) where
-  -- an answer that ends the list, with the entries so far
-  pub u32s-answer : {r : Read ℕ} → answer u32Of max 0 s ≡ listed r (u .entries) → (r ≡ u32List max s .answer) × (dst ≡ laid (u32List max s .entries) old)
-  unfolding u32List
-  u32s-answer e = (rw e, u .lies ∙ rw e)
+  pub laying-start : {at : ℕ} → at ≡ seek (isOf NonBlank) s 0 (length s - 0) → at ≤ length s → Laying old 0 at
+  laying-start e h = record { entries = []; held = held-start read max 0 s e h; lies = laid-none old }
 
-  pub u32s-more : {end next v : ℕ} → at < length s → end ≡ seek (isOf Blank) s at (length s - at)
-      → number 16 (2 ^ 32) (take (end - at) (drop at s)) ≡ value v → n < max → end ≤ length s
-      → next ≡ seek (isOf NonBlank) s end (length s - end) → next ≤ length s → U32s max s old (set dst n v) (n + 1) next
-  u32s-more {end} {next} {v} h e r f b k l =
-      record {
-        entries = u .entries ++ (v ∷ []);
-        held = held-more u32Of max 0 s (u .held) end h e next r f b k l;
-        lies = rw (u .lies, u .held .count) (laid-more (u .entries) old v);
-      }
+  module _ {dst : List A} {n at : ℕ} (u : Laying dst n at) where
+    pub laying-length : length dst ≡ length old
+    laying-length = ap length (u .lies) ∙ length-laid (u .entries) old
 
-  pub u32s-length : length dst ≡ length old
-  u32s-length = ap length (u .lies) ∙ length-laid (u .entries) old
+    -- an answer that ends the list, with the entries so far
+    answered : {r : Read ℕ} → answer read max 0 s ≡ listed r (u .entries)
+        → (r ≡ answer read max 0 s .answer) × (dst ≡ laid (answer read max 0 s .entries) old)
+    answered e = (rw e, u .lies ∙ rw e)
+
+    pub laying-end : length s ≤ at → (value n ≡ answer read max 0 s .answer) × (dst ≡ laid (answer read max 0 s .entries) old)
+    laying-end h = answered (held-end read max 0 s (u .held) h)
+
+    -- a word from at to end
+    module _ {end : ℕ} (h : at < length s) (e : end ≡ seek (isOf Blank) s at (length s - at)) where
+      pub laying-after : at < end
+      laying-after = end-after s at end h (u .held .text h) e
+
+      pub laying-refused : {k : ℕ} → read (word (0 + at) (take (end - at) (drop at s))) ≡ refused k
+          → (refused k ≡ answer read max 0 s .answer) × (dst ≡ laid (answer read max 0 s .entries) old)
+      laying-refused r = answered (held-refused read max 0 s (u .held) end h e r)
+
+      pub laying-full : {a : A} → read (word (0 + at) (take (end - at) (drop at s))) ≡ value a → max ≤ n
+          → (refused 19 ≡ answer read max 0 s .answer) × (dst ≡ laid (answer read max 0 s .entries) old)
+      laying-full r f = answered (held-full read max 0 s (u .held) end h e r f)
+
+      pub laying-more : {next : ℕ} {a : A} → read (word (0 + at) (take (end - at) (drop at s))) ≡ value a → n < max → end ≤ length s
+          → next ≡ seek (isOf NonBlank) s end (length s - end) → next ≤ length s → Laying (set dst n a) (n + 1) next
+      laying-more {next} {a} r f b k l =
+          record {
+            entries = u .entries ++ (a ∷ []);
+            held = held-more read max 0 s (u .held) end h e next r f b k l;
+            lies = rw (u .lies, u .held .count) (laid-more (u .entries) old a);
+          }

@@ -12,6 +12,7 @@ use Rattle.read_lines.specs.Words.{Word, words}
 use Rattle.read_lists.specs.Lists.{Listed, listed, judged, judge, u32Of, u32List}
 use Rattle.read_lines.specs.Each.{Each, each}
 use Rattle.read_lines.specs.Each
+use Rattle.read_numbers.specs.declared.Role.the-variants.{Entry}
 use Rattle.read_numbers.specs.Digits.{DigitAnswers}
 use Rattle.read_numbers.specs.Digits
 use Rattle.read_lists.specs.Judged.{Reads, none, more, Judged, whole, fault, full, Numeral, numeral, Numerals, over, strange}
@@ -70,6 +71,18 @@ module _ {A : Type 0} (read : Word → Read A) (max : ℕ) where
       judged-by h (value a) e false t k = rw (another-full max es a (λ gs. judge read max gs ws) (listed (refused 19)) (ltb-false _ _ t)) (judged-full (omega (arith, ltb-false)) e)
       judged-by h (refused n) e b t k = judged-fault h e
 
+  -- Every word that is read is an entry.
+  pub reads-length : {ws : List Word} {fs : List A} → Reads read ws fs → length fs ≡ length ws
+  reads-length none = refl
+  reads-length (more e k) = cc (reads-length k)
+
+  -- A limit that no word passes isn't met: 19 would be a fault of an entry.
+  pub few-judged : {ws : List Word} {r : Listed A} → length ws ≤ max → ((w : Word) → read w ≡ refused 19 → ⊥) → Judged read max [] ws r
+      → r .answer ≡ refused 19 → ⊥
+  few-judged h never (whole k l) e = let z : _≡_ {A = ℕ} 0 1 = cc in omega arith
+  few-judged h never (fault {n = n} front w rest i k l f) e = let z : n ≡ 19 = cc in never w (rw z at f)
+  few-judged h never (full front w rest i k l f) e = omega (arith, reads-length k, ap length i, length-append front (w ∷ rest))
+
   pub judge-judged : (es : List A) (ws : List Word) → length es ≤ max → Judged read max es ws (judge read max es ws)
   unfolding judge
   judge-judged es [] h = judged-whole es h
@@ -77,11 +90,11 @@ module _ {A : Type 0} (read : Word → Read A) (max : ℕ) where
 
 -- Lists of unsigned numbers.
 numeral-reads : (w : Word) → Numeral w → u32Of w ≡ value (numeral w)
-numeral-reads w n = answers-number 16 (2 ^ 32) (w .bytes) (Digits.reads (record { digits = n .digits; value = refl; small = n .small }))
+numeral-reads w n = answers-number Entry (2 ^ 32) (w .bytes) (Digits.reads (record { digits = n .digits; value = refl; small = n .small }))
 
 reads-numeral : (w : Word) {v : ℕ} → u32Of w ≡ value v → Numeral w × (v ≡ numeral w)
 reads-numeral w e =
-    let s = number-exact 16 (2 ^ 32) (w .bytes) (omega arith) e in
+    let s = number-exact Entry (2 ^ 32) (w .bytes) (omega arith) e in
     (record { digits = s .digits; small = rw (s .value) (s .small) }, sym (s .value))
 
 numerals-read : {ws : List Word} → Each Numeral ws → Reads u32Of ws (map numeral ws)
@@ -97,29 +110,26 @@ read-numerals (more {w = w} e k) =
 module _ (max : ℕ) where
   numerals-judged : {ws : List Word} {r : Listed ℕ} → Numerals max ws r → Judged u32Of max [] ws r
   numerals-judged {ws} (said.whole k h) = rw (← length-map ws numeral) (whole (numerals-read k) (rw length-map h))
-  numerals-judged (over front w rest i k h p) = fault front w rest i (numerals-read k) (rw length-map h) (answers-number 16 (2 ^ 32) (w .bytes) (Digits.over p))
-  numerals-judged (strange front w rest i k h p) = fault front w rest i (numerals-read k) (rw length-map h) (answers-number 16 (2 ^ 32) (w .bytes) (Digits.strange p))
+  numerals-judged (over front w rest i k h p) = fault front w rest i (numerals-read k) (rw length-map h) (answers-number Entry (2 ^ 32) (w .bytes) (Digits.over p))
+  numerals-judged (strange front w rest i k h p) = fault front w rest i (numerals-read k) (rw length-map h) (answers-number Entry (2 ^ 32) (w .bytes) (Digits.strange p))
   numerals-judged (said.full front w rest i k h n) = full front w rest i (numerals-read k) (rw length-map h) (numeral-reads w n)
 
   -- a word with a fault of its own
   module _ {ws front : List Word} (w : Word) (rest : List Word) (i : ws ≡ front ++ (w ∷ rest)) (k : Each Numeral front) (h : length front ≤ max) where
-    fault-numerals : {n : ℕ} → DigitAnswers 16 (2 ^ 32) (w .bytes) (refused n) → Numerals max ws (listed (refused n) (map numeral front))
+    fault-numerals : {n : ℕ} → DigitAnswers Entry (2 ^ 32) (w .bytes) (refused n) → Numerals max ws (listed (refused n) (map numeral front))
     fault-numerals (Digits.over p) = over front w rest i k h p
     fault-numerals (Digits.strange p) = strange front w rest i k h p
 
-  read-length : {ws : List Word} {fs : List ℕ} → Reads u32Of ws fs → length fs ≡ length ws
-  read-length {ws} k = rw (read-numerals k .1) (length-map ws numeral)
-
   judged-numerals : {ws : List Word} {r : Listed ℕ} → Judged u32Of max [] ws r → Numerals max ws r
   judged-numerals {ws} (whole k h) =
-      let n = read-length k in
+      let n = reads-length u32Of max k in
       rw (n, read-numerals k .1) (said.whole (read-numerals k .0) (omega arith))
   judged-numerals (fault front w rest i k h e) =
-      let n = read-length k in
+      let n = reads-length u32Of max k in
       rw (read-numerals k .1)
-      (fault-numerals w rest i (read-numerals k .0) (omega arith) (rw e at (number-answers 16 (2 ^ 32) (w .bytes) (omega arith))))
+      (fault-numerals w rest i (read-numerals k .0) (omega arith) (rw e at (number-answers Entry (2 ^ 32) (w .bytes) (omega arith))))
   judged-numerals (full front w rest i k h e) =
-      let n = read-length k in
+      let n = reads-length u32Of max k in
       rw (read-numerals k .1) (said.full front w rest i (read-numerals k .0) (omega arith) (reads-numeral w e .0))
 
   module _ (s : List ℕ) where

@@ -10,6 +10,7 @@ use lib.Dec.{ltb}
 use borrow.Author.Tests.{ltb-true, ltb-false}
 use Rattle.codes.specs.Answer.{Read, value, refused}
 use Rattle.read_lines.specs.Words.{Word, words}
+use Rattle.read_numbers.specs.declared.Role.the-variants.{Entry}
 use Rattle.read_lists.specs.Lists.{Listed, listed, judged, judge, u32Of, u32List}
 use Rattle.read_lists.proofs.Another.{another-more, another-full}
 use Rattle.read_numbers.proofs.Refusals.{number-refuses}
@@ -40,4 +41,4 @@ pub u32-list-refuses : (max : ℕ) (s : List ℕ) (n : ℕ) → u32List max s .a
 unfolding u32List
 u32-list-refuses max s n e =
     judge-refuses u32Of max (λ k. (k ≡ 15) ⊎ (k ≡ 16) ⊎ (k ≡ 19))
-    (λ w k q. ⊎-elim (λ z. inr (inl z)) inl (number-refuses 16 (2 ^ 32) (w .bytes) k q)) (inr (inr refl)) [] (words 0 s) n e
+    (λ w k q. ⊎-elim (λ z. inr (inl (z .1))) inl (number-refuses Entry (2 ^ 32) (w .bytes) k q)) (inr (inr refl)) [] (words 0 s) n e

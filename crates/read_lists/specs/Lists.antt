@@ -6,6 +6,7 @@ use lib.ListN.{length}
 use lib.Dec.{ltb}
 use Rattle.codes.specs.Answer.{Read, value, refused}
 use Rattle.read_lines.specs.Words.{Word, words}
+use Rattle.read_numbers.specs.declared.Role.the-variants.{Entry}
 use Rattle.read_numbers.specs.Number.{number}
 
 -- what a list reads as: the number of its entries or a refusal, and the entries up to there
@@ -31,7 +32,7 @@ judge read max es (w ∷ ws) = judged max es (read w) (λ fs. judge read max fs 
 
 -- A list of unsigned numbers. '15 .. over 32 in other unsigned ones', '16 a list has a foreign character'.
 abbrev pub u32Of : Word → Read ℕ
-u32Of w = number 16 (2 ^ 32) (w .bytes)
+u32Of w = number Entry (2 ^ 32) (w .bytes)
 
 unfoldable pub u32List : ℕ → List ℕ → Listed ℕ
 u32List max s = judge u32Of max [] (words 0 s)

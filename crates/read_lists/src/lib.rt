@@ -7,6 +7,7 @@ ghost use Rattle.read_lists.specs.Lists.{u32List};
 use codes::refusal;
 use read_lines::Class;
 use read_numbers::Number64;
+use read_numbers::Role;
 
 // The number of a list's entries, or a refusal.
 pub enum Count {
@@ -32,7 +33,7 @@ pub fn parse_u32_list(input: &[u8], max: usize, dst: &mut [u32]) -> Count
     let mut at = read_lines::forward(input, 0, input.len(), Class::NonBlank);
     while at < input.len() {
         let end = read_lines::forward(input, at, input.len(), Class::Blank);
-        match read_numbers::parse_digits(&input[at..end], u32::MAX as u64, refusal::FOREIGN) {
+        match read_numbers::parse_digits(&input[at..end], u32::MAX as u64, Role::Entry) {
             Number64::Value(v) => {
                 if max <= n {
                     return Count::Refused(refusal::OVER_LIMIT);

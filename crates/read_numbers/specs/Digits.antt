@@ -6,7 +6,10 @@ use mathlib.Core.List.{List, [], _∷_, _++_, map}
 use Prim.Native.Nat.{ℕ, _-_, _≤_, _<_}
 use Rattle.codes.specs.Answer.{Read, value, refused}
 use Rattle.codes.specs.Bytes.{isDigit}
+use Rattle.read_numbers.specs.declared.Role.{Role}
+use Rattle.read_numbers.specs.declared.Role.the-variants.{Single}
 use Rattle.read_numbers.specs.Value.{valueOf}
+use Rattle.read_numbers.specs.Number.{foreign}
 use Rattle.read_lines.specs.Each.{Each}
 
 -- every byte is a digit
@@ -46,13 +49,13 @@ pub record Foreign (lim : ℕ) (s : List ℕ) : Type 0 where
   pub small : decimalValue front < lim
   pub foreign : isDigit byte ≡ false
 
--- What the answer to a number can be, and of which bytes; `foreign` is the refusal of a foreign character.
-pub data DigitAnswers (foreign lim : ℕ) (s : List ℕ) : Read ℕ → Type 0 where
-  reads : {v : ℕ} → Says lim s v → DigitAnswers foreign lim s (value v)
-  over : PassesLimit lim s → DigitAnswers foreign lim s (refused 15)
-  strange : Foreign lim s → DigitAnswers foreign lim s (refused foreign)
+-- What the answer to a number can be, and of which bytes.
+pub data DigitAnswers (role : Role) (lim : ℕ) (s : List ℕ) : Read ℕ → Type 0 where
+  reads : {v : ℕ} → Says lim s v → DigitAnswers role lim s (value v)
+  over : PassesLimit lim s → DigitAnswers role lim s (refused 15)
+  strange : (f : Foreign lim s) → DigitAnswers role lim s (refused (foreign role (f .byte)))
 
 -- What the answer to a single number can be: '14 .. a foreign character or no digit'.
 pub data SingleAnswers (lim : ℕ) : List ℕ → Read ℕ → Type 0 where
   empty : SingleAnswers lim [] (refused 14)
-  some : {x : ℕ} {s : List ℕ} {r : Read ℕ} → DigitAnswers 14 lim (x ∷ s) r → SingleAnswers lim (x ∷ s) r
+  some : {x : ℕ} {s : List ℕ} {r : Read ℕ} → DigitAnswers Single lim (x ∷ s) r → SingleAnswers lim (x ∷ s) r

@@ -1,10 +1,17 @@
 // Numbers in decimal digits.
 ghost use mathlib.Core.Path.{_≡_};
 ghost use Prim.Native.Nat.{_+_, _^_, _≤_};
-ghost use Rattle.read_numbers.specs.Number.{number, single, first};
+ghost use Rattle.read_numbers.specs.Number.{foreign, number, single, first};
 ghost use Rattle.read_numbers.specs.Kinds.{of32, of64, ofFirst32, ofFirst64, Fits32};
 use codes::refusal;
 use read_lines::Class;
+
+// What digits are in their line: a number by itself, an entry of a list, or what may stand after a minus in an entry.
+pub enum Role {
+    Single,
+    Entry,
+    Magnitude,
+}
 
 // A number of 32 bits, or a refusal.
 pub enum Number32 {
@@ -29,11 +36,27 @@ pub enum First64 {
     Refused(u8),
 }
 
-// The value of digits, at most `max`: the loop that every width shares. The refusal of a byte that is no digit is the caller's, since
-// it is another one in a list.
-pub fn parse_digits(input: &[u8], max: u64, foreign: u8) -> Number64
+// The refusal of a byte that is no digit.
+fn foreign(role: Role, x: u8) -> u8
+    ensures { λ r. ⌜ r ≡ foreign role x ⌝ }
+{
+    match role {
+        Role::Single => refusal::NOT_A_NUMBER,
+        Role::Entry => refusal::FOREIGN,
+        Role::Magnitude => {
+            if x == b'-' {
+                refusal::MISPLACED_MINUS
+            } else {
+                refusal::FOREIGN
+            }
+        }
+    }
+}
+
+// The value of digits, at most `max`: the loop that every width shares.
+pub fn parse_digits(input: &[u8], max: u64, role: Role) -> Number64
     requires { ⌜ 9 ≤ max ⌝ }
-    ensures { λ r. ⌜ of64 r ≡ number foreign (max + 1) (now (input .entry)) ⌝ }
+    ensures { λ r. ⌜ of64 r ≡ number role (max + 1) (now (input .entry)) ⌝ }
 {
     let mut value: u64 = 0;
     let mut i = 0;
@@ -48,7 +71,7 @@ pub fn parse_digits(input: &[u8], max: u64, foreign: u8) -> Number64
             value = value * 10 + d;
             i += 1;
         } else {
-            return Number64::Refused(foreign);
+            return Number64::Refused(foreign(role, x));
         }
     }
     Number64::Value(value)
@@ -60,7 +83,7 @@ pub fn parse_single_u64(input: &[u8]) -> Number64
     if input.len() == 0 {
         return Number64::Refused(refusal::NOT_A_NUMBER);
     }
-    parse_digits(input, u64::MAX, refusal::NOT_A_NUMBER)
+    parse_digits(input, u64::MAX, Role::Single)
 }
 
 // A number that is known to fit, at 32 bits.
@@ -80,7 +103,7 @@ pub fn parse_single_u32(input: &[u8]) -> Number32
     if input.len() == 0 {
         return Number32::Refused(refusal::NOT_A_NUMBER);
     }
-    narrowed(parse_digits(input, u32::MAX as u64, refusal::NOT_A_NUMBER))
+    narrowed(parse_digits(input, u32::MAX as u64, Role::Single))
 }
 
 // The first number of a line, with the position of what is left after it.

@@ -1,5 +1,5 @@
 -- The roots, read back.
-use mathlib.Core.Path.{_≡_, refl, ap, _∙_}
+use mathlib.Core.Path.{_≡_}
 use mathlib.Core.Bool.{Bool, true, false, cond}
 use mathlib.Core.List.{List, _∷_, map}
 use Prim.Native.Nat.{ℕ, _+_, _^_, _≤_, _<_}
@@ -12,15 +12,14 @@ use Rattle.edges.specs.Edge.{minus}
 use Rattle.read_lines.specs.Each.{Each, none, each}
 use Rattle.read_lines.specs.Words.{word}
 use Rattle.read_numbers.specs.Digits.{Says}
-use Rattle.read_numbers.specs.Digits as read
 use Rattle.read_lists.specs.Lists.{listed}
-use Rattle.read_edges.specs.Edges.{signed, edgeList}
-use Rattle.read_edges.specs.EdgeWords.{Lone, Lones}
-use Rattle.read_edges.specs.EdgeWords
-use Rattle.read_edges.proofs.EdgeWords.{edge-values}
+use Rattle.read_edges.specs.Edges.{edgeList}
+use Rattle.read_edges.specs.Entries.{Entries}
+use Rattle.read_edges.specs.Entries
+use Rattle.read_edges.proofs.EdgeList.{edge-values}
 use Rattle.header_faults.specs.Judge.{rootListFault}
 use Rattle.writers.specs.Decimal.{decimal, edgeText}
-use Rattle.writers.proofs.Decimal.{decimal-some, decimal-says, edge-signed}
+use Rattle.writers.proofs.Decimal.{decimal-some, decimal-says, edge-signed, edge-says}
 use Rattle.reading_header.specs.Joined.{joined, Plain}
 use Rattle.reading_header.specs.Standing.{wordsAt}
 use Rattle.reading_header.proofs.Elements.{each-map}
@@ -41,27 +40,11 @@ module _ (e : ℤ) (h : natAbs e < 2 ^ 63) where
       by true = above-plain (each (omega arith) (digits-above (says .digits))) (omega arith)
       by false = above-plain (digits-above (says .digits)) (decimal-some (natAbs e))
 
-  -- which is an entry by itself, and stands for the edge.
-  lone : (at : ℕ) → Lone (word at (edgeText e))
-  unfolding edgeText
-  lone at =
-      record {
-        negative = minus e;
-        digits = decimal (natAbs e);
-        is = refl;
-        some = λ z. omega (arith, decimal-some (natAbs e), ap length z);
-        all = says .digits;
-        small = rw (says .value) h;
-      }
-
-  lone-is : (at : ℕ) → signed (lone at .negative) (read.decimalValue (lone at .digits)) ≡ e
-  unfolding lone
-  lone-is at = ap (signed (minus e)) (says .value) ∙ edge-signed e
-
-edges-lone : {es : List ℤ} (at : ℕ) → Each (λ e. natAbs e < 2 ^ 63) es → Lones (wordsAt at (map edgeText es)) es
+-- Each word is an entry, and stands for its edge.
+edges-said : {es : List ℤ} (at : ℕ) → Each (λ e. natAbs e < 2 ^ 63) es → Entries (wordsAt at (map edgeText es)) es
 unfolding wordsAt
-edges-lone at none = EdgeWords.none
-edges-lone at (each {a = e} h k) = rw (lone-is e h at) at (EdgeWords.more (lone e h at) (edges-lone (at + length (edgeText e) + 1) k))
+edges-said at none = Entries.none
+edges-said at (each {a = e} h k) = rw (edge-signed e) at (Entries.more {w = word at (edgeText e)} {minus = minus e} (edge-says e h) (edges-said (at + length (edgeText e) + 1) k))
 
 module _ {es : List ℤ} (small : Each (λ e. natAbs e < 2 ^ 63) es) where
   pub edges-plain : Each Plain (map edgeText es)
@@ -69,7 +52,7 @@ module _ {es : List ℤ} (small : Each (λ e. natAbs e < 2 ^ 63) es) where
 
   -- A list of edges is read as themselves,
   pub edges-back : (max : ℕ) → length es ≤ max → edgeList max (joined (map edgeText es)) ≡ listed (value (length es)) es
-  edges-back max few = edge-values max (joined (map edgeText es)) (rw (words-back 0 edges-plain) (edges-lone 0 small)) few
+  edges-back max few = edge-values max (joined (map edgeText es)) (rw (words-back 0 edges-plain) (edges-said 0 small)) few
 
   -- with no fault.
   pub edges-faultless : length es ≤ rootLimit → rootListFault (joined (map edgeText es)) ≡ 0

@@ -7,6 +7,7 @@ use lib.ListN.{length}
 use Rattle.codes.specs.Answer.{value}
 use Rattle.codes.specs.Limits.{varLimit}
 use Rattle.read_lines.specs.Each.{Each, none, each}
+use Rattle.read_numbers.specs.declared.Role.the-variants.{Entry}
 use Rattle.read_numbers.specs.Number.{single}
 use Rattle.read_lists.specs.Lists.{listed, u32Of, u32List}
 use Rattle.read_lists.specs.Judged.{Reads}
@@ -38,7 +39,7 @@ module _ (n : ℕ) (h : n < 2 ^ 64) where
 numbers-read : {ns : List ℕ} (at : ℕ) → Each (λ n. n < 2 ^ 32) ns → Reads u32Of (wordsAt at (map decimal ns)) ns
 unfolding wordsAt
 numbers-read at none = Judged.none
-numbers-read at (each {a = n} h k) = Judged.more (decimal-value n (omega arith) (2 ^ 32) h 16) (numbers-read (at + length (decimal n) + 1) k)
+numbers-read at (each {a = n} h k) = Judged.more (decimal-value n (omega arith) (2 ^ 32) h Entry) (numbers-read (at + length (decimal n) + 1) k)
 
 module _ {ns : List ℕ} (small : Each (λ n. n < 2 ^ 32) ns) where
   pub decimals-plain : Each Plain (map decimal ns)

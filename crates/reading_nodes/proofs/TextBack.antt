@@ -1,7 +1,7 @@
 -- A node line of text that was written is read back as itself.
 use mathlib.Core.Path.{_≡_, refl, sym, _∙_}
 use mathlib.Core.Bool.{false}
-use mathlib.Core.List.{List, [], _∷_, _++_, append-assoc}
+use mathlib.Core.List.{List, [], _∷_, _++_, append-assoc, append-nil}
 use Prim.Native.Nat.{ℕ, _+_, _-_, _^_, _≤_, _<_}
 use native.Mathlib.Omega.{arith}
 use lib.ListN.{length, getD, drop, length-append}
@@ -9,17 +9,20 @@ use lib.Seq.{drop-append-seam}
 use lib.IntN.{ℤ, pos, natAbs}
 use Rattle.codes.specs.Answer.{value, got}
 use Rattle.codes.specs.Bytes.{isBlank}
-use Rattle.codes.specs.Machine.{run}
 use Rattle.edges.specs.Edge.{minus}
 use Rattle.read_text.specs.Alike.{alike}
 use Rattle.header_lines.specs.Sweep.{part}
 use Rattle.read_lines.specs.Each.{none, each}
-use Rattle.read_edges.specs.Edges.{signed, edgeList, pair, children}
+use Rattle.read_lines.specs.Words.{Word, word}
+use Rattle.read_lines.specs.Spaced.{Spaced, last, next}
+use Rattle.read_edges.specs.Edges.{edgeList, pair, children}
 use Rattle.read_lines.specs.Line.{isOf, lineOf}
 use Rattle.read_lists.specs.Lists.{listed}
-use Rattle.read_edges.specs.declared.Entry.the-variants.{Fresh, Digits}
 use Rattle.read_lines.specs.declared.Class.the-variants.{Feed, LineEnd}
-use Rattle.read_edges.proofs.EdgeSteps.{entry-blank, edge-goes, edge-ends, end-entry}
+use Rattle.read_edges.specs.Entries.{Entries, more}
+use Rattle.read_edges.specs.Entries
+use Rattle.read_edges.proofs.EdgeList.{edge-values}
+use Rattle.read_lines.proofs.Spaced.{spaced-words}
 use Rattle.read_lines.proofs.Searches.{trim-found, line-ended}
 use Rattle.node_lines.specs.Line.{Line, terminal, inner, childFault}
 use Rattle.import_ascii.specs.Text.{described, textLine, textLineAt}
@@ -28,26 +31,38 @@ use Rattle.import_ascii.proofs.TextLines.{list-position, line-got}
 use Rattle.imported.specs.Build.{ChildBelow, Judged}
 use Rattle.writers.specs.Decimal.{decimal, edgeText, digits}
 use Rattle.writers.specs.Words.{spaced}
-use Rattle.writers.proofs.Decimal.{decimal-some, decimal-single, edge-signed, edge-runs}
+use Rattle.writers.proofs.Decimal.{decimal-some, decimal-single, edge-signed, edge-says}
 use Rattle.node_writers.specs.Encoded.{wordsOf, textBytes}
 use Rattle.reading_nodes.proofs.Standing.{stands-after, stands-part, stands-at, stands-inside, Reads, seek-over}
-use Rattle.reading_nodes.proofs.TextWords.{From, from-append, from-less, no-feeds, no-line-end, decimal-from, edge-from, variable-back}
+use Rattle.reading_nodes.proofs.TextWords.{From, from-append, from-less, no-feeds, no-line-end, decimal-from, edge-from, edge-text, variable-back}
 
 module _ (t e : ℤ) (ht : natAbs t < 2 ^ 63) (he : natAbs e < 2 ^ 63) where
   -- two edges, with a space before each
   abbrev two : List ℕ
   two = 0x20 ∷ (edgeText t ++ (0x20 ∷ (edgeText e ++ [])))
 
-  -- they are read as a list of two,
+  -- they are its words,
+  abbrev words-there : List Word
+  words-there = word 1 (edgeText t) ∷ word (1 + length (edgeText t) + 1) (edgeText e) ∷ []
+
+  second-spaced : Spaced (1 + length (edgeText t)) (0x20 ∷ (edgeText e ++ [])) (word (1 + length (edgeText t) + 1) (edgeText e) ∷ [])
+  unfolding isBlank
+  second-spaced = rw append-nil (last (0x20 ∷ []) (edgeText e) (each refl none) (edge-text e he))
+
+  both-spaced : Spaced 0 two words-there
+  unfolding isBlank
+  both-spaced = next (0x20 ∷ []) (edgeText t) (each refl none) (edge-text t ht) refl second-spaced
+
+  -- each of which is an entry,
+  both-said : Entries words-there (t ∷ e ∷ [])
+  both-said =
+      rw (edge-signed t, edge-signed e) at
+      (more {w = word 1 (edgeText t)} {minus = minus t} (edge-says t ht)
+      (more {w = word (1 + length (edgeText t) + 1) (edgeText e)} {minus = minus e} (edge-says e he) Entries.none))
+
+  -- and so they are read as a list of two
   edges-back : (max : ℕ) → 2 ≤ max → edgeList max two ≡ listed (value 2) (t ∷ e ∷ [])
-  unfolding edgeList run isBlank
-  edges-back max h =
-      rw (edge-goes max Fresh [] 0x20 Fresh (entry-blank Fresh 0x20 refl))
-      (edge-runs max [] t (0x20 ∷ (edgeText e ++ [])) ht
-      ∙ rw (edge-ends max (Digits (minus t) (natAbs t)) [] 0x20 (signed (minus t) (natAbs t)) (entry-blank _ 0x20 refl) (omega arith))
-      (edge-runs max (signed (minus t) (natAbs t) ∷ []) e [] he
-      ∙ end-entry max (signed (minus t) (natAbs t) ∷ []) (minus e) (natAbs e) (omega arith)
-      ∙ rw (edge-signed t, edge-signed e)))
+  edges-back max h = edge-values max two (rw (spaced-words both-spaced) both-said) h
 
   -- and so as two children
   children-back : children two ≡ value (pair 2 t e)

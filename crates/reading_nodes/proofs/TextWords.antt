@@ -71,14 +71,24 @@ edge-from e h = go (minus e) refl
     go true k = rw (edge-minus e refl k) (each {a = 0x2d} (omega arith) (decimal-from (natAbs e) (omega arith)))
     go false k = rw (edge-plain e refl k) (decimal-from (natAbs e) (omega arith))
 
+-- Each is a word.
+decimal-text : (n : ℕ) → n < 2 ^ 64 → Text (decimal n)
+decimal-text n h = record { some = λ z. omega (arith, decimal-some n, ap length z); free = each-as text-byte (decimal-from n h) }
+
+pub edge-text : (e : ℤ) → natAbs e < 2 ^ 63 → Text (edgeText e)
+edge-text e h = record { some = some (minus e) refl; free = each-as text-byte (edge-from e h) }
+  where
+    some : (b : Bool) → minus e ≡ b → edgeText e ≡ [] → ⊥
+    some true k z = omega (arith, ap length (sym (edge-minus e refl k)), ap length z)
+    some false k z = omega (arith, decimal-some (natAbs e), ap length (sym (edge-plain e refl k)), ap length z)
+
 -- A line that begins with a number and a space has that number.
 first-back : (n : ℕ) (r : List ℕ) → n < 2 ^ 64 → got n (length (decimal n)) ≡ first (2 ^ 64) (decimal n ++ (0x20 ∷ r))
 unfolding first isBlank
 first-back n r h =
-    let text : Text (decimal n) = record { some = λ z. omega (arith, decimal-some n, ap length z); free = each-as text-byte (decimal-from n h) } in
     let k : 0 + 0 + length (decimal n) ≡ length (decimal n) = omega arith in
     sym (rw (
-      spaced-words (next {at = 0} [] (decimal n) none text refl (words-spaced (0 + 0 + length (decimal n)) (0x20 ∷ r))),
+      spaced-words (next {at = 0} [] (decimal n) none (decimal-text n h) refl (words-spaced (0 + 0 + length (decimal n)) (0x20 ∷ r))),
       decimal-single n h (2 ^ 64) h,
       k,
     ))

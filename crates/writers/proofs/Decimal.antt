@@ -1,7 +1,7 @@
 -- Numbers in decimal digits: what is written digit by digit, and that it is read back.
 use mathlib.Core.Path.{_≡_, refl, ap, _∙_}
 use mathlib.Core.Bool.{Bool, true, false, cond}
-use mathlib.Core.List.{List, [], _∷_, _++_}
+use mathlib.Core.List.{List, [], _∷_}
 use Prim.Native.Nat.{ℕ, suc, _+_, _/_, _%_, _^_, _≤_, _<_}
 use native.Mathlib.Omega.{arith}
 use lib.ListN.{length, set}
@@ -9,22 +9,18 @@ use lib.IntN.{ℤ, pos, negsuc, natAbs}
 use borrow.Author.Tests.{lt-ltb, le-ltb, le-leb}
 use Rattle.codes.specs.Answer.{value}
 use Rattle.codes.specs.Bytes.{isDigit}
-use Rattle.codes.specs.Machine.{run}
-use Rattle.codes.proofs.Machine.{leads-run}
 use Rattle.edges.specs.Edge.{minus}
-use Rattle.read_edges.specs.declared.Entry.the-variants.{Fresh}
-use Rattle.read_edges.specs.declared.Entry.the-variants as entry
 use Rattle.read_lines.specs.Each.{none, each}
 use Rattle.read_numbers.specs.Value.{valueFrom, valueOf}
+use Rattle.read_numbers.specs.declared.Role.{Role}
+use Rattle.read_numbers.specs.declared.Role.the-variants.{Single}
 use Rattle.read_numbers.specs.Number.{number, single}
 use Rattle.read_numbers.specs.Digits.{Digits, Says, reads}
 use Rattle.read_numbers.specs.Digits as read
-use Rattle.read_edges.specs.Edges.{signed, edges, edgeAt, edgeEnd}
-use Rattle.read_edges.specs.Signed.{Signed, plain}
-use Rattle.read_edges.specs.Signed
+use Rattle.read_edges.specs.Edges.{signed}
+use Rattle.read_edges.specs.Entries.{Signed}
 use Rattle.read_numbers.proofs.Number.{single-some}
 use Rattle.read_numbers.proofs.Digits.{decimal-last, digits-last, answers-number}
-use Rattle.read_edges.proofs.SignedEntries.{signed-led}
 use Rattle.writers.specs.Decimal.{digits, decimal, edgeText}
 use Rattle.writers.specs.Written.{Wrote}
 use Rattle.writers.proofs.Sets.{wrote-byte}
@@ -92,11 +88,11 @@ module _ (n : ℕ) (h : n < 2 ^ 64) where
     decimal-says = record { digits = decimal-digits; value = digits-read 19 0 n (omega arith) .1; small = l }
 
     -- so it is read back, in a list or by itself.
-    pub decimal-value : (foreign : ℕ) → number foreign lim (decimal n) ≡ value n
-    decimal-value foreign = answers-number foreign lim (decimal n) (reads decimal-says)
+    pub decimal-value : (role : Role) → number role lim (decimal n) ≡ value n
+    decimal-value role = answers-number role lim (decimal n) (reads decimal-says)
 
     pub decimal-single : single lim (decimal n) ≡ value n
-    decimal-single = single-some lim (decimal n) (λ z. omega (arith, decimal-some n)) ∙ decimal-value 14
+    decimal-single = single-some lim (decimal n) (λ z. omega (arith, decimal-some n)) ∙ decimal-value Single
 
 -- An edge is written as a minus, where it has one, and its magnitude.
 module _ (e : ℤ) {m : ℕ} (p : m ≡ natAbs e) where
@@ -114,32 +110,16 @@ unfolding minus
 edge-signed (pos n) = refl
 edge-signed (negsuc n) = refl
 
--- It is an entry as the readers of edge lists have it,
+-- It is an entry of an edge list: the minus, where there is one, touches its digit.
 pub edge-says : (e : ℤ) → natAbs e < 2 ^ 63 → Signed (edgeText e) (minus e) (natAbs e)
-edge-says e h = go (minus e) refl
-  where
-    some : decimal (natAbs e) ≡ [] → ⊥
-    some z = omega (arith, decimal-some (natAbs e), ap length z)
-
-    says : Says (2 ^ 63) (decimal (natAbs e)) (natAbs e)
-    says = decimal-says (natAbs e) (omega arith) (2 ^ 63) h
-
-    go : (m : Bool) → minus e ≡ m → Signed (edgeText e) m (natAbs e)
-    go true k =
-        record {
-          begun = record { front = 0x2d ∷ []; digits = decimal (natAbs e); is = edge-minus e refl k; sign = Signed.minus none none; says = says };
-          some = some;
-        }
-    go false k =
-        record {
-          begun = record { front = []; digits = decimal (natAbs e); is = edge-plain e refl k; sign = plain none; says = says };
-          some = some;
-        }
-
--- so a reader of an edge list has its number after its last byte, whatever follows.
-pub edge-runs : (max : ℕ) (es : List ℤ) (e : ℤ) (rest : List ℕ) → natAbs e < 2 ^ 63
-    → run (edgeAt max) (edgeEnd max) (edges Fresh es) (edgeText e ++ rest) ≡ run (edgeAt max) (edgeEnd max) (edges (entry.Digits (minus e) (natAbs e)) es) rest
-edge-runs max es e rest h = leads-run (edgeAt max) (edgeEnd max) rest (signed-led max es (edge-says e h))
+unfolding edgeText
+edge-says e h =
+    record {
+      digits = decimal (natAbs e);
+      is = refl;
+      some = λ z. omega (arith, decimal-some (natAbs e), ap length z);
+      says = decimal-says (natAbs e) (omega arith) (2 ^ 63) h;
+    }
 
 -- It has at most one byte more than its magnitude has digits.
 pub edge-short : (k : ℕ) (e : ℤ) → natAbs e < 10 ^ k → 1 ≤ k → length (edgeText e) ≤ k + 1

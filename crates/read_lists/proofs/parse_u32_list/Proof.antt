@@ -3,17 +3,14 @@ use Prim.Native.Nat.{_-_}
 use native.Mathlib.Omega.{arith}
 use borrow.Author.Needs.{needs}
 use lib.ListN.{length}
-use mathlib.Core.List.{[]}
-use Rattle.read_lists.specs.Lists.{u32Of}
-use Rattle.read_lists.proofs.Judge.{held-start, held-refused, held-full, held-end, U32s, u32s-answer, u32s-more, u32s-length}
-use Rattle.codes.proofs.Lent.{laid-none}
-use Rattle.read_numbers.proofs.Words.{end-after}
+use Rattle.read_lists.specs.Lists.{u32Of, u32List}
+use Rattle.read_lists.proofs.Judge.{Laying, laying-start, laying-length, laying-end, laying-after, laying-refused, laying-full, laying-more}
 use Rattle.read_numbers.proofs.Number.{answer-value, answer-refusal, number-below}
 use Rattle.read_lists.proofs.parse_u32_list.Statement.{statement}
 use Rattle.read_lists.proofs.parse_u32_list.Tie as tie
 
 abbrev Inv-loop : tie.InvT-loop
-Inv-loop input max dst₀ n₀ at₀ dst n at = U32s max input dst₀ dst n at
+Inv-loop input max dst₀ n₀ at₀ dst n at = Laying u32Of max input dst₀ dst n at
 
 abbrev μ-loop : tie.MeasureT-loop
 μ-loop input max dst₀ n₀ at₀ dst n at = length input - at
@@ -22,8 +19,7 @@ forward-requires : tie.Need-forward-requires Inv-loop μ-loop
 forward-requires c κs = search needs
 
 loop-holds : tie.Need-loop-holds Inv-loop μ-loop
-loop-holds c =
-    record { entries = []; held = held-start u32Of _ 0 _ (c .forward .ensures .0) (c .forward .ensures .1 .1); lies = laid-none _ }
+loop-holds c = laying-start u32Of _ _ _ (c .forward .ensures .0) (c .forward .ensures .1 .1)
 
 forward-requires-2 : tie.Need-forward-requires-2 Inv-loop μ-loop
 forward-requires-2 c κs = (omega arith, omega arith)
@@ -47,12 +43,12 @@ enum-known-v : tie.Need-enum-known-v Inv-loop μ-loop
 enum-known-v c = search needs
 
 same-length : tie.Need-same-length Inv-loop μ-loop
-same-length c = u32s-length (c .before .before .before .before .before .before .before .before .loop .inv)
+same-length c = laying-length u32Of _ _ _ (c .before .before .before .before .before .before .before .before .loop .inv)
 
 returns : tie.Need-returns Inv-loop μ-loop
+unfolding u32List
 returns c =
-    let u = c .before .before .before .before .before .before .before .before .loop .inv in
-    u32s-answer u (held-full u32Of _ 0 _ (u .held) _ (c .before .before .before .before .before .before .before .loop-test .taken) (c .before .before .before .before .before .before .forward2 .ensures .0) (answer-value (c .before .before .v .given .1) (c .before .before .before .before .parse-digits .ensures)) (c .if1 .taken))
+    laying-full u32Of _ _ _ (c .before .before .before .before .before .before .before .before .loop .inv) (c .before .before .before .before .before .before .before .loop-test .taken) (c .before .before .before .before .before .before .forward2 .ensures .0) (answer-value (c .before .before .v .given .1) (c .before .before .before .before .parse-digits .ensures)) (c .if1 .taken)
 
 cast-put-u32 : tie.Need-cast-put-u32 Inv-loop μ-loop
 cast-put-u32 c = record { fits = number-below _ _ _ (omega arith) (answer-value (c .before .before .before .v .given .1) (c .before .before .before .before .before .parse-digits .ensures)) }
@@ -68,29 +64,30 @@ forward-requires-3 c κs = (omega arith, omega arith)
 
 loop-less : tie.Need-loop-less Inv-loop μ-loop
 loop-less c =
-    let u = c .before .before .before .before .before .before .before .before .before .before .before .before .before .loop .inv in
-    let l = end-after _ _ _ (c .before .before .before .before .before .before .before .before .before .before .before .before .loop-test .taken) (u .held .text (c .before .before .before .before .before .before .before .before .before .before .before .before .loop-test .taken)) (c .before .before .before .before .before .before .before .before .before .before .before .forward2 .ensures .0) in omega (arith, l, c .forward3 .ensures .1, c .before .before .before .before .before .before .before .before .before .before .before .forward2 .ensures .1)
+    let l = laying-after u32Of _ _ _ (c .before .before .before .before .before .before .before .before .before .before .before .before .before .loop .inv) (c .before .before .before .before .before .before .before .before .before .before .before .before .loop-test .taken) (c .before .before .before .before .before .before .before .before .before .before .before .forward2 .ensures .0) in
+    omega (arith, l, c .forward3 .ensures .1, c .before .before .before .before .before .before .before .before .before .before .before .forward2 .ensures .1)
 
 loop-again : tie.Need-loop-again Inv-loop μ-loop
 loop-again c =
-    rw (c .before .before .before .put-u32 .ensures) (u32s-more (c .before .before .before .before .before .before .before .before .before .before .before .before .before .loop .inv) (c .before .before .before .before .before .before .before .before .before .before .before .before .loop-test .taken) (c .before .before .before .before .before .before .before .before .before .before .before .forward2 .ensures .0) (answer-value (c .before .before .before .before .before .before .before .v .given .1) (c .before .before .before .before .before .before .before .before .before .parse-digits .ensures)) (c .before .before .before .before .before .if1 .left) (c .before .before .before .before .before .before .before .before .before .before .before .forward2 .ensures .1 .1) (c .forward3 .ensures .0) (c .forward3 .ensures .1 .1))
+    rw (c .before .before .before .put-u32 .ensures) (laying-more u32Of _ _ _ (c .before .before .before .before .before .before .before .before .before .before .before .before .before .loop .inv) (c .before .before .before .before .before .before .before .before .before .before .before .before .loop-test .taken) (c .before .before .before .before .before .before .before .before .before .before .before .forward2 .ensures .0) (answer-value (c .before .before .before .before .before .before .before .v .given .1) (c .before .before .before .before .before .before .before .before .before .parse-digits .ensures)) (c .before .before .before .before .before .if1 .left) (c .before .before .before .before .before .before .before .before .before .before .before .forward2 .ensures .1 .1) (c .forward3 .ensures .0) (c .forward3 .ensures .1 .1))
 
 enum-known-k : tie.Need-enum-known-k Inv-loop μ-loop
 enum-known-k c = search needs
 
 same-length-2 : tie.Need-same-length-2 Inv-loop μ-loop
-same-length-2 c = u32s-length (c .before .before .before .before .before .before .before .loop .inv)
+same-length-2 c = laying-length u32Of _ _ _ (c .before .before .before .before .before .before .before .loop .inv)
 
 returns-2 : tie.Need-returns-2 Inv-loop μ-loop
+unfolding u32List
 returns-2 c =
-    let u = c .before .before .before .before .before .before .before .loop .inv in
-    u32s-answer u (held-refused u32Of _ 0 _ (u .held) _ (c .before .before .before .before .before .before .loop-test .taken) (c .before .before .before .before .before .forward2 .ensures .0) (answer-refusal (c .before .k .given .1) (c .before .before .before .parse-digits .ensures)))
+    laying-refused u32Of _ _ _ (c .before .before .before .before .before .before .before .loop .inv) (c .before .before .before .before .before .before .loop-test .taken) (c .before .before .before .before .before .forward2 .ensures .0) (answer-refusal (c .before .k .given .1) (c .before .before .before .parse-digits .ensures))
 
 same-length-3 : tie.Need-same-length-3 Inv-loop μ-loop
-same-length-3 c = u32s-length (c .before .loop .inv)
+same-length-3 c = laying-length u32Of _ _ _ (c .before .loop .inv)
 
 returns-3 : tie.Need-returns-3 Inv-loop μ-loop
-returns-3 c = let u = c .before .loop .inv in u32s-answer u (held-end u32Of _ 0 _ (u .held) (c .loop-test .left))
+unfolding u32List
+returns-3 c = laying-end u32Of _ _ _ (c .before .loop .inv) (c .loop-test .left)
 
 pub parse-u32-list-spec : {M : Type 1} → statement M
 parse-u32-list-spec =

@@ -14,10 +14,10 @@ use Rattle.read_numbers.proofs.parse_digits.Statement.{statement}
 use Rattle.read_numbers.proofs.parse_digits.Tie as tie
 
 abbrev Inv-loop : tie.InvT-loop
-Inv-loop input max foreign value₀ i₀ value i = (i ≤ length input) × ((value ≤ max) × (number foreign (max + 1) input ≡ run (digit foreign (max + 1)) num.value value (drop i input)))
+Inv-loop input max role value₀ i₀ value i = (i ≤ length input) × ((value ≤ max) × (number role (max + 1) input ≡ run (digit role (max + 1)) num.value value (drop i input)))
 
 abbrev μ-loop : tie.MeasureT-loop
-μ-loop input max foreign value₀ i₀ value i = length input - i
+μ-loop input max role value₀ i₀ value i = length input - i
 
 loop-holds : tie.Need-loop-holds Inv-loop μ-loop
 loop-holds c = (search needs, (search needs, number-starts _ _ _))
@@ -71,10 +71,13 @@ loop-again c =
     let at = c .before .before .before .before .before in
     (omega arith, (omega arith, at .loop .inv .1 .1 ∙ run-go _ _ _ _ (c .before .before .before .before .loop-test .taken) (digit-more _ _ _ _ (sym (c .before .before .is-digit .ensures) ∙ c .before .if1 .taken) (omega arith))))
 
+foreign-requires : tie.Need-foreign-requires Inv-loop μ-loop
+foreign-requires c κs = search needs
+
 returns-2 : tie.Need-returns-2 Inv-loop μ-loop
 returns-2 c =
-    let at = c .before .before .before .before in
-    sym (at .loop .inv .1 .1 ∙ run-stop _ _ _ _ (c .before .before .before .loop-test .taken) (digit-foreign _ _ _ _ (sym (c .before .is-digit .ensures) ∙ c .if1 .left)))
+    let at = c .before .before .before .before .before in
+    rw (c .foreign .ensures) (sym (at .loop .inv .1 .1 ∙ run-stop _ _ _ _ (c .before .before .before .before .loop-test .taken) (digit-foreign _ _ _ _ (sym (c .before .before .is-digit .ensures) ∙ c .before .if1 .left))))
 
 returns-3 : tie.Need-returns-3 Inv-loop μ-loop
 returns-3 c = sym (c .before .loop .inv .1 .1 ∙ run-end _ _ _ _ (c .loop-test .left))
@@ -97,5 +100,6 @@ parse-digits-spec =
     add-i
     loop-less
     loop-again
+    foreign-requires
     returns-2
     returns-3)

@@ -5,7 +5,7 @@ and the tables of document 02 that scripts of this repository work out.
     python3 tests/cases/make.py ORACLE [install]
 
 ORACLE is the oracle's folder: the published Rust over plain managers, with gen.py, which makes files, and model.py, a second reading of
-document 01. It is copied to build/oracle and compiled there; cargo is needed for it, and no network. Everything else is made in
+documents 01 and 02. It is copied to build/oracle and compiled there; cargo is needed for it, and no network. Everything else is made in
 build/cases. The same oracle and the same scripts give the same bytes.
 
 At its end the script prints the table of coverage, and says of every file of stored cases, of each replay's expected output, of INDEX.tsv
@@ -167,9 +167,9 @@ def coverage_text(cases):
     lines = ["# What the stored cases cover", "",
              "Made by `make cases ORACLE=DIR`; see `tests/README.md`. A number is how many cases of a replay have what the line says.",
              "", "A case is judged by the Rust where the Rust gave the answer that is stored (for an export that is refused: an error), else by",
-             "document 01 alone, with a reason."]
+             "documents 01 and 02 alone, with a reason."]
     lines += table("Judges", "judge", cases, lambda c: [c.judge])
-    lines += table("Cases that document 01 judges alone, by reason", "reason", (c for c in cases if c.judge == DOCUMENT), lambda c: [c.reason])
+    lines += table("Cases that the documents judge alone, by reason", "reason", (c for c in cases if c.judge == DOCUMENT), lambda c: [c.reason])
     used = {c.reason for c in cases}
     lines += ["", "What the reasons are; letters with a number are entries of `docs/DIFFERENCES.md`:", ""]
     lines += ["- %s: %s" % x for x in sorted(REASONS.items()) if x[0] in used]
@@ -187,8 +187,8 @@ def coverage_text(cases):
               "An export writes no number over 16,383, so none of three groups: the smaller of a child's number and its distance is written."]
     lines += table("Nodes in binary", "has", (c for c in cases if c.met), lambda c: c.met)
     lines += ["", "The kinds of files in `loads`: `vectors` and `room` are those of `tests/vectors`; of the generated ones `whole` was made to be",
-              "read, `made to meet N` to meet that refusal, `made` for a place between, `damaged` at random in the way that is named, and `short`",
-              "has every short text of a small alphabet in that place."]
+              "read by document 01, `made to meet N` to meet that refusal, `made` for a place between, `damaged` at random in the way that is",
+              "named, and `short` has every short text of a small alphabet in that place."]
     lines += table("Kinds of loads", "kind", (c for c in cases if c.replay == "loads"), lambda c: [by_number(c.kind)])
     lines += table("Kinds of headers", "kind", (c for c in cases if c.replay == "header"), lambda c: [c.kind])
     lines += table("Sizes of large exports", "size", (c for c in cases if c.replay == "large"), lambda c: [first_number(c.kind)])
@@ -242,7 +242,7 @@ def install(files):
 def totals(cases):
     for replay in REPLAYS:
         those = [c for c in cases if c.replay == replay]
-        print("%-8s %6d cases, %6d judged by the Rust, %6d by document 01 alone; %6d accepted, %6d refused" % (
+        print("%-8s %6d cases, %6d judged by the Rust, %6d by the documents alone; %6d accepted, %6d refused" % (
             replay, len(those), sum(c.judge == RUST for c in those), sum(c.judge == DOCUMENT for c in those),
             sum(c.refusal == "0" for c in those), sum(c.refusal != "0" for c in those)))
     print("%-8s %6d cases, %6d judged by the Rust" % ("all", len(cases), sum(c.judge == RUST for c in cases)))

@@ -5,6 +5,9 @@ import subprocess
 import sys
 import tempfile
 
+# How many requests of document 02 have landed, of those that change what a load answers.
+REQUESTS = 3
+
 
 def build(oracle, into, profiles=("release",)):
     """Copies the oracle's folder and compiles the copy; nothing is written to the folder itself. ORACLE_SRC names the folder that has
@@ -26,6 +29,14 @@ def build(oracle, into, profiles=("release",)):
 
 def program(folder, profile="release"):
     return os.path.join(os.path.abspath(folder), "target", profile, "oracle")
+
+
+def reading(folder):
+    """The second reading of documents 01 and 02: the oracle's model.py, with the requests of document 02 that have landed."""
+    sys.path.insert(0, os.path.abspath(folder))
+    import model
+    model.REQUESTS = REQUESTS
+    return model
 
 
 def answers(command, commands, folder):

@@ -8,11 +8,12 @@ import os
 import re
 
 RUST = "rust"          # the Rust was run, and gave the answer that is stored
-DOCUMENT = "document"  # judged by document 01 alone; the reason says why
+DOCUMENT = "document"  # judged by documents 01 and 02 alone; the reason says why
 
 # Why a case isn't compared with the Rust, and the entries of docs/DIFFERENCES.md that say what the Rust does there.
 REASONS = {
     "over 64 bits": "N1: the Rust loses bits and reads on",
+    "minus alone": "N2: the Rust lets a minus wait for its digit; document 02 refuses it",
     "reserves memory": "H1 to H3: the Rust panics or asks for memory by a number in the file",
     "over a limit": "H4 to H7: the Rust has no limits",
     "not UTF-8": "H8, H9: the Rust mends the text",

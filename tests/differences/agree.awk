@@ -60,9 +60,9 @@ END {
     for (entry in tested)
         if (!(entry in known))
             print "the document has no entry " entry
-    # a number that the document names as document 01's answer is some row's
+    # a number that the document names as an answer of document 01 or 02 is some row's
     for (entry in words)
-        while (match(words[entry], /Document 01: [0-9]+/)) {
+        while (match(words[entry], /Document 0[12]: [0-9]+/)) {
             number = substr(words[entry], RSTART + 13, RLENGTH - 13)
             words[entry] = substr(words[entry], RSTART + RLENGTH)
             if (entry !~ /^E/ && !((entry ":" number) in refused))

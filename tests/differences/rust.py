@@ -5,8 +5,8 @@
 
 ORACLE is the oracle's folder: the published Rust over plain managers. It is copied to build/oracle and compiled there, with and without
 overflow checks. Every row of inputs.tsv is loaded, and every row of tests/export/differences.tsv exported; where the Rust does other than
-the row says, or ORACLE's model.py, a second reading of document 01, has another answer than the row, the script says so and ends with
-status 1.
+the row says, or ORACLE's model.py, a second reading of documents 01 and 02, has another answer than the row, the script says so and ends
+with status 1.
 
 inputs.tsv has an input a line, columns between tabs, `-` for none:
 
@@ -87,7 +87,7 @@ def by_document(model, data, row):
 
 
 def loads(check, model, rows):
-    """Yields each row with what the Rust does, in both builds, and what document 01 says."""
+    """Yields each row with what the Rust does, in both builds, and what the documents say."""
     with tempfile.TemporaryDirectory() as folder:
         commands = []
         for n, row in enumerate(rows):
@@ -126,16 +126,15 @@ def main():
     source = os.path.abspath(sys.argv[1])
     os.chdir(ROOT)
     oracle.build(source, RUST_FOLDER, ("release", "checked"))
-    sys.path.insert(0, os.path.abspath(RUST_FOLDER))
+    model = oracle.reading(RUST_FOLDER)
     import check
-    import model
     inputs, written = rows_of("tests/differences/inputs.tsv"), rows_of("tests/export/differences.tsv")
     wrong = 0
     for row, plain, checked, document in loads(check, model, inputs):
         says = row[10], row[11] if row[11] != "-" else row[10]
         if row[10] != "-" and says != (plain, checked) or row[4:8] != document:
             wrong += 1
-            print("%s %s levels %s: the Rust %s, with overflow checks %s, document 01 %s" % (row[9], row[0], row[1], plain, checked, document))
+            print("%s %s levels %s: the Rust %s, with overflow checks %s, the documents %s" % (row[9], row[0], row[1], plain, checked, document))
     for row, result, file in exports(written):
         same = row[20] != "rust" or in_order(file) == bytes.fromhex(row[18])
         if result != row[22] or not shows(file, row[23]) or not same:

@@ -3,7 +3,7 @@
 
     python3 recode_cases.py ORACLE FILES OUTDIR
 
-ORACLE is the folder of the compiled Rust; its model.py loads a file by document 01. FILES is the folder of the files, and OUTDIR the one to
+ORACLE is the folder of the compiled Rust; its model.py loads a file by documents 01 and 02. FILES is the folder of the files, and OUTDIR the one to
 write to: OUTDIR/NAME is what `recode` makes of FILES/NAME. What it writes is worked out by lines.py, word by word from the definition, and
 never by the library. The Rust recodes each file too. Where both write one, the two must be the same up to the order inside a level, but for
 files outside the comparison (`outside` in model.py).
@@ -75,8 +75,7 @@ def share_a_level(file):
 
 def main():
     folder, files, outdir = [os.path.abspath(x) for x in sys.argv[1:]]
-    sys.path.insert(0, folder)
-    import model
+    model = oracle.reading(folder)
     names, written, shared, same = sorted(os.listdir(files)), 0, 0, 0
     for name, said in zip(names, oracle.answers(oracle.program(folder), ["recode " + x for x in names], files)):
         with open(os.path.join(files, name), "rb") as f:

@@ -4,7 +4,7 @@
     python3 rust_cases.py ORACLE GENERATED LOAD FILES EXPORT OUTDIR
 
 ORACLE is the folder of the compiled Rust: its program, target/release/oracle, imports a file and exports it again, and its model.py loads a
-file by document 01, which gives the store to export from. GENERATED is a folder of files with a list of export commands, export.txt, that
+file by documents 01 and 02, which gives the store to export from. GENERATED is a folder of files with a list of export commands, export.txt, that
 ORACLE's gen.py makes; LOAD and FILES are a list of loads and the folder of their files, as tests/vectors/README.md describes them: each
 file that is accepted is exported in both modes and versions, with other variable orders and names each time.
 
@@ -177,8 +177,7 @@ def write(folder, name, rows):
 def main():
     folder, generated, load, files, stored, outdir = [os.path.abspath(x) for x in sys.argv[1:]]
     program = oracle.program(folder)
-    sys.path.insert(0, folder)
-    import model
+    model = oracle.reading(folder)
     rng = random.Random(20261115)
     with open(os.path.join(generated, "export.txt")) as f:
         commands = [line.rstrip("\n") for line in f if line.startswith("export ")]

@@ -161,7 +161,7 @@ static void check_accepted(struct load *c, struct store *s)
         holds(magnitude_of(roots_of(c)[i]) >= 1 && magnitude_of(roots_of(c)[i]) <= s->count, "a root is an edge of the store");
 }
 
-static int same_load_answers(const struct zt_load_answer *a, const struct zt_load_answer *b)
+int same_load_answers(const struct zt_load_answer *a, const struct zt_load_answer *b)
 {
     return a->refusal == b->refusal && a->line == b->line && a->ascii == b->ascii && a->varinfo == b->varinfo && a->ddstart == b->ddstart
         && a->ddlen == b->ddlen && a->nnodes == b->nnodes && a->nvars == b->nvars && a->nsuppvars == b->nsuppvars && a->nroots == b->nroots

@@ -63,6 +63,8 @@ struct load load_of(const void *file, size_t file_len, const uint16_t *list, siz
 void call_load(struct load *c, struct store *s);
 void done_with(struct load *c);
 
+int same_load_answers(const struct zt_load_answer *a, const struct zt_load_answer *b);
+
 /* Outputs of a load that was made. */
 const zt_edge *roots_of(const struct load *c);
 const uint32_t *numbers_of(const struct load *c, enum load_part part);

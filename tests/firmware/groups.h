@@ -49,6 +49,10 @@ void hold_load(const struct load_vector *v);
 /* vectors.c: after `expect_failures`, something didn't hold of a changed case; one more was changed */
 void must_be_noticed(const char *change);
 
+/* whole_loads.c: stored loads with all that they give, and changed ones */
+void try_whole_loads(void);
+void change_whole_loads(void);
+
 /* lists.c: lists of calls on one store, and changed ones */
 void try_lists(void);
 void change_lists(void);

@@ -34,6 +34,7 @@ static void try_all(size_t damaged)
     try_lengths();
     try_empty_parts();
     try_loads();
+    try_whole_loads();
     try_differences();
     try_stores();
     try_evaluations();

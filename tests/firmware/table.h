@@ -7,7 +7,7 @@
 
 #include "stores.h"
 
-enum { MOST_COLUMNS = 32 };
+enum { MOST_COLUMNS = 34 };
 
 /* A whole file in memory. */
 struct bytes {

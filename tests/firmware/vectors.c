@@ -405,6 +405,7 @@ void try_changed_cases(void)
     change_loads(vectors, "load.tsv");
     change_loads(vectors, "room.tsv");
     change_loads(differences, "inputs.tsv");
+    change_whole_loads();
     change_stores();
     change_evaluations();
     for (i = 0; i < EXPORT_TABLES; i++)

@@ -10,13 +10,14 @@ folder to write to. The same files and the same script give the same cases, byte
 
 A case is a file, the lengths of the nine lent lists and what the caller found before, and what loading the header gives: the refusal
 and its line, or the numbers of the header and the entries of each lent list. Every answer is worked out by the section 'The document'
-below, a plain reading of document 01 ('Answers', 'Limits', 'Header'). It is compared
+below, a plain reading of document 01 ('Answers', 'Limits', 'Header') and of document 02 (order 3). It is compared
 
 - with LOAD, for its files: a refusal and its line must be LOAD's; an accepted header is one that LOAD accepts, or refuses for its nodes;
 - with the Rust, for every file that the call comes to read: an accepted header must be accepted with the same values, and a refusal
   must be the Rust's, by its message, with the same line. The Rust has no 18 and 19: there it must not refuse an earlier line. It
   reserves memory by a count before the count is judged: where one of ten million or more is refused, it may panic or abort instead.
-  The position after `.nodes`' line isn't among what it tells.
+  The position after `.nodes`' line isn't among what it tells. A root list with a minus that doesn't touch its digit has left the match
+  with the Rust by document 02: there the Rust must give what document 01 says of the list as tests/cases/minus.py reads it.
 
 Where anything differs the script stops. The cases are:
 
@@ -24,6 +25,8 @@ Where anything differs the script stops. The cases are:
 - the cases 'Tried by hand' of document 01 that a header has;
 - spellings: every key, longer and shorter by a byte and in other letters; blanks, tabs, CRs; a last line with no LF; empty lines;
 - values of each key, good and bad, and each byte there is in some places of a header;
+- root lists with a minus and what may follow it: a blank, a tab, the end, a CR; before and behind entries and other faults, at the limit
+  too, in a list that counts and in one that a later line replaces;
 - names and the diagram's name with every kind of byte sequence that is UTF-8 or isn't;
 - the limits, at the last value that passes and at the first that doesn't, also in lists that a later line replaces;
 - the lists of names, given or not, alike and unlike, in and outside the support;
@@ -54,6 +57,7 @@ import sys
 import tempfile
 
 sys.path.insert(0, os.path.join(os.path.dirname(os.path.abspath(__file__)), "..", "cases"))
+import minus  # noqa: E402
 from record import DOCUMENT, RUST, Record  # noqa: E402
 
 VARS, ROOTS, NODES, INPUT = 4096, 1024, 32767, 16777216
@@ -132,24 +136,17 @@ def number_list(value):
 
 
 def edge_list(value):
-    """'17 a second minus, or a minus after a digit.' '`- 5 7` reads -5, 7. `3 -` reads 3.'"""
+    """'A minus must touch its digit': an entry is a word, an optional minus and digits. '17 a second minus, or a minus after a digit', and
+    'also for a minus without its digit, found where the blank or the end stands', which is where its word ends."""
     def entries():
-        minus = False
         for _, word in words(value):
-            i = 0
-            while i < len(word):
-                if word[i:i + 1] == b"-":
-                    if minus:
-                        raise Refused(17)
-                    minus, i = True, i + 1
-                    continue
-                digits = re.match(rb"[0-9]*", word[i:]).group()
-                v = digits_of(digits, 1 << 63)
-                i += len(digits)
-                if i < len(word):
-                    raise Refused(17 if digits and word[i:i + 1] == b"-" else 16)
-                yield -v if minus else v
-                minus = False
+            sign, digits, rest = re.fullmatch(rb"(-?)([0-9]*)(.*)", word, flags=re.S).groups()
+            v = digits_of(digits, 1 << 63)
+            if rest:
+                raise Refused(17 if rest.startswith(b"-") else 16)
+            if not digits:
+                raise Refused(17)
+            yield -v if sign else v
     return counted(entries(), ROOTS)
 
 
@@ -192,19 +189,20 @@ READ = {  # for each key what its value says
 }
 
 
-def said(f):
-    """What each key's last value says, the position after `.nodes`' line and that line's number; or the refusal and its line."""
+def said(f, read):
+    """What each key's last value says, the position after `.nodes`' line and that line's number; or the refusal and its line. `read` has
+    for each key how its value is read."""
     # '`.ver` may be missing; mode defaults to A, varinfo to 4.' A missing number is 0, a missing list empty.
-    h = {key: [] for key in READ}
+    h = {key: [] for key in read}
     h.update({b".mode": b"A", b".varinfo": b"4", b".dd": (0, 0), b".nnodes": 0, b".nvars": 0, b".nsuppvars": 0, b".nroots": 0})
     for number, (at, line, after) in enumerate(lines_of(f), 1):
         key, value, start = key_and_value(line)
         if key == b".nodes":  # 'The value of `.nodes` is ignored.'
             return h, after, number
-        if key not in READ:
+        if key not in read:
             raise Refused(11, number)
         try:
-            h[key] = READ[key](value, at + start)  # 'A repeated key: the last counts, but each is read.'
+            h[key] = read[key](value, at + start)  # 'A repeated key: the last counts, but each is read.'
         except Refused as e:
             raise Refused(e.args[0], number)
     raise Refused(10, 0)
@@ -268,7 +266,7 @@ class Answer:
         return Answer(self.numbers, self.lists)
 
 
-def loaded(f, lent=LENT, found=0):
+def loaded(f, lent=LENT, found=0, read=READ):
     """'Order: load gives 1 (lists), 3, 19 for the input's length, header'."""
     if any(n < (ROOTS if i >= 6 else VARS) for i, n in enumerate(lent)):
         return Answer((1, 0))
@@ -277,7 +275,7 @@ def loaded(f, lent=LENT, found=0):
     if len(f) > INPUT:
         return Answer((19, 0))
     try:
-        h, after, lines = said(f)
+        h, after, lines = said(f, read)
     except Refused as e:
         return Answer(e.args)
     refusal = whole(f, h)
@@ -349,26 +347,48 @@ def rust_refusal(line):
     return number[0], int(at.group(1)) if at else 0
 
 
+def waiting_list(value):
+    """A root list as the Rust reads it: a minus waits for its digit."""
+    def entries():
+        found, refusal = minus.waiting(value)
+        yield from found
+        if refusal:
+            raise Refused(refusal)
+    return counted(entries(), ROOTS)
+
+
+READ_BY_RUST = {**READ, b".rootids": lambda v, at: waiting_list(v)}
+
+
+def is_apart(case):
+    """Is a minus that doesn't touch its digit the fault of a header?"""
+    number, line = case.answer.numbers[:2]
+    return number == 17 and minus.alone(key_and_value([x for _, x, _ in lines_of(case.file)][line - 1])[1])
+
+
+def held(file, answer, lines):
+    """How the Rust's answer stands to a reading's; who judges; whether it is as it should be."""
+    number, kind = answer.numbers[0], lines[0].split()[0]
+    if number == 0:
+        return "accepted alike", (RUST,), lines == rust_values(file, answer)
+    if kind in ("panic", "abort"):
+        fits = re.search(rb"^\.n\w+[ \t]+0*[1-9][0-9]{7}", file, flags=re.M) is not None
+        return "panic or abort in place of a refusal", (DOCUMENT, "reserves memory"), fits
+    if number in (18, 19):
+        fits = kind == "ok" or (rust_refusal(lines[0])[1] or 10 ** 9) >= answer.numbers[1]
+        how = "%d, accepted or refused later by the Rust" % number
+        return how, (DOCUMENT, "not UTF-8" if number == 18 else "over a limit"), fits
+    return "refused alike", (RUST,), kind == "err" and rust_refusal(lines[0]) == tuple(answer.numbers)
+
+
 def compare(oracle, cases, tally):
     cases = [c for c in cases if c.lent == LENT and not c.found]
     for case, lines in zip(cases, rust_answers(oracle, [c.file for c in cases])):
-        number, kind = case.answer.numbers[0], lines[0].split()[0]
-        case.judge = (RUST,)
-        if number == 0:
-            how = "accepted alike"
-            fits = lines == rust_values(case.file, case.answer)
-        elif kind in ("panic", "abort"):
-            how = "panic or abort in place of a refusal"
-            case.judge = (DOCUMENT, "reserves memory")
-            fits = re.search(rb"^\.n\w+[ \t]+0*[1-9][0-9]{7}", case.file, flags=re.M) is not None
-        elif number in (18, 19):
-            how = "%d, accepted or refused later by the Rust" % number
-            case.judge = (DOCUMENT, "not UTF-8" if number == 18 else "over a limit")
-            line = case.answer.numbers[1]
-            fits = kind == "ok" or (rust_refusal(lines[0])[1] or 10 ** 9) >= line
+        if is_apart(case):
+            how, _, fits = held(case.file, loaded(case.file, read=READ_BY_RUST), lines)
+            how, case.judge = "17 for a minus alone; as the Rust reads it " + how, (DOCUMENT, "minus alone")
         else:
-            how = "refused alike"
-            fits = kind == "err" and rust_refusal(lines[0]) == tuple(case.answer.numbers)
+            how, case.judge, fits = held(case.file, case.answer, lines)
         if not fits:
             sys.exit("the Rust differs: %r\n%s\n%s" % (case.file[:200], case.answer.numbers, "\n".join(lines)))
         tally[how] = tally.get(how, 0) + 1
@@ -514,6 +534,30 @@ def of_values():
         yield header(f".dd\t {value} \t")
         yield header(f".dd {value}", ".dd")
         yield header(".dd y", f".dd {value}")
+
+
+# Root lists, between bars, with a minus and what may follow it.
+MINUSES = ("-|-\t|- |-\r|-\r\r|-\r |-\r1|1 -\r2|-\r -|- \r|-\t\r1|- 1|-\t1|-  \t 1|1 -|1\t-|1 - 2|1 -\t2|-1 -|-1 - 1|- -|-\t-|- -1|-1 - -1"
+           "|- 0|0 -|-0 -|--|-- -|- --|-- 1|3-|3- -|- 3-|3 - 4-|-x|-x -|- x|x -|- 1x|1x -|1 - x|-\xff|- \xff|-\0|-\x0b1|-\xc2\xa01"
+           "|+1 -|- +1|-/|-:|9223372036854775808 -|- 9223372036854775808|1 - 9223372036854775808|-9223372036854775808 -|-9223372036854775807 -"
+           "|-9223372036854775807-|- 9223372036854775808x|10 -|- 10|-10 -")
+
+
+def of_minuses():
+    for value in MINUSES.split("|"):
+        n = len(re.findall("[0-9]+", value))
+        yield header(".nnodes 9", f".rootids {value}", ".nroots 0")
+        yield header(".nnodes 9", f".nroots {n}", f".rootids\t{value}")
+        yield header(f".rootids {value}", ".nnodes 9", ".nroots 1", ".rootids -9")  # 'the last counts, but each is read'
+        yield header(".nnodes 9", ".rootids -9", f".rootids {value}", ".rootids", ".nvar")
+        yield header(".mode A", nodes=f".rootids {value}")
+    for over in ("-\t", "-\t1", "- 1 1", "1 -", "1 - 1", "-1 -", "-1 -x", "-x -", "- x", "--", "1- -", "9223372036854775808 -", "-\r1",
+                 "1 -\r1"):
+        yield header(".nnodes 1", ".nroots 1", listed(".rootids", [1] * ROOTS + [over]), ".rootids 1")
+        yield header(".nnodes 1", listed(".rootids", [-1] * (ROOTS - 1) + [over]), f".nroots {ROOTS}")
+    for line in (".ver x", ".mode", ".nvars -", ".ids -", ".permids 1 -", ".rootids x", ".rootids 1-", ".rootnames -", ".varnames - -"):
+        yield header(line, ".rootids -")
+        yield header(".rootids 1 -", line)
 
 
 def of_bytes():
@@ -805,7 +849,7 @@ def main():
     for name, files in (("hand", of_hand()), ("spellings", of_spellings()), ("values", of_values()), ("bytes", of_bytes()),
                         ("utf8", of_utf8()), ("limits", of_limits()), ("full", of_full(rng)), ("names", of_names()), ("order", of_order())):
         groups.append((name, map(Case, files)))
-    groups += [("lent", of_lent(rng)), ("headers", map(Case, of_headers(rng, 900)))]
+    groups += [("lent", of_lent(rng)), ("headers", map(Case, of_headers(rng, 900))), ("minuses", map(Case, of_minuses()))]
     seen, whole_file, false_file, cut_file, rust, counts, record = set(), [], [], [], {}, {}, Record()
     for name, cases in groups:
         cases = list(unique(cases, seen))

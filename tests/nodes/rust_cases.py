@@ -1,17 +1,18 @@
 #!/usr/bin/env python3
-"""Makes loads whose answers the Rust gives, and loads outside the comparison, judged by document 01.
+"""Makes loads whose answers the Rust gives, and loads outside the comparison, judged by documents 01 and 02.
 
     python3 rust_cases.py ORACLE LOAD FILES GENERATED.. > CASES
 
-ORACLE is the folder of the compiled Rust, which has its program, target/release/oracle, and model.py, a second reading of document 01. LOAD
-and FILES are a list of loads and the folder of their files, as tests/vectors/README.md describes them. Each GENERATED is a folder of files
+ORACLE is the folder of the compiled Rust, which has its program, target/release/oracle, and model.py, a second reading of documents 01 and
+02, which is told how many requests of document 02 have landed. LOAD and FILES are a list of loads and the folder of their files, as tests/vectors/README.md describes them. Each GENERATED is a folder of files
 with a list, index.tsv, that ORACLE's gen.py makes.
 
 Every file is loaded by the Rust and by model.py, into an empty store. Where both refuse it with the same number and line, or accept it with
-the same header, roots, nodes and truth tables, the judge is the Rust. Else document 01 judges, and there must be a reason that
-tests/cases/record.py names; where none fits, the script stops: docs/DIFFERENCES.md lacks an entry. Files that document 01 puts outside the
-comparison are judged by it even where the Rust agrees. The answers of LOAD must be model.py's, and so must the truth tables that gen.py
-worked out from the lines that it wrote.
+the same header, roots, nodes and truth tables, the judge is the Rust. Else the documents judge, and there must be a reason that
+tests/cases/record.py names; where none fits, the script stops: docs/DIFFERENCES.md lacks an entry. Files that the documents put outside the
+comparison are judged by them even where the Rust agrees. Of a file that is refused for a minus that doesn't touch its digit, the Rust must
+give what model.py says of it without the requests of document 02, or differ from that in a way that has an entry. The answers of LOAD must be
+model.py's, and so must the truth tables that gen.py worked out from the lines that it wrote.
 
 All of LOAD is kept. Of the generated files some are kept of each answer and judge, shared among the kinds of files (whole, made to meet a
 refusal, damaged in each way, each group of short texts) and spread evenly over each.
@@ -25,6 +26,7 @@ import sys
 
 HERE = os.path.dirname(os.path.abspath(__file__))
 sys.path.insert(0, os.path.join(HERE, "..", "cases"))
+import minus  # noqa: E402
 import oracle  # noqa: E402
 from record import DOCUMENT, RUST  # noqa: E402
 
@@ -109,6 +111,22 @@ def agrees(check, m, load, header, imported):
             and (load.levels > 8 or [settings(x[5], load.levels) for x in roots] == m["tables"]))
 
 
+def edge_list(model, data, line):
+    """The edge list of a file's line, where the line is refused for it: a root list, or the children of a text node line."""
+    text = data.split(b"\n")[line - 1].rstrip(b"\r")
+    try:
+        before = 3 if model.read_header(data)[0]["varinfo"] != 4 else 2  # the number, perhaps an extra word, the variable
+    except model.Refused:
+        before = 1  # the key
+    return re.match(rb"(?:[ \t]*[^ \t]+){%d}(.*)" % before, text, re.S).group(1)
+
+
+def is_apart(model, load, m):
+    """Is a minus that doesn't touch its digit the fault of a file?"""
+    number, line = m.get("refused", (0, 0))
+    return number == 17 and minus.alone(edge_list(model, load.data, line))
+
+
 def reason(m, same, said):
     """Why document 01 judges alone; None where the Rust does."""
     refusal = m["refused"][0] if "refused" in m else 0
@@ -130,23 +148,34 @@ def reason(m, same, said):
     sys.exit("the Rust differs in a way that has no entry: %s, the Rust %s" % (m.get("refused", "accepted"), said))
 
 
+def read(model, load, requests=oracle.REQUESTS):
+    """What model.py says of a load, where so many requests of document 02 have landed."""
+    model.REQUESTS = requests
+    m = model.load(load.data, load.levels, load.list, load.slots)
+    model.REQUESTS = oracle.REQUESTS
+    if "refused" not in m:
+        m["tables"] = tables_of(m, load.levels) if load.levels <= 8 else []
+    return m
+
+
 def judged(folder, loads):
     """Each load with its answer, by model.py, and the reason why the Rust isn't its judge."""
-    sys.path.insert(0, folder)
+    model = oracle.reading(folder)
     import check
-    import model
     said = oracle.answers(oracle.program(folder), [c for load in loads for c in load.commands()], ".")
     for load, header, imported in zip(loads, said[0::2], said[1::2]):
-        m = model.load(load.data, load.levels, load.list, load.slots)
-        if "refused" not in m:
-            m["tables"] = tables_of(m, load.levels) if load.levels <= 8 else []
-            assert load.tables is None or load.tables == m["tables"], load.source
+        m = read(model, load)
+        apart = is_apart(model, load, m)
+        by_rust = read(model, load, 0) if apart else m
+        assert apart or m == read(model, load, 0), load.source
+        assert load.tables is None or "refused" in by_rust or load.tables == by_rust["tables"], load.source
+        why = reason(by_rust, agrees(check, by_rust, load, header, imported), imported[0])
         if load.list is None:
             try:
                 load.list = sorted(model.read_header(load.data)[0]["permids"])
             except model.Refused:
                 load.list = []
-        yield load, m, reason(m, agrees(check, m, load, header, imported), imported[0])
+        yield load, m, "minus alone" if apart else why
 
 
 def row(load, m, why):

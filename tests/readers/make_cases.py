@@ -7,8 +7,9 @@ ORACLE is a program that runs the published Rust on DDDMP files (its commands ar
 folder to write to. The same ORACLE and the same script give the same files, byte for byte.
 
 A case is an input of one reader with its answer. Every answer is worked out by the section 'The document' below, a plain reading
-of document 01. The Rust has no entry for a reader by itself, so many cases are put into a file that the Rust does read, whose
-answer shows what the reader made of the input; where that differs from the document's, the script stops. So:
+of documents 01 and 02. The Rust has no entry for a reader by itself, so many cases are put into a file that the Rust does read, whose
+answer shows what the reader made of the input; where that differs from the document's, the script stops. An edge list with a minus
+that doesn't touch its digit has left the match with the Rust by document 02: there the Rust must read it as tests/cases/minus.py says. So:
 
 From the Rust, wherever the input can stand in such a file (no LF, no CR at its end, and for single values no blank at its ends,
 since the Rust takes these off before):
@@ -24,9 +25,10 @@ since the Rust takes these off before):
 - the classes blank, digit, line end and white space of a byte.
 
 On the document alone: 19 and the entries that stand before it (lists are compared with the Rust without their limit), 18 (the Rust
-accepts such names), 38 (the Rust loses bits there), what a lent list holds where it is shorter or longer than the entries, and the
-positions that a reader gives; the classes of control bytes and the codes of two bits; the limits; `parse_digits`, `forward` and
-`backward`, which are steps of other readers; and every input that can't stand in a file as above.
+accepts such names), 38 (the Rust loses bits there), 17 of a minus that doesn't touch its digit (the Rust lets it wait), what a lent
+list holds where it is shorter or longer than the entries, and the positions that a reader gives; the classes of control bytes and the
+codes of two bits; the limits; `parse_digits`, `forward` and `backward`, which are steps of other readers; and every input that can't
+stand in a file as above.
 
 The files:
 
@@ -49,6 +51,7 @@ import sys
 import tempfile
 
 sys.path.insert(0, os.path.join(os.path.dirname(os.path.abspath(__file__)), "..", "cases"))
+import minus  # noqa: E402
 from record import DOCUMENT, RUST, Record  # noqa: E402
 
 FILL = 0x5A5A5A5A
@@ -67,12 +70,12 @@ NUMBER_OF = {name: k for k, name in enumerate(KINDS)}
 # A reader's answer is (refusal, values): (0, [..]) or (number, []). A list's is (refusal, entries): the entries before the fault.
 
 
-def single(s, bits_end, foreign=14):
+def single(s, bits_end, foreign=14, at_minus=None):
     """A number below bits_end: '14 a single number has a foreign character or no digit. 15 a number is too large.' The first
-    byte at which the number is no number any more decides which."""
+    byte at which the number is no number any more decides which. A minus is a foreign byte unless it has a refusal of its own."""
     for end in range(1, len(s) + 1):
         if not s[:end].isdigit():
-            return foreign, []
+            return at_minus if at_minus and s[end - 1:end] == b"-" else foreign, []
         if int(s[:end]) >= bits_end:
             return 15, []
     return (0, [int(s)]) if s else (14, [])
@@ -112,27 +115,35 @@ def number_list(s, limit=None):
     return limited(entries, 0, limit)
 
 
+def edge(word):
+    """An entry of an edge list: an optional minus and digits. '17 a second minus, or a minus after a digit', 16, and 15 above
+    9223372036854775807 in magnitude. '17 also for a minus without its digit, found where the blank or the end stands': behind this
+    word."""
+    if word == b"-":
+        return 17, []
+    refusal, values = single(word.removeprefix(b"-"), 2 ** 63, foreign=16, at_minus=17)
+    return refusal, [-v if word.startswith(b"-") else v for v in values]
+
+
 def edge_list(s, limit=None):
-    """'17 a second minus, or a minus after a digit', 16, and 15 above 9223372036854775807 in magnitude. `- 5 7` reads -5, 7 and
-    `3 -` reads 3: a minus waits for its digits, and is no entry without any."""
-    entries, at = [], 0
-    while True:
-        m = re.compile(rb"[ \t]*(-?)[ \t]*([0-9]*)").match(s, at)
-        minus, digits, at = m.group(1), m.group(2), m.end()
-        if any(int(digits[:n]) >= 2 ** 63 for n in range(1, len(digits) + 1)):
-            return limited(entries, 15, limit)
-        if at < len(s) and s[at] == ord("-"):
-            return limited(entries, 17, limit)
-        if at < len(s) and s[at] not in BLANKS:
-            return limited(entries, 16, limit)
-        if not digits:
-            return limited(entries, 0, limit)
-        entries.append(-int(digits) if minus else int(digits))
+    """Root lists and child lists: 'A minus must touch its digit', so that each word is an entry by itself."""
+    entries = []
+    for _, word in words(s):
+        refusal, values = edge(word)
+        if refusal:
+            return limited(entries, refusal, limit)
+        entries += values
+    return limited(entries, 0, limit)
 
 
-def children(s):
+def is_apart(s):
+    """Is a minus that doesn't touch its digit the fault of an edge list?"""
+    return edge_list(s)[0] == 17 and minus.alone(s)
+
+
+def children(s, read=edge_list):
     """'The child list is read whole, then counted': the count and the first two, 0 where there are fewer."""
-    refusal, entries = edge_list(s)
+    refusal, entries = read(s)
     if refusal:
         return refusal, []
     return 0, [len(entries)] + (entries + [0, 0])[:2]
@@ -273,8 +284,10 @@ class Case:
     def of_parse_u64(self):
         return *first(self.s, 2 ** 64), []
 
-    def of_parse_digits(self):  # the largest number is a and b together, the refusal of a foreign byte is in room
-        refusal, values = single(self.s, self.a + (self.b << 32) + 1, foreign=self.room)
+    def of_parse_digits(self):  # the largest number is a and b together, the refusal of a minus is in room
+        # a single number, an entry of a list, the magnitude of an edge
+        foreign, at_minus = {14: (14, None), 16: (16, None), 17: (16, 17)}[self.room]
+        refusal, values = single(self.s, self.a + (self.b << 32) + 1, foreign, at_minus)
         return (refusal, values, []) if self.s else (0, [0], [])
 
     def of_parse_u32_list(self):  # a: the limit
@@ -370,7 +383,8 @@ def of_numbers(rng):
         yield Case("parse_u32", s)
         yield Case("parse_u64", s)
     for s in short(b"09-x", 3):
-        yield Case("parse_digits", s, a=9, room=16)
+        for at_minus in (14, 16, 17):
+            yield Case("parse_digits", s, a=9, room=at_minus)
     for v in EDGES_OF_WIDTHS:
         for d in around(v):
             for kind in ("parse_single_u32", "parse_single_u64"):
@@ -381,6 +395,12 @@ def of_numbers(rng):
         for most in (9, 10, 99, 255, 2 ** 32 - 1, 2 ** 63 - 1, 2 ** 64 - 1):
             for d in (b"%d" % v, b"00%d" % v, b"%dx" % v, b"%d" % (most + 1), b"%d" % most, b"%dx" % most):
                 yield Case("parse_digits", d, a=most % 2 ** 32, b=most >> 32, room=rng.choice([14, 16]))
+            for d in (b"%d" % v, b"%dx" % v, b"%d-" % v, b"%dx" % most, b"%d-" % most, b"%d-" % (most + 1)):
+                yield Case("parse_digits", d, a=most % 2 ** 32, b=most >> 32, room=17)
+            for at_minus in (14, 16):
+                yield Case("parse_digits", b"%d-" % most, a=most % 2 ** 32, b=most >> 32, room=at_minus)
+        for d in around(v):
+            yield Case("parse_digits", d, a=2 ** 32 - 1, b=2 ** 31 - 1, room=17)
     for x in range(256):
         kind = ("parse_single_u32", "parse_single_u64", "parse_u32", "parse_u64")[x % 4]
         yield Case(kind, b"4" + bytes([x]))
@@ -446,7 +466,10 @@ def of_lists(rng):
 
 MINUSES = [b"- 5 7", b"3 -", b"3-", b"--5", b"-", b"-0", b"5 -6", b"-\t5\t-\t7", b"- - 5", b"-5-6", b"-5 - 6",
            b"-x", b"- x", b"-5x", b"- 5 -", b"-\t", b" -", b"\t-\t", b"0 -0 0", b"-00", b"- 0", b"5  -6", b"5\t-6\t", b"3 --", b"3 - -",
-           b"3 -x", b"-5 7-", b"1 2 3-", b"+5", b"- +5", b"5 -6 7", b"-1 -2 -3", b"-1-", b"- 1 - 2 - 3 -"]
+           b"3 -x", b"-5 7-", b"1 2 3-", b"+5", b"- +5", b"5 -6 7", b"-1 -2 -3", b"-1-", b"- 1 - 2 - 3 -",
+           b"3\t-", b"3 -\t", b"3 - 4", b"3 -\t4", b"-\t4", b"-x -", b"x -", b"- 3-", b"3- -", b"--  -", b"-\r", b"-\r1", b"-\r 1", b"- \r",
+           b"3 -\r4", b"-\x0b5", b"-\x005", b"9223372036854775808 -", b"- 9223372036854775808", b"-9223372036854775808 -",
+           b"-9223372036854775807 -", b"-9223372036854775807-", b"1 1 -", b"0 0 -", b"1 -1\t-\t"]
 
 
 def of_edges(rng):
@@ -473,7 +496,8 @@ def of_edges(rng):
         yield Case(kind, b"-4" + bytes([x]) + b"2", a=3, room=3)
         yield Case("parse_children", b"4 -" + bytes([x]) + b"2")
     yield from at_limits(kind, lambda i: b"%d" % ((-1) ** i * (2 ** 63 - 1 if i % 77 == 76 else i % 9 + 1)), (ROOT_LIMIT,),
-                         (b" x", b" 7 x", b"x", b"-", b" -", b" - x", b" --", b" 9223372036854775808", b" -7", b" -7 -7-"))
+                         (b" x", b" 7 x", b"x", b"-", b" -", b" - x", b" --", b" 9223372036854775808", b" -7", b" -7 -7-",
+                          b"\t-", b" - 7", b"\t-\t7", b" 7 -", b" -7 -", b" -7 - 7", b" -x -", b" 9223372036854775808 -"))
     for _ in range(150):
         entries = [rng.choice([b"", b"-", b"- "]) + b"%d" % rng.choice([rng.randrange(10), rng.randrange(2 ** 63), 2 ** 63 - 1])
                    for _ in range(rng.randrange(9))]
@@ -481,6 +505,13 @@ def of_edges(rng):
         yield Case("parse_children", spread(rng, entries[:4]))
     for n in (0, 1, 2, 3, 1024, 1025, 5000):  # 'child lists have no 19'
         yield Case("parse_children", b" -7" * n)
+        yield Case("parse_children", b" -7" * n + b" -")
+    other = random.Random(3)
+    for _ in range(150):  # each minus touches its digit, but perhaps the last
+        entries = [b"%d" % (other.choice([1, -1]) * other.choice([other.randrange(10), other.randrange(2 ** 63), 2 ** 63 - 1]))
+                   for _ in range(other.randrange(9))] + [b"-"] * (other.randrange(5) == 0)
+        yield Case(kind, spread(other, entries), a=other.choice([3, 8, 20]), room=other.randrange(10))
+        yield Case("parse_children", spread(other, entries[-4:]))
 
 
 def encoded(c, n):
@@ -748,8 +779,16 @@ def text_node(number, line, check):
     return "import 0 --levels-list ,", b".nnodes %d\n.nodes\n" % number + before + line + b"\n.end\n", check
 
 
+def read_by_rust(s):
+    """What the Rust must make of an edge list: what the documents say, unless it has a minus that doesn't touch its digit."""
+    if not is_apart(s):
+        return edge_list(s)
+    entries, refusal = minus.waiting(s)
+    return refusal, entries
+
+
 def edges_by_roots(s):
-    refusal, entries = edge_list(s)
+    refusal, entries = read_by_rust(s)
 
     def check(r):
         if refusal:
@@ -821,7 +860,7 @@ class Asked:
     def parse_children(self, c):
         if not in_line(c.s):
             return []
-        refusal, values = children(c.s)
+        refusal, values = children(c.s, read_by_rust)
 
         def check(r):
             if refusal:
@@ -934,8 +973,10 @@ def ask(oracle, cases):
 
 
 def judge(c):
-    """18, 19 and 38 are document 01's own even where a file shows what else the Rust reads."""
+    """18, 19 and 38 are document 01's own even where a file shows what else the Rust reads, and so is document 02's 17."""
     added = {18: "not UTF-8", 19: "over a limit", 38: "over 64 bits"}.get(c.answer[0])
+    if c.kind in ("parse_edge_list", "parse_children") and c.answer[0] == 17 and is_apart(c.s):
+        added = "minus alone"
     return (DOCUMENT, added) if added else (RUST,) if c.seen else (DOCUMENT, "no file shows it")
 
 

@@ -1,5 +1,5 @@
 /*
- * Zonetweed: loads DDDMP files of decision diagrams into a store, evaluates their roots, joins them and exports files.
+ * Zonetweed: loads DDDMP files of decision diagrams into a store, evaluates their roots, finds settings for them, joins them and exports files.
  *
  * The calls are proved against the definitions of the repository: for every content of the parts that it is lent, a call gives the
  * answer, and leaves in each part the content, that are stated there. What the caller owes is not proved, and is listed under 'Parts'.
@@ -46,11 +46,11 @@
  *
  * Threads
  *   There is no state beside the parts. Calls at the same time are independent of each other where none writes a part that another is lent:
- *   calls on different stores always are, and so are evaluations, exports and opposites of one store while no load and no join changes it.
- *   Work and cache are written by each call, so calls at the same time are lent different ones.
+ *   calls on different stores always are, and so are evaluations, examples, exports and opposites of one store while no load and no join changes
+ *   it. Work and cache are written by each call, so calls at the same time are lent different ones.
  *
  * Stack
- *   The library takes no memory but the stack's: about 16 KB for a load, 24 KB for an export, 7 KB for an evaluation, 97 KB for a join,
+ *   The library takes no memory but the stack's: about 16 KB for a load, 24 KB for an export, 7 KB for an evaluation or an example, 97 KB for a join,
  *   whatever the parts hold and however long they are. These were measured on x86-64, and are not proved.
  */
 #ifndef ZONETWEED_H
@@ -138,7 +138,10 @@ enum zt_refusal {
     ZT_NO_END = 39,       /* no `.end`, or something after it other than space, tab, LF, FF and CR; line 0 */
 
     /* whoever filled the store; the line is 0 */
-    ZT_NO_ROOM = 40 /* a line or a join needs a new node, and every slot that was lent, or 32,767, is used */
+    ZT_NO_ROOM = 40, /* a line or a join needs a new node, and every slot that was lent, or 32,767, is used */
+
+    /* the root that was asked about; the line is 0 */
+    ZT_NO_SETTING = 41 /* no setting gives the wanted answer */
 };
 
 /* The answer of a load. From `ascii` on it has the numbers of the file's header; on a refusal they are zeros. */
@@ -162,6 +165,12 @@ struct zt_evaluate_answer {
     uint8_t refusal; /* the number of the refusal, 0 for none */
     size_t line;     /* always 0 */
     uint8_t answer;  /* 1 for yes, 0 for no; 0 on a refusal */
+};
+
+/* The answer of an example: the setting itself lies in the part that was lent for it. */
+struct zt_example_answer {
+    uint8_t refusal; /* the number of the refusal, 0 for none */
+    size_t line;     /* always 0 */
 };
 
 /* The answer of an export. */
@@ -273,6 +282,42 @@ struct zt_evaluate_answer zt_evaluate(
     const zt_index *heads, size_t heads_len,
     zt_edge root,
     const uint8_t *setting, size_t setting_len,
+    zt_index *work, size_t work_len);
+
+/*
+ * Gives the first setting at which an edge of the store answers as wanted: level 0 is compared first, and no comes before yes. Levels that the edge
+ * doesn't look at are no.
+ *
+ * Read
+ *   the store  `levels`, `count`, and the five lists. See 'Store' above.
+ *   root       the edge: a root that a call gave, or any number from 1 to `count` in magnitude
+ *   wanted     the wanted answer: no where it is 0, else yes
+ *
+ * Output
+ *   setting    at least `levels` entries: the setting, and zeros after it
+ *
+ * Scratch
+ *   work       any length. See 'Work' above.
+ *
+ * Refusals, in the order in which they are judged
+ *   ZT_TOO_SHORT             `setting` has fewer entries than there are levels
+ *   ZT_BROKEN_STORE
+ *   ZT_BAD_ROOT_OR_SETTING   the root is 0 or beyond the count
+ *   ZT_NO_SETTING            the edge never answers so: it is 1, and no is wanted, or -1, and yes is
+ *
+ * Afterwards work is zeros, and on a refusal the setting is too. All other parts are as they were.
+ */
+struct zt_example_answer zt_example(
+    uint16_t levels,
+    zt_index count,
+    const uint16_t *level, size_t level_len,
+    const zt_edge *then, size_t then_len,
+    const zt_edge *els, size_t els_len,
+    const zt_index *next, size_t next_len,
+    const zt_index *heads, size_t heads_len,
+    zt_edge root,
+    uint8_t wanted,
+    uint8_t *setting, size_t setting_len,
     zt_index *work, size_t work_len);
 
 /*

@@ -8,6 +8,7 @@ use Rattle.header.specs.Header as head
 use Rattle.evaluation.specs.SettingBytes.{byteOf}
 use Rattle.c_answers.specs.declared.LoadAnswer.{LoadAnswer}
 use Rattle.c_answers.specs.declared.EvaluateAnswer.{EvaluateAnswer}
+use Rattle.c_answers.specs.declared.ExampleAnswer.{ExampleAnswer}
 use Rattle.c_answers.specs.declared.ExportAnswer.{ExportAnswer}
 use Rattle.c_answers.specs.declared.JoinAnswer.{JoinAnswer}
 
@@ -44,6 +45,10 @@ ofLoadAnswer (head.refusal n at) = record {
 abbrev pub ofEvaluated : Read Bool → EvaluateAnswer
 ofEvaluated (value b) = record { refusal = 0; line = 0; answer = byteOf b }
 ofEvaluated (refused n) = record { refusal = n; line = 0; answer = 0 }
+
+abbrev pub ofExample : Read Unit → ExampleAnswer
+ofExample (value u) = record { refusal = 0; line = 0 }
+ofExample (refused n) = record { refusal = n; line = 0 }
 
 abbrev pub ofLength : Read ℕ → ExportAnswer
 ofLength (value n) = record { refusal = 0; line = 0; len = n }

@@ -1,18 +1,20 @@
 // What the calls for C answer, and the settings that they are lent: structs by value, each field by an equation with the core's answer.
 ghost use mathlib.Core.Path.{_≡_};
 ghost use Rattle.evaluation.specs.Evaluated.{ofEvaluation};
+ghost use Rattle.example_walk.specs.Promises.{ofFound};
 ghost use Rattle.joins.specs.Kinds.{ofJoined};
 ghost use Rattle.header_values.specs.Kinds.{ofVarInfo};
 ghost use Rattle.header.specs.Kinds.{ofLoaded};
 ghost use Rattle.exporter.specs.Settings.{ofSettings};
 ghost use Rattle.exporter.specs.Promise.{ofExported};
 ghost use Rattle.evaluation.specs.SettingBytes.{byteOf};
-ghost use Rattle.c_answers.specs.Answers.{ofLoadAnswer, ofEvaluated, ofLength, ofRoot};
-ghost use Rattle.c_answers.specs.Settings.{versionOf, settingsOf};
+ghost use Rattle.c_answers.specs.Answers.{ofLoadAnswer, ofEvaluated, ofExample, ofLength, ofRoot};
+ghost use Rattle.c_answers.specs.Settings.{versionOf, settingsOf, wantedOf};
 use codes::DDDMPVersion;
 use codes::VarInfo;
 use edges::Edge;
 use evaluation::Evaluation;
+use example_walk::Found;
 use exporter::ExportSettings;
 use exporter::Exported;
 use header::Loaded;
@@ -41,6 +43,13 @@ pub struct EvaluateAnswer {
     pub refusal: u8,
     pub line: usize,
     pub answer: u8,
+}
+
+// The answer of an example: the setting lies in the part that was lent for it. The line is always 0.
+#[repr(C)]
+pub struct ExampleAnswer {
+    pub refusal: u8,
+    pub line: usize,
 }
 
 // The answer of an export: the length of the file, 0 on a refusal. The line is always 0.
@@ -133,6 +142,28 @@ pub fn evaluate_answer(evaluation: Evaluation) -> EvaluateAnswer
             answer: 0,
         },
     }
+}
+
+pub fn example_answer(found: Found) -> ExampleAnswer
+    ensures { λ r. ⌜ r ≡ ofExample (ofFound found) ⌝ }
+{
+    match found {
+        Found::Setting => ExampleAnswer {
+            refusal: 0,
+            line: 0,
+        },
+        Found::Refused(n) => ExampleAnswer {
+            refusal: n,
+            line: 0,
+        },
+    }
+}
+
+// A wanted answer: yes unless it is 0.
+pub fn wanted_of(b: u8) -> bool
+    ensures { λ r. ⌜ r ≡ wantedOf b ⌝ }
+{
+    b != 0
 }
 
 pub fn export_answer(exported: Exported) -> ExportAnswer

@@ -3,6 +3,7 @@ pub mod Demand1
 pub mod Demand2
 pub mod Demand3
 pub mod Evaluating
+pub mod ExampleRefusals
 pub mod Growing
 pub mod JoinRefusals
 pub mod JoinedRoots

@@ -11,10 +11,11 @@ use Rattle.exported.specs.Export.{Export}
 use Rattle.joined.specs.declared.Op.{Op}
 use Rattle.calls.specs.Load.{Load}
 
--- 'Its calls are those that the firmware or a program makes', each with everything that it is lent
+-- 'Its calls are those that the firmware or a program makes', each with everything that it is lent; of an output its length
 pub data Call : Type 0 where
   load : Load → Call
   evaluate : ℤ → List ℕ → Call
+  example : ℤ → Bool → ℕ → Call
   export : Export → Call
   join : Op → ℤ → ℤ → Call
   opposite : ℤ → Call

@@ -5,6 +5,7 @@
 use Prim.Native.Nat.{ℕ, _≤_, _<_}
 use mathlib.Core.Path.{_≡_}
 use mathlib.Core.Logic.{_⊎_}
+use mathlib.Core.Bool.{Bool}
 use lib.ListN.{length}
 use lib.IntN.{ℤ}
 use Rattle.codes.specs.Limits.{Limits, varLimit, rootLimit}
@@ -21,14 +22,16 @@ use Rattle.header.specs.Header.{Header, tableOf}
 use Rattle.header.specs.HeaderSaid.{HeaderSaid}
 use Rattle.imported.specs.Refused.{NodesRefused, crowded, early, text, binary, unended}
 use Rattle.calls.specs.Load.{Lengths, Load, variableLists, rootLists, setupOf}
+use Rattle.example_walk.specs.Example.{answersAs}
+use Rattle.example_walk.specs.First.{NoneIs}
 use Rattle.joined.specs.declared.Op.{Op}
 use Rattle.joined.specs.Join.{Ready}
 use Rattle.joined.specs.Room.{JoinFits}
-use Rattle.calls.specs.Calls.{Call, load, evaluate, export, join, opposite}
+use Rattle.calls.specs.Calls.{Call, load, evaluate, example, export, join, opposite}
 
--- document 01's numbers: 1 to 6, 10 to 26, and 30 to 40; 0 is none of them
+-- the numbers of documents 01 and 02: 1 to 6, 10 to 26, and 30 to 41; 0 is none of them
 abbrev pub RefusalNumber : ℕ → Type 0
-RefusalNumber n = ((1 ≤ n) × (n ≤ 6)) ⊎ (((10 ≤ n) × (n ≤ 26)) ⊎ ((30 ≤ n) × (n ≤ 40)))
+RefusalNumber n = ((1 ≤ n) × (n ≤ 6)) ⊎ (((10 ≤ n) × (n ≤ 26)) ⊎ ((30 ≤ n) × (n ≤ 41)))
 
 -- '4,096 entries for each variable list, 1,024 for each root list'
 pub record LongLists (l : Lengths) : Type 0 where
@@ -107,10 +110,19 @@ pub data OppositeRefused (m : Limits) (σ : Store) (a : ℤ) : ℕ → Type 0 wh
   opposite-broken : (Rules m σ → ⊥) → OppositeRefused m σ a 3
   opposite-bad : Rules m σ → (EdgeOf σ a → ⊥) → OppositeRefused m σ a 4
 
+-- How an example is refused. Document 02, request 4: 'A lent setting shorter than the levels meets 1, before 3. Errors: 41, no setting gives the wanted
+-- answer, after 3 and 4.'
+pub data ExampleRefused (m : Limits) (e : ℤ) (wanted : Bool) (long : ℕ) (σ : Store) : ℕ → Type 0 where
+  setting-short : long < σ .levels → ExampleRefused m e wanted long σ 1
+  example-broken : σ .levels ≤ long → (Rules m σ → ⊥) → ExampleRefused m e wanted long σ 3
+  example-bad : σ .levels ≤ long → Rules m σ → (EdgeOf σ e → ⊥) → ExampleRefused m e wanted long σ 4
+  no-setting : σ .levels ≤ long → Rules m σ → EdgeOf σ e → NoneIs (answersAs σ e wanted) (σ .levels) → ExampleRefused m e wanted long σ 41
+
 -- how each call is refused: the line is 0 'in every call that reads no file'
 abbrev pub RefusedFor : Limits → Call → Store → ℕ → ℕ → Type 0
 RefusedFor m (load c) σ n line = LoadRefused m c σ n line
 RefusedFor m (evaluate e s) σ n line = ((n ≡ 3) ⊎ (n ≡ 4)) × (line ≡ 0)
+RefusedFor m (example e wanted long) σ n line = ExampleRefused m e wanted long σ n × (line ≡ 0)
 RefusedFor m (export x) σ n line = ((n ≡ 1) ⊎ ((3 ≤ n) × (n ≤ 6))) × (line ≡ 0)
 RefusedFor m (join o a b) σ n line = JoinRefused m o σ a b n × (line ≡ 0)
 RefusedFor m (opposite a) σ n line = OppositeRefused m σ a n × (line ≡ 0)

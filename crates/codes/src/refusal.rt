@@ -101,3 +101,6 @@ pub const NO_END: u8 = 39;
 
 // A line needs a new node, and every slot is used.
 pub const NO_ROOM: u8 = 40;
+
+// No setting gives the wanted answer.
+pub const NO_SETTING: u8 = 41;

@@ -1,11 +1,13 @@
-// The public calls: load, evaluate, export, join and opposite, on one store. Each is lent `work`, of any length: where it is long enough, nodes are found by an
+// The public calls: load, evaluate, example, export, join and opposite, on one store. Each is lent `work`, of any length: where it is long enough, nodes are found by an
 // index in it, else along their chains. No answer depends on it, and it ends as zeros.
+ghost use Rattle.example_walk.specs.Promises.{ExamplePromise};
 ghost use Rattle.exporter.specs.Promise.{ExportPromise};
 ghost use Rattle.joins.specs.Promises.{JoinPromise, OppositePromise};
 ghost use Rattle.dddmp.specs.Promises.{LoadPromise, EvaluatePromise};
 use edges::Edge;
 use edges::Index;
 use evaluation::Evaluation;
+use example_walk::Found;
 use exporter::ExportSettings;
 use exporter::Exported;
 use header::DumpHeader;
@@ -124,6 +126,37 @@ pub fn evaluate(
         next,
         heads,
         root,
+        setting,
+        work,
+    )
+}
+
+// The first setting at which an edge of the store answers as wanted, level 0 compared first and no before yes: a byte for each level, zeros beyond.
+pub fn example(
+    levels: u16,
+    count: Index,
+    level: &[u16],
+    then: &[Edge],
+    els: &[Edge],
+    next: &[Index],
+    heads: &[Index],
+    root: Edge,
+    wanted: bool,
+    setting: &mut [u8],
+    work: &mut [Index],
+) -> Found
+    ensures { λ r. ⌜ ExamplePromise levels count level then els next heads root wanted setting work r ⌝ }
+{
+    example_walk::example(
+        levels,
+        count,
+        level,
+        then,
+        els,
+        next,
+        heads,
+        root,
+        wanted,
         setting,
         work,
     )

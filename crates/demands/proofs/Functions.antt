@@ -7,6 +7,8 @@ use denote.Triple.Clauses.{AtExit}
 use Rattle.codes.specs.Lent.{Part}
 use Rattle.evaluation.specs.declared.Evaluation.{Evaluation}
 use Rattle.header.specs.declared.Loaded.{Loaded}
+use Rattle.example_walk.specs.declared.Found.{Found}
+use Rattle.example_walk.specs.Promises.{ExamplePromise}
 use Rattle.exporter.specs.declared.Exported.{Exported}
 use Rattle.exporter.specs.Promise.{ExportPromise}
 use Rattle.joined.specs.declared.Op.the-variants as op
@@ -17,21 +19,26 @@ use Rattle.dddmp.proofs.load.Reads as load
 use Rattle.dddmp.proofs.load.Kinds as load-kinds
 use Rattle.dddmp.proofs.evaluate.Reads as evaluate
 use Rattle.dddmp.proofs.evaluate.Kinds as evaluate-kinds
+use Rattle.dddmp.proofs.example.Reads as example
+use Rattle.dddmp.proofs.example.Kinds as example-kinds
 use Rattle.dddmp.proofs.export.Reads as export
 use Rattle.dddmp.proofs.export.Kinds as export-kinds
 use Rattle.dddmp.proofs.join.Reads as join
 use Rattle.dddmp.proofs.join.Kinds as join-kinds
 use Rattle.dddmp.proofs.opposite.Reads as opposite
 use Rattle.dddmp.proofs.opposite.Kinds as opposite-kinds
-use Rattle.firmware.specs.Promises.{ZtLoadPromise, ZtEvaluatePromise, ZtExportPromise, ZtJoinPromise, ZtNotPromise}
+use Rattle.firmware.specs.Promises.{ZtLoadPromise, ZtEvaluatePromise, ZtExamplePromise, ZtExportPromise, ZtJoinPromise, ZtNotPromise}
 use Rattle.c_answers.specs.declared.LoadAnswer.{LoadAnswer}
 use Rattle.c_answers.specs.declared.EvaluateAnswer.{EvaluateAnswer}
+use Rattle.c_answers.specs.declared.ExampleAnswer.{ExampleAnswer}
 use Rattle.c_answers.specs.declared.ExportAnswer.{ExportAnswer}
 use Rattle.c_answers.specs.declared.JoinAnswer.{JoinAnswer}
 use Rattle.firmware.proofs.zt_load.Reads as zt-load
 use Rattle.firmware.proofs.zt_load.Kinds as zt-load-kinds
 use Rattle.firmware.proofs.zt_evaluate.Reads as zt-evaluate
 use Rattle.firmware.proofs.zt_evaluate.Kinds as zt-evaluate-kinds
+use Rattle.firmware.proofs.zt_example.Reads as zt-example
+use Rattle.firmware.proofs.zt_example.Kinds as zt-example-kinds
 use Rattle.firmware.proofs.zt_export.Reads as zt-export
 use Rattle.firmware.proofs.zt_export.Kinds as zt-export-kinds
 use Rattle.firmware.proofs.zt_and.Reads as zt-and
@@ -132,6 +139,23 @@ module _ (κs : Lfts 8) (a : Dens κs join-kinds.ps) (r : Joined) (s : AtExit (e
       (part (a .1 .1 .1 .1 .1 .1 .1 .1 .1 .1 .1 .0) (s .1 .1 .1 .1 .1 .1 .1 .1 .1 .1 .1 .0))
       r
   join-promises p = p
+
+module _ (κs : Lfts 7) (a : Dens κs example-kinds.ps) (r : Found) (s : AtExit (endedOf 7 example-kinds.ps example-kinds.r) κs) where
+  pub example-promises : example.Post κs a r s
+      → ExamplePromise
+      (a .0)
+      (a .1 .0)
+      (part (a .1 .1 .0) (s .1 .1 .0))
+      (part (a .1 .1 .1 .0) (s .1 .1 .1 .0))
+      (part (a .1 .1 .1 .1 .0) (s .1 .1 .1 .1 .0))
+      (part (a .1 .1 .1 .1 .1 .0) (s .1 .1 .1 .1 .1 .0))
+      (part (a .1 .1 .1 .1 .1 .1 .0) (s .1 .1 .1 .1 .1 .1 .0))
+      (a .1 .1 .1 .1 .1 .1 .1 .0)
+      (a .1 .1 .1 .1 .1 .1 .1 .1 .0)
+      (part (a .1 .1 .1 .1 .1 .1 .1 .1 .1 .0) (s .1 .1 .1 .1 .1 .1 .1 .1 .1 .0))
+      (part (a .1 .1 .1 .1 .1 .1 .1 .1 .1 .1 .0) (s .1 .1 .1 .1 .1 .1 .1 .1 .1 .1 .0))
+      r
+  example-promises p = p
 
 module _ (κs : Lfts 6) (a : Dens κs opposite-kinds.ps) (r : Joined) (s : AtExit (endedOf 6 opposite-kinds.ps opposite-kinds.r) κs) where
   pub opposite-promises : opposite.Post κs a r s
@@ -272,6 +296,23 @@ module _ (κs : Lfts 8) (a : Dens κs zt-xor-kinds.ps) (r : JoinAnswer) (s : AtE
       (part (a .1 .1 .1 .1 .1 .1 .1 .1 .1 .1 .0) (s .1 .1 .1 .1 .1 .1 .1 .1 .1 .1 .0))
       r
   zt-xor-promises p = p
+
+module _ (κs : Lfts 7) (a : Dens κs zt-example-kinds.ps) (r : ExampleAnswer) (s : AtExit (endedOf 7 zt-example-kinds.ps zt-example-kinds.r) κs) where
+  pub zt-example-promises : zt-example.Post κs a r s
+      → ZtExamplePromise
+      (a .0)
+      (a .1 .0)
+      (part (a .1 .1 .0) (s .1 .1 .0))
+      (part (a .1 .1 .1 .0) (s .1 .1 .1 .0))
+      (part (a .1 .1 .1 .1 .0) (s .1 .1 .1 .1 .0))
+      (part (a .1 .1 .1 .1 .1 .0) (s .1 .1 .1 .1 .1 .0))
+      (part (a .1 .1 .1 .1 .1 .1 .0) (s .1 .1 .1 .1 .1 .1 .0))
+      (a .1 .1 .1 .1 .1 .1 .1 .0)
+      (a .1 .1 .1 .1 .1 .1 .1 .1 .0)
+      (part (a .1 .1 .1 .1 .1 .1 .1 .1 .1 .0) (s .1 .1 .1 .1 .1 .1 .1 .1 .1 .0))
+      (part (a .1 .1 .1 .1 .1 .1 .1 .1 .1 .1 .0) (s .1 .1 .1 .1 .1 .1 .1 .1 .1 .1 .0))
+      r
+  zt-example-promises p = p
 
 module _ (κs : Lfts 6) (a : Dens κs zt-not-kinds.ps) (r : JoinAnswer) (s : AtExit (endedOf 6 zt-not-kinds.ps zt-not-kinds.r) κs) where
   pub zt-not-promises : zt-not.Post κs a r s

@@ -5,6 +5,7 @@ use Prim.Native.Nat.{ℕ}
 use mathlib.Core.Path.{_≡_, refl, sym, subst}
 use mathlib.Core.Bool.{Bool}
 use mathlib.Core.List.{List, [], _∷_}
+use lib.ListN.{length}
 use lib.IntN.{ℤ}
 use Rattle.codes.specs.Limits.{limits}
 use Rattle.codes.specs.Answer.{Read, value, refused}
@@ -16,25 +17,29 @@ use Rattle.evaluation.specs.Evaluated.{ofEvaluation}
 use Rattle.header.specs.declared.Loaded.{Loaded}
 use Rattle.header.specs.Kinds.{ofLoaded}
 use Rattle.header.specs.Header as head
+use Rattle.example_walk.specs.declared.Found.{Found}
+use Rattle.example_walk.specs.Example.{exampleOf}
+use Rattle.example_walk.specs.Promises.{ofFound, told, ExamplePromise}
 use Rattle.exported.specs.Settings.{Settings}
 use Rattle.exporter.specs.declared.ExportSettings.{ExportSettings}
 use Rattle.exporter.specs.declared.Exported.{Exported}
 use Rattle.exporter.specs.Promise.{ofExported, exporting, exportLeaves, ExportPromise}
 use Rattle.exporter.specs.Settings.{ofSettings}
 use Rattle.calls.specs.Load.{Parts, loadInto}
-use Rattle.calls.specs.Calls.{Call, load, evaluate, export, join, opposite, evaluateOf}
+use Rattle.calls.specs.Calls.{Call, load, evaluate, example, export, join, opposite, evaluateOf}
 use Rattle.dddmp.specs.Promises.{oldParts, newParts, loaded, LoadPromise, EvaluatePromise}
 use Rattle.joined.specs.declared.Op.{Op}
 use Rattle.joined.specs.Roots.{joinRoots, oppositeRoot}
 use Rattle.joins.specs.declared.Joined.{Joined}
 use Rattle.joins.specs.Kinds.{ofJoined}
 use Rattle.joins.specs.Promises.{JoinPromise, OppositePromise}
-use Rattle.firmware.specs.Promises.{ZtLoadPromise, ZtEvaluatePromise, ZtExportPromise, ZtJoinPromise, ZtNotPromise}
+use Rattle.firmware.specs.Promises.{ZtLoadPromise, ZtEvaluatePromise, ZtExamplePromise, ZtExportPromise, ZtJoinPromise, ZtNotPromise}
 use Rattle.c_answers.specs.declared.LoadAnswer.{LoadAnswer}
 use Rattle.c_answers.specs.declared.EvaluateAnswer.{EvaluateAnswer}
+use Rattle.c_answers.specs.declared.ExampleAnswer.{ExampleAnswer}
 use Rattle.c_answers.specs.declared.ExportAnswer.{ExportAnswer}
 use Rattle.c_answers.specs.declared.JoinAnswer.{JoinAnswer}
-use Rattle.c_answers.specs.Settings.{settingsOf}
+use Rattle.c_answers.specs.Settings.{settingsOf, wantedOf}
 use Rattle.c_answers.specs.Answers as C
 use Rattle.calls.specs.Outcome as outcomes
 use Rattle.calls.specs.Outcome.{Tells, Verdict, Outcome, outcome, verdictOf, verdictRead, outputsOf, scratchOf, leaves}
@@ -156,6 +161,31 @@ module _ (version text ddstart ddlen : ℕ) (levels count : ℕ) (level : Part (
       ≡ leaving t levels count level then els next heads roots order bytes starts lens rootstarts rootlens slots numbers out answer)
       × Tells (r .refusal) (r .line) (verdictRead answer)
   zt-export-leaves p = (rw (p .out-left, p .slots-left, p .numbers-left), rw (p .answer) (zt-exported answer))
+
+-- an example from a store
+told-verdict : (a : Read (List Bool)) → verdictRead (told a) ≡ verdictRead a
+told-verdict (value s) = refl
+told-verdict (refused n) = refl
+
+zt-found : (a : Read (List Bool)) → Tells (C.ofExample (told a) .refusal) (C.ofExample (told a) .line) (verdictRead a)
+zt-found (value s) = (refl, refl)
+zt-found (refused n) = (refl, refl)
+
+module _ (levels count : ℕ) (level : Part (List ℕ)) (then els : Part (List ℤ)) (next heads : Part (List ℕ)) (root : ℤ) (setting work : Part (List ℕ)) where
+  abbrev ρ : Store
+  ρ = oldStore levels count level then els next heads
+
+  -- `dddmp::example`
+  pub example-leaves : {wanted : Bool} {r : Found} → ExamplePromise levels count level then els next heads root wanted setting work r
+      → leaves limits (example root wanted (length (old setting))) ρ ≡ outcome (verdictRead (ofFound r)) ρ (outcomes.numbers (new setting) ∷ []) []
+  example-leaves {wanted} p = rw (p .answer, p .setting-left, told-verdict (exampleOf limits ρ root wanted (length (old setting))))
+
+  -- `zt_example`
+  pub zt-example-leaves : {wanted : ℕ} {r : ExampleAnswer} → ZtExamplePromise levels count level then els next heads root wanted setting work r
+      → (leaves limits (example root (wantedOf wanted) (length (old setting))) ρ
+      ≡ outcome (verdictRead (exampleOf limits ρ root (wantedOf wanted) (length (old setting)))) ρ (outcomes.numbers (new setting) ∷ []) [])
+      × Tells (r .refusal) (r .line) (leaves limits (example root (wantedOf wanted) (length (old setting))) ρ .verdict)
+  zt-example-leaves {wanted} p = (rw (p .setting-left), rw (p .answer) (zt-found (exampleOf limits ρ root (wantedOf wanted) (length (old setting)))))
 
 -- number and line of a join's and an opposite's answer in C
 zt-rooted : (a : Read ℤ) → Tells (C.ofRoot a .refusal) (C.ofRoot a .line) (verdictRead a)

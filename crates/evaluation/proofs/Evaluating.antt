@@ -5,7 +5,7 @@ use mathlib.Core.Bool.{Bool, true, false, not, _&&_, true≢false}
 use mathlib.Core.List.{List}
 use native.Mathlib.Omega.{arith}
 use native.Mathlib.Numerals.{add-one}
-use borrow.Author.Tests.{leb-true, le-leb, lt-leb, eq-eqb, ne-eqb, eqb-true}
+use borrow.Author.Tests.{le-leb, lt-leb, eq-eqb, ne-eqb, eqb-true}
 use lib.Dec.{eqb, leb}
 use lib.ListN.{length, getD, drop, drop-of-length-le}
 use lib.Seq.{drop-cons}
@@ -22,6 +22,7 @@ use Rattle.store.specs.Keeps.{keeps, keeps-true}
 use Rattle.store.specs.Growth.{isRoot}
 use Rattle.evaluation.specs.Evaluation.{onlyBits, isSetting, evaluation}
 use Rattle.evaluation.specs.Evaluated.{Walks}
+use Rattle.store.proofs.Growth.{root-edge}
 use Rattle.store.proofs.Lower.{nodes-lower}
 use Rattle.evaluation.proofs.Walk.{slots-answer}
 
@@ -49,12 +50,6 @@ module _ (e : ℤ) (k count : ℕ) (f : SFits edgeWidth e) (h : k ≡ natAbs (to
 
   pub root-none : k < 1 → leb 1 k ≡ (leb 1 (natAbs e) && leb (natAbs e) count)
   root-none p = rw (← root-node, lt-leb 1 k p)
-
-pub root-there : (σ : Store) (e : ℤ) → isRoot σ e ≡ true → natAbs e ≤ σ .count
-root-there σ e h = go (leb 1 (natAbs e)) h where
-  go : (b : Bool) → (b && leb (natAbs e) (σ .count)) ≡ true → natAbs e ≤ σ .count
-  go true h = leb-true (natAbs e) (σ .count) h
-  go false h = absurd (true≢false (sym h))
 
 -- a setting for a number of levels
 pub setting-is : (s : List ℕ) (levels : ℕ) (r : Bool) → length s ≡ levels → r ≡ onlyBits s → r ≡ (eqb (length s) levels && onlyBits s)
@@ -112,7 +107,7 @@ module _ (σ : Store) (e : ℤ) (s : List ℕ) (f : SFits edgeWidth e) {kept : B
 
       module _ (j : not setting ≡ false) where
         pub walks : Walks (σ .level) (σ .then) (σ .els) s (natAbs (toZ edgeWidth (ofZ edgeWidth e)))
-        walks = rw (toZ-ofZ edgeWidth e f) (rules-walk (keeps-true limits σ (passes k h)) (natAbs e) (root-there σ e (passes root-back i)) (setting-long s (σ .levels) (passes t j)))
+        walks = rw (toZ-ofZ edgeWidth e f) (rules-walk (keeps-true limits σ (passes k h)) (natAbs e) (root-edge σ e (passes root-back i) .there) (setting-long s (σ .levels) (passes t j)))
 
         pub answered : (a : Bool) → a ≡ answer (slots (σ .level) (σ .then) (σ .els)) (settingOf s) (toZ edgeWidth (ofZ edgeWidth e)) → value a ≡ evaluation limits σ e s
         unfolding evaluation

@@ -7,6 +7,8 @@ use lib.IntN.{ℤ, pos}
 use Rattle.codes.specs.Limits.{limits}
 use Rattle.codes.specs.Lent.{Part, old, new}
 use Rattle.store.specs.Lent.{oldStore, newStore}
+use Rattle.example_walk.specs.Example.{exampleOf, settingLeft}
+use Rattle.example_walk.specs.Promises.{told}
 use Rattle.exported.specs.Export.{ExportLeft}
 use Rattle.joined.specs.declared.Op.{Op}
 use Rattle.joined.specs.Roots.{oppositeRoot}
@@ -19,10 +21,11 @@ use Rattle.calls.specs.Calls.{evaluateOf}
 use Rattle.dddmp.specs.Promises as dddmp
 use Rattle.c_answers.specs.declared.LoadAnswer.{LoadAnswer}
 use Rattle.c_answers.specs.declared.EvaluateAnswer.{EvaluateAnswer}
+use Rattle.c_answers.specs.declared.ExampleAnswer.{ExampleAnswer}
 use Rattle.c_answers.specs.declared.ExportAnswer.{ExportAnswer}
 use Rattle.c_answers.specs.declared.JoinAnswer.{JoinAnswer}
-use Rattle.c_answers.specs.Answers.{ofLoadAnswer, ofEvaluated, ofLength, ofRoot}
-use Rattle.c_answers.specs.Settings.{settingsOf}
+use Rattle.c_answers.specs.Answers.{ofLoadAnswer, ofEvaluated, ofExample, ofLength, ofRoot}
+use Rattle.c_answers.specs.Settings.{settingsOf, wantedOf}
 
 module _ (file list : Part (List ℕ)) (levels : ℕ) (count : Part ℕ) (level : Part (List ℕ)) (then els : Part (List ℤ))
     (next heads ids order permids auxids names lens : Part (List ℕ)) (roots : Part (List ℤ)) (rootnames rootlens : Part (List ℕ))
@@ -53,6 +56,15 @@ pub record ZtEvaluatePromise (levels count : ℕ) (level : Part (List ℕ)) (the
     (setting work : Part (List ℕ)) (r : EvaluateAnswer) : Type 0 where
   -- 'Evaluation gives 3, 4.'
   pub answer : r ≡ ofEvaluated (evaluateOf limits root (old setting) (oldStore levels count level then els next heads))
+  -- 'Scratch ends as zeros.'
+  pub work-left : new work ≡ replicate (length (old work)) 0
+
+pub record ZtExamplePromise (levels count : ℕ) (level : Part (List ℕ)) (then els : Part (List ℤ)) (next heads : Part (List ℕ)) (root : ℤ) (wanted : ℕ)
+    (setting work : Part (List ℕ)) (r : ExampleAnswer) : Type 0 where
+  -- 'the call gives the first setting with that answer'; 1, 3, 4, 41; 'The wanted answer is a byte, yes unless it is 0.'
+  pub answer : r ≡ ofExample (told (exampleOf limits (oldStore levels count level then els next heads) root (wantedOf wanted) (length (old setting))))
+  -- 'On any refusal outputs are all zeros ..; on success unused output is zero.'
+  pub setting-left : new setting ≡ settingLeft (length (old setting)) (exampleOf limits (oldStore levels count level then els next heads) root (wantedOf wanted) (length (old setting)))
   -- 'Scratch ends as zeros.'
   pub work-left : new work ≡ replicate (length (old work)) 0
 

@@ -1,7 +1,8 @@
 // The public calls for C: `include/zonetweed.h` declares and explains them. A slice is a pointer and then a length.
-ghost use Rattle.firmware.specs.Promises.{ZtLoadPromise, ZtEvaluatePromise, ZtExportPromise, ZtJoinPromise, ZtNotPromise};
+ghost use Rattle.firmware.specs.Promises.{ZtLoadPromise, ZtEvaluatePromise, ZtExamplePromise, ZtExportPromise, ZtJoinPromise, ZtNotPromise};
 ghost use Rattle.joined.specs.declared.Op.the-variants as op;
 use c_answers::EvaluateAnswer;
+use c_answers::ExampleAnswer;
 use c_answers::ExportAnswer;
 use c_answers::JoinAnswer;
 use c_answers::LoadAnswer;
@@ -87,6 +88,38 @@ pub extern "C" fn zt_evaluate(
         next,
         heads,
         root,
+        setting,
+        work,
+    ))
+}
+
+// The first setting at which an edge of the store answers as wanted.
+#[no_mangle]
+pub extern "C" fn zt_example(
+    levels: u16,
+    count: Index,
+    level: &[u16],
+    then: &[Edge],
+    els: &[Edge],
+    next: &[Index],
+    heads: &[Index],
+    root: Edge,
+    wanted: u8,
+    setting: &mut [u8],
+    work: &mut [Index],
+) -> ExampleAnswer
+    ensures { λ r. ⌜ ZtExamplePromise levels count level then els next heads root wanted setting work r ⌝ }
+{
+    c_answers::example_answer(dddmp::example(
+        levels,
+        count,
+        level,
+        then,
+        els,
+        next,
+        heads,
+        root,
+        c_answers::wanted_of(wanted),
         setting,
         work,
     ))

@@ -4,10 +4,8 @@ use mathlib.Core.Path.{_≡_, refl, sym, ap, subst, _∙_}
 use mathlib.Core.Logic.{_↔_}
 use mathlib.Core.Bool.{Bool, true, false, not, cond, _&&_, true≢false}
 use Prim.Native.Nat.{ℕ}
-use lib.Dec.{leb}
 use lib.ListN.{length}
-use lib.IntN.{ℤ, negℤ, natAbs}
-use borrow.Author.Tests.{leb-true, le-leb}
+use lib.IntN.{ℤ, negℤ}
 use Rattle.codes.specs.Answer.{Read, value, refused}
 use Rattle.codes.specs.Limits.{Limits}
 use Rattle.codes.proofs.Bytes.{both}
@@ -17,7 +15,7 @@ use Rattle.store.specs.Keeps.{keeps, keeps-true, keeps-false}
 use Rattle.store.specs.Meaning.{Setting, answer}
 use Rattle.store.specs.Make.{Made, made}
 use Rattle.store.specs.Growth.{EdgeOf, isRoot, Grows}
-use Rattle.store.proofs.Growth.{grows-refl}
+use Rattle.store.proofs.Growth.{root-edge, edge-root, grows-refl}
 use Rattle.store.proofs.Meaning.{opposite-edge, answer-opposite}
 use Rattle.joined.specs.declared.Op.{Op}
 use Rattle.joined.specs.Join.{joinOf, Ready}
@@ -25,15 +23,6 @@ use Rattle.joined.specs.Room.{JoinFits}
 use Rattle.joined.specs.Roots.{refusedWith, settledJoinBy, settledJoin, joinRoots, oppositeRoot}
 use Rattle.joined.proofs.Joins.{Result, join-joined, value-one, refused-one, not-value, no-refusal}
 use Rattle.joined.proofs.Room.{join-room}
-
--- a root is an edge of the store
-root-edge : (σ : Store) (e : ℤ) → isRoot σ e ≡ true → EdgeOf σ e
-root-edge σ e q =
-    let w = both (leb 1 (natAbs e)) (leb (natAbs e) (σ .count)) q in
-    record { some = leb-true 1 (natAbs e) (w .0); there = leb-true (natAbs e) (σ .count) (w .1) }
-
-edge-root : (σ : Store) (e : ℤ) → EdgeOf σ e → isRoot σ e ≡ true
-edge-root σ e E = rw (le-leb 1 (natAbs e) (E .some)) (le-leb (natAbs e) (σ .count) (E .there))
 
 -- what makes a test true doesn't hold where the test is false
 untrue : (b : Bool) {P : Type 0} → (P → b ≡ true) → b ≡ false → P → ⊥

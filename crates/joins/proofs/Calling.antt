@@ -1,12 +1,11 @@
 -- What refuses a join, in the order of the checks, by the code's tests; and what a call leaves by that.
 use mathlib.Core.Path.{_≡_, refl, sym, ap, ap₂, _∙_}
 use mathlib.Core.Logic.{_≢_}
-use mathlib.Core.Bool.{Bool, true, false, not, cond, _&&_, true≢false}
+use mathlib.Core.Bool.{Bool, true, false, not, cond, _&&_}
 use Prim.Native.Nat.{ℕ}
 use native.Mathlib.Omega.{arith}
-use borrow.Author.Tests.{not-true, not-false, leb-true}
-use lib.Dec.{leb}
-use lib.IntN.{ℤ, natAbs, negℤ}
+use borrow.Author.Tests.{not-true, not-false}
+use lib.IntN.{ℤ, negℤ}
 use mir.Val.{SFits, toZ, ofZ}
 use mir.ValLaws.{toZ-ofZ}
 use Rattle.edges.specs.Width.{edgeWidth}
@@ -18,6 +17,7 @@ use Rattle.codes.specs.Limits.{limits}
 use Rattle.store.specs.Store.{Store}
 use Rattle.store.specs.Keeps.{keeps, keeps-true}
 use Rattle.store.specs.Growth.{EdgeOf, isRoot}
+use Rattle.store.proofs.Growth.{root-edge}
 use Rattle.joined.specs.declared.Op.{Op}
 use Rattle.joined.specs.Join.{joinOf, Ready}
 use Rattle.joined.specs.Roots.{refusedWith, settledJoin, joinRoots, oppositeRoot}
@@ -30,13 +30,6 @@ back e = toZ edgeWidth (ofZ edgeWidth e)
 -- a test for a root
 pub tested : (σ : Store) (e : ℤ) → SFits edgeWidth e → {r : Bool} → r ≡ isRoot σ (back e) → r ≡ isRoot σ e
 tested σ e f q = q ∙ ap (isRoot σ) (toZ-ofZ edgeWidth e f)
-
-pub root-edge : (σ : Store) (e : ℤ) → isRoot σ e ≡ true → EdgeOf σ e
-root-edge σ e q = go (leb 1 (natAbs e)) refl q
-  where
-    go : (x : Bool) → leb 1 (natAbs e) ≡ x → (x && leb (natAbs e) (σ .count)) ≡ true → EdgeOf σ e
-    go true p h = record { some = leb-true 1 (natAbs e) p; there = leb-true (natAbs e) (σ .count) h }
-    go false p h = absurd (true≢false (sym h))
 
 -- '3, 4', by the two tests
 abbrev fault : Bool → Bool → ℕ

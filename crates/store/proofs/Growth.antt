@@ -1,15 +1,28 @@
 -- A store that has gained nodes keeps every old edge and every old answer; and the rules of nodes hold of fewer nodes too. Document 01,
 -- 'Store and meaning'.
 use mathlib.Core.Path.{_≡_, refl, sym, ap, _∙_}
+use mathlib.Core.Bool.{true}
 use Prim.Native.Nat.{ℕ, zero, suc, _+_, _≤_}
 use native.Mathlib.Omega.{arith}
 use native.Mathlib.Nat.{le-refl, le-trans}
+use lib.Dec.{leb}
 use lib.IntN.{ℤ, natAbs}
+use borrow.Author.Tests.{leb-true, le-leb}
+use Rattle.codes.proofs.Bytes.{both}
 use Rattle.edges.specs.Edge.{turn}
 use Rattle.store.specs.Store.{Store, levelAt, thenAt, elseAt}
 use Rattle.store.specs.Meaning.{Setting, nodeBy, node, answer}
 use Rattle.store.specs.Rules.{depth, Fits, Nodes}
-use Rattle.store.specs.Growth.{EdgeOf, Grows}
+use Rattle.store.specs.Growth.{EdgeOf, isRoot, Grows}
+
+-- A root is an edge of the store.
+pub root-edge : (σ : Store) (e : ℤ) → isRoot σ e ≡ true → EdgeOf σ e
+root-edge σ e q =
+    let w = both (leb 1 (natAbs e)) (leb (natAbs e) (σ .count)) q in
+    record { some = leb-true 1 (natAbs e) (w .0); there = leb-true (natAbs e) (σ .count) (w .1) }
+
+pub edge-root : (σ : Store) (e : ℤ) → EdgeOf σ e → isRoot σ e ≡ true
+edge-root σ e E = rw (le-leb 1 (natAbs e) (E .some)) (le-leb (natAbs e) (σ .count) (E .there))
 
 pub grows-refl : (σ : Store) → Grows σ σ
 grows-refl σ = record { levels = refl; count = le-refl (σ .count); level = λ n p h. refl; then = λ n p h. refl; els = λ n p h. refl }

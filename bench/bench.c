@@ -3,11 +3,12 @@
  *
  *     bench ARCHIVE [LIBRARY]
  *     bench joins
+ *     bench examples
  *     bench once load|export|check text|binary NODES
  *
  * ARCHIVE is Zonetweed's archive, of which only the size is taken: the program is linked with it. LIBRARY is the Rust's half, as
- * bench/rust/build makes it; without it Zonetweed is measured alone. The second form measures joins only. The third makes one call, under
- * the function `once`, for a profile.
+ * bench/rust/build makes it; without it Zonetweed is measured alone. The second form measures joins only, the third examples only. The
+ * fourth makes one call, under the function `once`, for a profile.
  *
  * A time is the median of several runs. The runs of what is compared take turns, so that what else happens on the machine meets all of
  * them. Each run makes a call as often as takes some milliseconds. Emptying a store and opening a manager aren't timed. The clock is the
@@ -22,6 +23,7 @@
 #include <string.h>
 #include <sys/stat.h>
 
+#include "examples.h"
 #include "goals.h"
 #include "joins.h"
 #include "ours.h"
@@ -763,6 +765,7 @@ static void measure_all(const char *archive)
     tell_without();
     tell_stack();
     tell_joins();
+    tell_examples();
     tell_archive(archive);
     tell_goals();
     for (i = 0; i < SUBJECTS; i++)
@@ -807,6 +810,11 @@ int main(int count, char **values)
         return profile(values[2], values[3], (size_t)atol(values[4]));
     if (count == 2 && strcmp(values[1], "joins") == 0) {
         tell_joins();
+        tell_goals();
+        return 0;
+    }
+    if (count == 2 && strcmp(values[1], "examples") == 0) {
+        tell_examples();
         tell_goals();
         return 0;
     }

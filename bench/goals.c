@@ -27,6 +27,8 @@ static struct goal goals[GOALS] = {
     {"eightfold work of a join in at most tenfold time", 10, 0, 0, "", 0},
     {"a join of plans of sixty levels with no cache lent in at most 10 ms", 10, 0, 0, "", 0},
     {"a join on at most 128 KB of stack", 128, 0, 0, "", 0},
+    {"the walk of an example within twice the time of an evaluation's, per level", 2, 0, 0, "", 0},
+    {"an example on at most 16 KB of stack", 16, 0, 0, "", 0},
 };
 
 void note(int goal, double value, const char *what, const char *name)

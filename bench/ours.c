@@ -97,6 +97,15 @@ int ours_evaluate(const struct ours *s, zt_edge root, const uint8_t *setting)
     return answer.answer;
 }
 
+void ours_example(const struct ours *s, zt_edge root, uint8_t wanted, uint8_t *setting)
+{
+    struct zt_example_answer answer = zt_example(s->levels, s->count, s->level, s->slots, s->then, s->slots, s->els, s->slots,
+        s->next, s->slots, s->heads, ZT_BUCKETS, root, wanted, setting, s->levels, s->work, s->work_len);
+
+    if (answer.refusal != 0)
+        give_up("an example was refused");
+}
+
 size_t ours_export(struct ours *s, uint8_t text)
 {
     struct zt_export_answer answer = zt_export(0, text, 0, 0, s->levels, s->count, s->level, s->slots, s->then, s->slots,

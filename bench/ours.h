@@ -55,6 +55,9 @@ void ours_take_names(struct ours *s, const uint8_t *file, size_t len);
 /* What an edge answers at a setting; a refusal ends the program. */
 int ours_evaluate(const struct ours *s, zt_edge root, const uint8_t *setting);
 
+/* The first setting at which an edge answers as wanted goes to `setting`, which has a byte for each level; a refusal ends the program. */
+void ours_example(const struct ours *s, zt_edge root, uint8_t wanted, uint8_t *setting);
+
 /* Exports all roots that were loaded last. Answers the length. */
 size_t ours_export(struct ours *s, uint8_t text);
 

@@ -158,6 +158,23 @@ struct plan parity_plan(uint16_t levels)
     return p;
 }
 
+struct plan and_or_plan(uint16_t levels)
+{
+    struct plan p = room_for_plan(levels, (size_t)levels + 1, 1);
+    uint64_t state = 0xa0d;
+    int32_t i;
+
+    for (i = 1; i <= levels; i++) {
+        int is_and = i == 1 || draw(&state) % 2;
+
+        p.nodes[i].level = (uint16_t)(levels - i);
+        p.nodes[i].then = is_and ? i : 1;
+        p.nodes[i].els = is_and ? -1 : i;
+    }
+    p.roots[0] = (int32_t)p.count;
+    return p;
+}
+
 /* The bucket of a node, as the store's rules have it. */
 static unsigned bucket(struct node n)
 {

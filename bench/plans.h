@@ -40,6 +40,12 @@ struct plan room_for_plan(uint16_t levels, size_t count, size_t nroots);
 struct plan parity_plan(uint16_t levels);
 
 /*
+ * At each level its and or its or with all that is deeper, in no order: the first setting that is answered yes leads down all levels, with yes at
+ * the ands and no at the ors.
+ */
+struct plan and_or_plan(uint16_t levels);
+
+/*
  * A diagram against the store's search: all nodes but some forty fall into one bucket, and their children are those forty, so that a search
  * has to pass the whole chain. The last `again` lines are like the oldest ones of that bucket: a search finds them at the chain's end.
  */

@@ -1,8 +1,8 @@
 /*
  * The calls, each with all that holds of every call: guards stay, what is only read stays, scratch, marks, work and cache end as zeros, a
- * refusal leaves zeros in every output and the store as it was, and an accepted load or join leaves a store that keeps the rules and has only
- * grown. Each is made once without work and once with some, of a length that changes from call to call: both give the same. A join is made with
- * caches of several lengths likewise.
+ * refusal leaves zeros in every output and the store as it was, an accepted load or join leaves a store that keeps the rules and has only
+ * grown, and an example is answered as wanted. Each is made once without work and once with some, of a length that changes from call to call:
+ * both give the same. A join is made with caches of several lengths likewise.
  */
 #ifndef CALLS_H
 #define CALLS_H
@@ -83,6 +83,24 @@ extern int every_cache;
 /* Makes the call; the store is as the call leaves it. */
 struct zt_join_answer call_join(struct store *s, enum operation op, zt_edge left, zt_edge right);
 struct zt_join_answer call_opposite(const struct store *s, zt_edge root);
+
+struct example {
+    zt_edge root;
+    uint8_t wanted;
+    size_t setting_len;
+    /* what the call gives: its answer, and the setting, which `done_with_example` gives back */
+    struct zt_example_answer answer;
+    struct lent setting;
+};
+
+/* An example with a setting of just the length that is asked for. */
+struct example example_of(const struct store *s, zt_edge root, uint8_t wanted);
+
+void call_example(struct example *c, const struct store *s);
+void done_with_example(struct example *c);
+
+/* Are the bytes of the setting, all that were lent, these, and then zeros? */
+int gives_setting(const struct example *c, const uint8_t *setting, size_t len);
 
 /* Names of an export, as the places that are lent. */
 struct names {

@@ -80,6 +80,24 @@ static void evaluate_damaged(const struct store *s, int whole)
     free(setting);
 }
 
+/* One byte less than the levels is refused for that, also where the store is broken. */
+static void example_damaged(const struct store *s, int whole)
+{
+    struct example c = example_of(s, (zt_edge)(whole ? 1 + chance(s->count) : chance(65536)), (uint8_t)chance(3));
+    unsigned none = c.root == 1 && c.wanted == 0 ? 41 : 0;
+
+    c.setting_len += chance(2);
+    call_example(&c, s);
+    holds(c.answer.refusal == (whole ? none : 3), "an example sees whether a store is broken");
+    done_with_example(&c);
+    c.setting_len = s->levels - 1u;
+    if (s->levels > 0) {
+        call_example(&c, s);
+        holds(c.answer.refusal == 1, "and before that whether the setting is too short");
+        done_with_example(&c);
+    }
+}
+
 static void export_damaged(const struct store *s, int whole)
 {
     uint16_t *order = room(s->levels * sizeof *order);
@@ -174,6 +192,7 @@ void try_damaged_stores(size_t cases)
         keeps = keeps_rules(&s);
         broken += !keeps;
         evaluate_damaged(&s, keeps);
+        example_damaged(&s, keeps);
         export_damaged(&s, keeps);
         load_damaged(&s, keeps);
         join_damaged(&s, keeps);

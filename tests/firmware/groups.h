@@ -64,6 +64,16 @@ void change_joins(void);
 /* joins.c: `and`, `or` or `xor` */
 enum operation operation_in(const char *column);
 
+/* examples.c: stored examples, and changed ones */
+void try_examples(void);
+void change_examples(void);
+
+/* example_laws.c: examples beside a plain search, refusals, long chains, full stores */
+void try_example_laws(void);
+
+/* example_laws.c: holds examples of an edge to that search, where the store has few levels */
+void hold_examples_of(const struct store *s, zt_edge root);
+
 /* small_joins.c: joins of every pair of edges of small stores, and changed ones */
 void try_small_joins(void);
 void change_small_joins(void);

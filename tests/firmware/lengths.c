@@ -70,6 +70,7 @@ static void shorten_list(size_t list)
     struct store s = plan_store();
     struct load c = load_of(plan, strlen(plan), plan_levels, 2, 3);
     struct export e = export_of(&s, roots, 1, plan_levels, 2);
+    struct example x = example_of(&s, 3, 1);
     size_t op;
 
     case_is("store whose list %zu is too short", list);
@@ -82,8 +83,25 @@ static void shorten_list(size_t list)
     for (op = 0; op < OPERATIONS; op++)
         holds(call_join(&s, (enum operation)op, 3, 2).refusal == 3, "a join is refused");
     holds(call_opposite(&s, 3).refusal == 3, "an opposite is refused");
+    call_example(&x, &s);
+    holds(x.answer.refusal == 3, "an example is refused");
+    done_with_example(&x);
     done_exporting(&e);
     done_with(&c);
+    drop_store(&s);
+    cases++;
+}
+
+static void example_with_length(int more, unsigned refusal)
+{
+    struct store s = plan_store();
+    struct example x = example_of(&s, 3, 1);
+
+    case_is("example with a setting by %d longer", more);
+    x.setting_len += (size_t)more;
+    call_example(&x, &s);
+    holds(x.answer.refusal == refusal, "it is judged by its length");
+    done_with_example(&x);
     drop_store(&s);
     cases++;
 }
@@ -116,6 +134,11 @@ void try_lengths(void)
     load_with_list(3, 2);
     for (list = 0; list < 5; list++)
         shorten_list(list);
+    example_with_length(-2, 1);
+    example_with_length(-1, 1);
+    example_with_length(0, 0);
+    example_with_length(1, 0);
+    example_with_length(5000, 0);
     export_with_lengths(-1, 0, 0, 1);
     export_with_lengths(0, -1, 0, 1);
     export_with_lengths(0, 0, -1, 1);
@@ -173,6 +196,21 @@ static void join_empty(size_t slots, size_t heads, unsigned refusal)
     cases++;
 }
 
+static void example_empty(size_t slots, size_t heads, uint16_t levels, uint8_t wanted, unsigned refusal)
+{
+    struct store s = empty_store(levels, slots);
+    struct example x = example_of(&s, 1, wanted);
+
+    case_is("example with empty parts, %zu slots", slots);
+    s.heads_len = heads;
+    x.setting_len = 0;
+    call_example(&x, &s);
+    holds(x.answer.refusal == refusal, "it is judged as any other");
+    done_with_example(&x);
+    drop_store(&s);
+    cases++;
+}
+
 static void export_empty(size_t slots, int lent, unsigned refusal)
 {
     static const char file[] = ".ver DDDMP-2.0\n.mode A\n.varinfo 4\n.nnodes 0\n.nvars 0\n.nsuppvars 0\n.suppvarnames\n"
@@ -217,6 +255,13 @@ void try_empty_parts(void)
     join_empty(1, 0, 3);
     join_empty(0, ZT_BUCKETS, 3);
     join_empty(1, ZT_BUCKETS, 0);
+    example_empty(0, 0, 0, 1, 3);
+    example_empty(0, 0, 1, 1, 1);
+    example_empty(1, 0, 0, 1, 3);
+    example_empty(0, ZT_BUCKETS, 0, 1, 3);
+    example_empty(1, ZT_BUCKETS, 0, 1, 0);
+    example_empty(1, ZT_BUCKETS, 0, 0, 41);
+    example_empty(1, ZT_BUCKETS, 1, 1, 1);
     export_empty(0, 0, 1);
     export_empty(0, 1, 3);
     export_empty(1, 0, 1);

@@ -6,7 +6,7 @@
  * VECTORS is the folder of the stored cases, DIFFERENCES that of the inputs of docs/DIFFERENCES.md. -e gives each part memory of its own
  * size, for a run under a tool that watches memory, and leaves out the changed and the falsified cases, which make the same calls again;
  * -d sets the number of stores that are damaged; -s leaves out all but each STEP-th case of the binary files. With -e far fewer of the small
- * stores are joined. The status is 0 where nothing failed.
+ * stores are used. The status is 0 where nothing failed.
  */
 #include <stdio.h>
 #include <stdlib.h>
@@ -43,6 +43,8 @@ static void try_all(size_t damaged)
     try_small_joins();
     try_join_laws();
     try_join_limits();
+    try_examples();
+    try_example_laws();
     try_lists();
     try_stored_loads();
     try_stored_exports();

@@ -82,7 +82,7 @@ static const struct refused_file files[] = {
     {39, 0, FILE_OF(".nodes\n.end\n."), 0},
 };
 
-enum { REFUSAL_NUMBERS = 41 };
+enum { REFUSAL_NUMBERS = 42 };
 
 static size_t met[REFUSAL_NUMBERS];
 static size_t cases;
@@ -220,6 +220,34 @@ static void refuse_evaluations(void)
     refuse_evaluation(4, &s, 3, good, 1);
     s.next[1] = 3;
     refuse_evaluation(3, &s, 3, good, 2);
+    drop_store(&s);
+}
+
+static void refuse_example(unsigned refusal, const struct store *s, zt_edge root, uint8_t wanted, size_t len)
+{
+    struct example c = example_of(s, root, wanted);
+
+    case_is("example that is refused with %u", refusal);
+    c.setting_len = len;
+    call_example(&c, s);
+    hold_refusal(c.answer.refusal, c.answer.line, refusal, 0);
+    done_with_example(&c);
+}
+
+static void refuse_examples(void)
+{
+    struct store s = plan_store();
+
+    refuse_example(1, &s, 3, 1, 1);
+    refuse_example(4, &s, 0, 1, 2);
+    refuse_example(4, &s, 4, 1, 2);
+    refuse_example(4, &s, -4, 0, 2);
+    refuse_example(4, &s, -32768, 0, 2);
+    refuse_example(41, &s, 1, 0, 2);
+    refuse_example(41, &s, -1, 1, 2);
+    refuse_example(41, &s, -1, 255, 3);
+    s.next[1] = 3;
+    refuse_example(3, &s, 3, 1, 2);
     drop_store(&s);
 }
 
@@ -391,7 +419,7 @@ static void refuse_exports(void)
 
 static int is_refusal(size_t n)
 {
-    return (n >= 1 && n <= 6) || (n >= 10 && n <= 26) || (n >= 30 && n <= 40);
+    return (n >= 1 && n <= 6) || (n >= 10 && n <= 26) || (n >= 30 && n <= 41);
 }
 
 void try_refusals(void)
@@ -412,14 +440,15 @@ void try_refusals(void)
     refuse_for_store();
     refuse_full_store();
     refuse_evaluations();
+    refuse_examples();
     refuse_exports();
     case_is("refusals");
     for (n = 0; n < REFUSAL_NUMBERS; n++) {
-        holds((met[n] > 0) == is_refusal(n), "each number of document 01 was met, and no other");
+        holds((met[n] > 0) == is_refusal(n), "each number of documents 01 and 02 was met, and no other");
         numbers += met[n] > 0;
     }
-    holds(numbers == 34, "document 01 has 34 refusals");
-    group_done("refusals, each of 34 numbers", cases);
+    holds(numbers == 35, "documents 01 and 02 have 35 refusals");
+    group_done("refusals, each of 35 numbers", cases);
 }
 
 /* The order: a call with every fault is refused for the first; that one is mended, and it is refused for the next. */
@@ -466,6 +495,23 @@ static void mend_evaluation(void)
     drop_store(&s);
 }
 
+static void mend_example(void)
+{
+    struct store s = plan_store();
+    struct example c = example_of(&s, 1, 1);
+
+    s.heads[0] ^= 1;
+    refuse_example(1, &s, 9, 0, 1);
+    refuse_example(3, &s, 9, 0, 2);
+    s.heads[0] ^= 1;
+    refuse_example(4, &s, 9, 0, 2);
+    refuse_example(41, &s, 1, 0, 2);
+    call_example(&c, &s);
+    holds(c.answer.refusal == 0, "with all faults mended it is accepted");
+    done_with_example(&c);
+    drop_store(&s);
+}
+
 static void mend_export(void)
 {
     static const uint16_t bad_order[2] = {1, 1};
@@ -501,6 +547,7 @@ void try_order_of_refusals(void)
     cases = 0;
     mend_load();
     mend_evaluation();
+    mend_example();
     mend_export();
     group_done("the order of refusals", cases);
 }

@@ -413,5 +413,6 @@ void try_changed_cases(void)
     change_lists();
     change_joins();
     change_small_joins();
+    change_examples();
     group_done("changed cases, which must be noticed", changed_cases);
 }

@@ -50,8 +50,8 @@
  *   it. Work and cache are written by each call, so calls at the same time are lent different ones.
  *
  * Stack
- *   The library takes no memory but the stack's: about 16 KB for a load, 24 KB for an export, 7 KB for an evaluation or an example, 97 KB for a join,
- *   whatever the parts hold and however long they are. These were measured on x86-64, and are not proved.
+ *   The library takes no memory but the stack's: about 16 KB for a load, 24 KB for an export, 7 KB for an evaluation or an example, 97 KB for a
+ *   join, whatever the parts hold and however long they are. These were measured on x86-64, and are not proved.
  */
 #ifndef ZONETWEED_H
 #define ZONETWEED_H

@@ -2,20 +2,17 @@
 use mathlib.Core.Path.{_≡_, refl, sym, subst}
 use mathlib.Core.Logic.{_↔_}
 use mathlib.Core.Bool.{Bool}
-use mathlib.Core.List.{List}
 use Prim.Native.Nat.{ℕ}
 use native.Mathlib.Omega.{arith}
 use lib.IntN.{ℤ}
-use Rattle.codes.specs.Answer.{Read, refused}
+use Rattle.codes.specs.Answer.{refused}
 use Rattle.codes.specs.Limits.{Limits}
 use Rattle.store.specs.Store.{Store}
 use Rattle.example_walk.specs.Example.{answersAs, exampleOf}
 use Rattle.example_walk.proofs.First.{none-first, none-exact}
 use Rattle.example_walk.proofs.Laws.{example-cases}
+use Rattle.joined.proofs.Joins.{refused-one}
 use Rattle.calls.specs.Refusals.{ExampleRefused, setting-short, example-broken, example-bad, no-setting}
-
-refused-one : (k n : ℕ) → _≡_ {A = Read (List Bool)} (refused k) (refused n) → k ≡ n
-refused-one k n q = cc
 
 module _ (m : Limits) (e : ℤ) (wanted : Bool) (long : ℕ) (σ : Store) where
   abbrev Refused : ℕ → Type 0

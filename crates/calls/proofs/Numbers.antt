@@ -1,4 +1,4 @@
--- Every refusal of every call is one of document 01's numbers, and so is never 0, which is no refusal for C.
+-- Every refusal of every call is one of the numbers of documents 01 and 02, and so is never 0, which is no refusal for C.
 use mathlib.Core.Path.{_≡_, refl, sym, ap, subst, _∙_}
 use mathlib.Core.Logic.{_⊎_, inl, inr, ⊎-elim, _↔_}
 use mathlib.Core.Bool.{Bool, true, false, _&&_, cond}

@@ -77,11 +77,11 @@ rules-walk {σ} r n h l =
     }
 
 -- what the code's tests say
-passes : {a b : Bool} → a ≡ b → not a ≡ false → b ≡ true
+pub passes : {a b : Bool} → a ≡ b → not a ≡ false → b ≡ true
 passes {a = true} h k = sym h
 passes {a = false} h k = absurd (true≢false k)
 
-fails : {a b : Bool} → a ≡ b → not a ≡ true → b ≡ false
+pub fails : {a b : Bool} → a ≡ b → not a ≡ true → b ≡ false
 fails {a = true} h k = absurd (true≢false (sym k))
 fails {a = false} h k = sym h
 

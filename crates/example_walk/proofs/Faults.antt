@@ -1,7 +1,7 @@
 -- The tests before the walk, in the order of the refusals, and as the code makes them: an edge x is read as `toZ edgeWidth (ofZ edgeWidth x)`.
 use Prim.Native.Nat.{ℕ, _≤_, _<_}
 use mathlib.Core.Path.{_≡_, sym, ap, _∙_}
-use mathlib.Core.Bool.{Bool, true, false, not, Bool·beq, true≢false}
+use mathlib.Core.Bool.{Bool, true, false, not, Bool·beq}
 use lib.Dec.{eqb}
 use lib.IntN.{ℤ, natAbs}
 use mir.Val.{SFits, toZ, ofZ}
@@ -13,6 +13,7 @@ use Rattle.edges.specs.Edge.{minus}
 use Rattle.store.specs.Store.{Store}
 use Rattle.store.specs.Keeps.{keeps}
 use Rattle.store.specs.Growth.{isRoot}
+use Rattle.evaluation.proofs.Evaluating.{passes, fails}
 use Rattle.example_walk.specs.Course.{never, exampleFault}
 
 -- whether an edge never answers so
@@ -25,14 +26,6 @@ module _ (e : ℤ) (wanted : Bool) (f : SFits edgeWidth e) {k : ℕ} (q : k ≡ 
 
   pub never-far : (k ≡ 1 → ⊥) → eqb k 1 ≡ never e wanted
   never-far h = rw (node-of, ne-eqb (natAbs e) 1 (λ z. h (node-of ∙ z)))
-
-passes : {a b : Bool} → a ≡ b → not a ≡ false → b ≡ true
-passes {a = true} h k = sym h
-passes {a = false} h k = absurd (true≢false k)
-
-fails : {a b : Bool} → a ≡ b → not a ≡ true → b ≡ false
-fails {a = true} h k = absurd (true≢false (sym k))
-fails {a = false} h k = sym h
 
 module _ (σ : Store) (e : ℤ) (wanted : Bool) (long : ℕ) (f : SFits edgeWidth e) where
   pub fault-short : long < σ .levels → 1 ≡ exampleFault limits σ e wanted long

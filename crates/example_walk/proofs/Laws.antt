@@ -28,7 +28,7 @@ use Rattle.evaluation.specs.SettingBytes.{bytesOf}
 use Rattle.evaluation.proofs.SettingBytes.{bytes-setting, setting-chosen}
 use Rattle.example_walk.specs.Example.{settings, firstOf, answersAs, exampleOf}
 use Rattle.example_walk.specs.First.{Before, here, later, NoneIs}
-use Rattle.example_walk.specs.Given.{Given, Unseen}
+use Rattle.example_walk.specs.Given.{Given, Unseen, otherAlways}
 use Rattle.example_walk.specs.Course.{never}
 use Rattle.example_walk.proofs.First.{is-first, first-exact}
 use Rattle.example_walk.proofs.Walked.{alike-yes, yes-alike, never-none}
@@ -103,23 +103,28 @@ other true false h = refl
 other false true h = refl
 other false false h = absurd (true≢false h)
 
-never-of : (e : ℤ) (b : Bool) → (e ≡ pos 1) ⊎ (e ≡ negsuc 0) → turn e true ≡ not b → never e b ≡ true
-unfolding turn minus
-never-of e true (inl q) h = absurd (true≢false (ap (λ x. turn x true) (sym q) ∙ h))
-never-of e false (inl q) h = rw q
-never-of e true (inr q) h = rw q
-never-of e false (inr q) h = absurd (true≢false (sym (ap (λ x. turn x true) (sym q) ∙ h)))
+other-never : (b : Bool) → never (otherAlways b) b ≡ true
+unfolding minus
+other-never true = refl
+other-never false = refl
 
--- None is found exactly for an edge to node 1 that has the other answer: 'an edge of one answer is 1 or -1'.
+one-other : (e : ℤ) (b : Bool) → (e ≡ pos 1) ⊎ (e ≡ negsuc 0) → turn e true ≡ not b → e ≡ otherAlways b
+unfolding turn
+one-other e true (inl q) h = absurd (true≢false (ap (λ x. turn x true) (sym q) ∙ h))
+one-other e false (inl q) h = q
+one-other e true (inr q) h = q
+one-other e false (inr q) h = absurd (true≢false (sym (ap (λ x. turn x true) (sym q) ∙ h)))
+
+-- None is found exactly for the edge that always gives the other answer, since an edge of one answer is 1 or -1.
 module _ {m : Limits} (σ : Store) (e : ℤ) (wanted : Bool) (R : Rules m σ) (E : EdgeOf σ e) where
-  none-never : NoneIs (answersAs σ e wanted) (σ .levels) → never e wanted ≡ true
-  none-never h =
+  none-other : NoneIs (answersAs σ e wanted) (σ .levels) → e ≡ otherAlways wanted
+  none-other h =
       let one = constant σ (R .nodes) e E (λ s t p q. other _ _ (h s p) ∙ sym (other _ _ (h t q))) in
       let a = other _ wanted (h (replicate (σ .levels) false) (length-replicate (σ .levels) false)) in
-      never-of e wanted one (at-one (⊎-elim (λ q. ap natAbs q) (λ q. ap natAbs q) one) a)
+      one-other e wanted one (at-one (⊎-elim (λ q. ap natAbs q) (λ q. ap natAbs q) one) a)
     where
       at-one : natAbs e ≡ 1 → answer σ (chosen (replicate (σ .levels) false)) e ≡ not wanted → turn e true ≡ not wanted
       at-one q a = ap (turn e) (sym (ap (node σ _) q ∙ node-one σ _)) ∙ a
 
-  pub no-setting : NoneIs (answersAs σ e wanted) (σ .levels) ↔ (never e wanted ≡ true)
-  no-setting = (none-never, never-none σ e wanted (σ .levels))
+  pub no-setting : NoneIs (answersAs σ e wanted) (σ .levels) ↔ (e ≡ otherAlways wanted)
+  no-setting = (none-other, λ q. never-none σ e wanted (σ .levels) (rw q (other-never wanted)))

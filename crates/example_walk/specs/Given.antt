@@ -1,9 +1,9 @@
--- What is said of a setting that the call gives, with no word of how it is found.
+-- What is said of a setting that the call gives, and of where there is none, with no word of how it is found.
 use Prim.Native.Nat.{ℕ, _≤_}
 use mathlib.Core.Path.{_≡_}
-use mathlib.Core.Bool.{Bool}
+use mathlib.Core.Bool.{Bool, cond}
 use mathlib.Core.List.{List}
-use lib.IntN.{ℤ}
+use lib.IntN.{ℤ, pos, negsuc}
 use Rattle.codes.specs.Limits.{Limits}
 use Rattle.store.specs.Store.{Store}
 use Rattle.store.specs.Rules.{Rules}
@@ -22,3 +22,7 @@ pub record Given (m : Limits) (σ : Store) (e : ℤ) (wanted : Bool) (long : ℕ
 -- A level that an edge doesn't look at: settings that differ there at most are answered alike.
 abbrev pub Unseen : Store → ℤ → ℕ → Type 0
 Unseen σ e l = (s t : Setting) → ((j : ℕ) → (j ≡ l → ⊥) → s j ≡ t j) → answer σ s e ≡ answer σ t e
+
+-- The edge that always gives the other answer: 1, and no is wanted, or -1, and yes is.
+abbrev pub otherAlways : Bool → ℤ
+otherAlways wanted = cond wanted (negsuc 0) (pos 1)

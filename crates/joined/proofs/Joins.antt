@@ -55,7 +55,7 @@ then-same r k h f = go (r .answer) refl
 pub value-one : (a b : ℤ) → _≡_ {A = Read ℤ} (value a) (value b) → a ≡ b
 value-one a b q = cc
 
-pub refused-one : (a b : ℕ) → _≡_ {A = Read ℤ} (refused a) (refused b) → a ≡ b
+pub refused-one : {X : Type 0} (a b : ℕ) → _≡_ {A = Read X} (refused a) (refused b) → a ≡ b
 refused-one a b q = cc
 
 pub not-value : {A : Type 0} (n : ℕ) (x : ℤ) → _≡_ {A = Read ℤ} (refused n) (value x) → A

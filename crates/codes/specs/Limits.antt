@@ -9,13 +9,13 @@ varLimit = 4096
 abbrev pub rootLimit : ℕ
 rootLimit = 1024
 
--- '`.nnodes` 32,767', and the store's slots
+-- Document 02, request 5: 'the store and `.nnodes` to 1,000,000'
 abbrev pub nodeLimit : ℕ
-nodeLimit = 32767
+nodeLimit = 1000000
 
--- 'input 16,777,216 bytes'
+-- 'and the input limit to 67,108,864 bytes'
 abbrev pub inputLimit : ℕ
-inputLimit = 16777216
+inputLimit = 67108864
 
 -- The limits that a later version may raise are parameters of every definition that has them: an old store, and an old call, is judged by the
 -- limits of its time.

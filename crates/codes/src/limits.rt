@@ -7,7 +7,7 @@ pub const VAR_LIMIT: usize = 4096;
 pub const ROOT_LIMIT: usize = 1024;
 
 // Nodes of a file, and of a store.
-pub const NODE_LIMIT: usize = 32767;
+pub const NODE_LIMIT: usize = 1000000;
 
 // Bytes of an input.
-pub const INPUT_LIMIT: usize = 16777216;
+pub const INPUT_LIMIT: usize = 67108864;

@@ -33,22 +33,22 @@ use Rattle.c_answers.specs.declared.EvaluateAnswer.{EvaluateAnswer}
 use Rattle.c_answers.specs.declared.ExampleAnswer.{ExampleAnswer}
 use Rattle.c_answers.specs.declared.ExportAnswer.{ExportAnswer}
 use Rattle.c_answers.specs.declared.JoinAnswer.{JoinAnswer}
-use Rattle.firmware.proofs.zt_load.Reads as zt-load
-use Rattle.firmware.proofs.zt_load.Kinds as zt-load-kinds
-use Rattle.firmware.proofs.zt_evaluate.Reads as zt-evaluate
-use Rattle.firmware.proofs.zt_evaluate.Kinds as zt-evaluate-kinds
-use Rattle.firmware.proofs.zt_example.Reads as zt-example
-use Rattle.firmware.proofs.zt_example.Kinds as zt-example-kinds
-use Rattle.firmware.proofs.zt_export.Reads as zt-export
-use Rattle.firmware.proofs.zt_export.Kinds as zt-export-kinds
-use Rattle.firmware.proofs.zt_and.Reads as zt-and
-use Rattle.firmware.proofs.zt_and.Kinds as zt-and-kinds
-use Rattle.firmware.proofs.zt_or.Reads as zt-or
-use Rattle.firmware.proofs.zt_or.Kinds as zt-or-kinds
-use Rattle.firmware.proofs.zt_xor.Reads as zt-xor
-use Rattle.firmware.proofs.zt_xor.Kinds as zt-xor-kinds
-use Rattle.firmware.proofs.zt_not.Reads as zt-not
-use Rattle.firmware.proofs.zt_not.Kinds as zt-not-kinds
+use Rattle.firmware.proofs.zt2_load.Reads as zt-load
+use Rattle.firmware.proofs.zt2_load.Kinds as zt-load-kinds
+use Rattle.firmware.proofs.zt2_evaluate.Reads as zt-evaluate
+use Rattle.firmware.proofs.zt2_evaluate.Kinds as zt-evaluate-kinds
+use Rattle.firmware.proofs.zt2_example.Reads as zt-example
+use Rattle.firmware.proofs.zt2_example.Kinds as zt-example-kinds
+use Rattle.firmware.proofs.zt2_export.Reads as zt-export
+use Rattle.firmware.proofs.zt2_export.Kinds as zt-export-kinds
+use Rattle.firmware.proofs.zt2_and.Reads as zt-and
+use Rattle.firmware.proofs.zt2_and.Kinds as zt-and-kinds
+use Rattle.firmware.proofs.zt2_or.Reads as zt-or
+use Rattle.firmware.proofs.zt2_or.Kinds as zt-or-kinds
+use Rattle.firmware.proofs.zt2_xor.Reads as zt-xor
+use Rattle.firmware.proofs.zt2_xor.Kinds as zt-xor-kinds
+use Rattle.firmware.proofs.zt2_not.Reads as zt-not
+use Rattle.firmware.proofs.zt2_not.Kinds as zt-not-kinds
 
 -- a part as it is lent, and as the call leaves it
 abbrev part : {X : Type 0} → RefT X → RefT X → Part X

@@ -1,4 +1,5 @@
-// The public calls for C: `include/zonetweed.h` declares and explains them. A slice is a pointer and then a length.
+// The public calls for C: `include/zonetweed.h` declares and explains them. A slice is a pointer and then a length. The names have the version of
+// the interface, which rises with each change of a width or of a parameter: a program that was compiled for another version doesn't link.
 ghost use Rattle.firmware.specs.Promises.{ZtLoadPromise, ZtEvaluatePromise, ZtExamplePromise, ZtExportPromise, ZtJoinPromise, ZtNotPromise};
 ghost use Rattle.joined.specs.declared.Op.the-variants as op;
 use c_answers::EvaluateAnswer;
@@ -12,7 +13,7 @@ use joined::Op;
 
 // Loads a file into the store.
 #[no_mangle]
-pub extern "C" fn zt_load(
+pub extern "C" fn zt2_load(
     file: &[u8],
     list: &[u16],
     levels: u16,
@@ -65,7 +66,7 @@ pub extern "C" fn zt_load(
 
 // What an edge of the store answers at a setting.
 #[no_mangle]
-pub extern "C" fn zt_evaluate(
+pub extern "C" fn zt2_evaluate(
     levels: u16,
     count: Index,
     level: &[u16],
@@ -95,7 +96,7 @@ pub extern "C" fn zt_evaluate(
 
 // The first setting at which an edge of the store answers as wanted.
 #[no_mangle]
-pub extern "C" fn zt_example(
+pub extern "C" fn zt2_example(
     levels: u16,
     count: Index,
     level: &[u16],
@@ -127,7 +128,7 @@ pub extern "C" fn zt_example(
 
 // Exports the diagrams of roots of the store.
 #[no_mangle]
-pub extern "C" fn zt_export(
+pub extern "C" fn zt2_export(
     version: u8,
     text: u8,
     ddstart: u32,
@@ -180,7 +181,7 @@ pub extern "C" fn zt_export(
 
 // The root of the and of two roots of the store.
 #[no_mangle]
-pub extern "C" fn zt_and(
+pub extern "C" fn zt2_and(
     levels: u16,
     count: &mut Index,
     level: &mut [u16],
@@ -213,7 +214,7 @@ pub extern "C" fn zt_and(
 
 // The root of the or of two roots of the store.
 #[no_mangle]
-pub extern "C" fn zt_or(
+pub extern "C" fn zt2_or(
     levels: u16,
     count: &mut Index,
     level: &mut [u16],
@@ -246,7 +247,7 @@ pub extern "C" fn zt_or(
 
 // The root of the exclusive or of two roots of the store.
 #[no_mangle]
-pub extern "C" fn zt_xor(
+pub extern "C" fn zt2_xor(
     levels: u16,
     count: &mut Index,
     level: &mut [u16],
@@ -279,7 +280,7 @@ pub extern "C" fn zt_xor(
 
 // The opposite of a root of the store.
 #[no_mangle]
-pub extern "C" fn zt_not(
+pub extern "C" fn zt2_not(
     levels: u16,
     count: Index,
     level: &[u16],

@@ -74,7 +74,7 @@ headRefusals =
     ∷ row (bytes ".nvars 1\n.dd " ++ (0xff ∷ bytes "\n.nodes\n")) 18 2
     ∷ row (bytes ".rootnames a " ++ (0xc0 ∷ bytes "\n.nodes\n")) 18 1
     ∷ row (bytes ".nvars 4097\n.nodes\n") 19 0
-    ∷ row (bytes ".nnodes 32768\n.nodes\n") 19 0
+    ∷ row (bytes ".nnodes 1000001\n.nodes\n") 19 0
     ∷ row (bytes ".nsuppvars 1\n.nodes\n") 20 0
     ∷ row (bytes ".nvars 1\n.nsuppvars 1\n.nodes\n") 21 0
     ∷ row (bytes ".nvars 1\n.varnames a b\n.nodes\n") 21 0

@@ -65,7 +65,7 @@ wholeOrderRefusals =
     -- '19 for `.nvars`' before '20 `.nsuppvars` above `.nvars`'
     row (bytes ".nvars 4097\n.nsuppvars 4098\n.nodes\n") 19 0
     -- 'then `.nnodes`' before 20
-    ∷ row (bytes ".nnodes 32768\n.nsuppvars 1\n.nodes\n") 19 0
+    ∷ row (bytes ".nnodes 1000001\n.nsuppvars 1\n.nodes\n") 19 0
     -- 20 before '21 wrong entry count in `.ids`'
     ∷ row (bytes ".nsuppvars 1\n.nodes\n") 20 0
     -- 21 in `.permids` before '22 `.ids` .. last not below `.nvars`'

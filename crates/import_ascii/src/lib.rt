@@ -3,7 +3,8 @@ ghost use mathlib.Core.Path.{_≡_};
 ghost use Prim.Native.Nat.{_≤_, _<_};
 ghost use lib.ListN.{length};
 ghost use lib.IntN.{natAbs};
-ghost use Rattle.edges.specs.Width.{edgeLimit, positionLimit};
+ghost use Rattle.codes.specs.Limits.{nodeLimit};
+ghost use Rattle.edges.specs.Width.{positionLimit};
 ghost use Rattle.codes.specs.Answer.{value};
 ghost use Rattle.node_lines.specs.Kinds.{ofDecoded};
 ghost use Rattle.node_lines.specs.Line.{childFault};
@@ -52,7 +53,7 @@ fn terminal(word: &[u8]) -> Parsed
 
 // A line at a support position, if it is one, over two children of which none is 0.
 fn at_position(levels: &[u16], seats: &[u16], node: Index, p: u32, t: i64, e: i64) -> Parsed
-    requires { ⌜ (1 ≤ natAbs t) × (1 ≤ natAbs e) × (node < edgeLimit) × (length (now levels) < positionLimit) ⌝ }
+    requires { ⌜ (1 ≤ natAbs t) × (1 ≤ natAbs e) × (node ≤ nodeLimit) × (length (now levels) < positionLimit) ⌝ }
     ensures { λ r. ⌜ ofParsed r ≡ variable (now (levels .entry)) (now (seats .entry)) node t e (value p) ⌝ }
 {
     let i = p as usize;
@@ -73,7 +74,7 @@ fn at_position(levels: &[u16], seats: &[u16], node: Index, p: u32, t: i64, e: i6
 
 // A line of a variable word and its children, which were read whole before.
 fn described(word: &[u8], c: Children, levels: &[u16], seats: &[u16], node: Index) -> Parsed
-    requires { ⌜ (node < edgeLimit) × (length (now levels) < positionLimit) ⌝ }
+    requires { ⌜ (node ≤ nodeLimit) × (length (now levels) < positionLimit) ⌝ }
     ensures { λ r. ⌜ ofParsed r ≡ described (now (levels .entry)) (now (seats .entry)) node (now (word .entry)) (ofChildren c) ⌝ }
 {
     match c {
@@ -98,7 +99,7 @@ fn described(word: &[u8], c: Children, levels: &[u16], seats: &[u16], node: Inde
 
 // A line of these bytes.
 fn text_line(extra: bool, levels: &[u16], seats: &[u16], node: Index, s: &[u8]) -> Parsed
-    requires { ⌜ (node < edgeLimit) × (length (now levels) < positionLimit) ⌝ }
+    requires { ⌜ (node ≤ nodeLimit) × (length (now levels) < positionLimit) ⌝ }
     ensures { λ r. ⌜ ofParsed r ≡ textLine extra (now (levels .entry)) (now (seats .entry)) node (now (s .entry)) ⌝ }
 {
     match line_words::variable_word(extra, node, s) {
@@ -120,7 +121,7 @@ pub fn line_at(
     seats: &[u16],
     node: Index,
 ) -> Decoded
-    requires { ⌜ (node < edgeLimit) × (length (now levels) < positionLimit) ⌝ }
+    requires { ⌜ (node ≤ nodeLimit) × (length (now levels) < positionLimit) ⌝ }
     ensures { λ r. ⌜ ofDecoded r ≡ textLineAt extra (now (levels .entry)) (now (seats .entry)) node (now (f .entry)) at ⌝ }
 {
     if f.len() <= at {

@@ -4,7 +4,8 @@ ghost use mathlib.Core.Bool.{cond};
 ghost use Prim.Native.Nat.{_≤_, _<_};
 ghost use lib.IntN.{natAbs};
 ghost use lib.ListN.{length, drop};
-ghost use Rattle.edges.specs.Width.{edgeLimit, positionLimit};
+ghost use Rattle.codes.specs.Limits.{nodeLimit};
+ghost use Rattle.edges.specs.Width.{positionLimit};
 ghost use Rattle.node_lines.specs.Kinds.{ofDecoded};
 ghost use Rattle.imported.specs.Build.{edgeFor, AllEdges};
 ghost use Rattle.imported.specs.Import.{lineBy, lineFor, blankAll, endsWell, withEnd, isRead, rootsBy, EdgesIf};
@@ -39,7 +40,7 @@ pub fn line_at(
     node: Index,
     at: usize,
 ) -> Decoded
-    requires { ⌜ (node < edgeLimit) × (length (now list) < positionLimit) ⌝ }
+    requires { ⌜ (node ≤ nodeLimit) × (length (now list) < positionLimit) ⌝ }
     ensures { λ r. ⌜ ofDecoded r ≡ lineBy ascii extra (now (list .entry)) levels (now (f .entry)) (now (seats .entry)) node at ⌝ }
 {
     if ascii {

@@ -6,13 +6,13 @@ use mathlib.Core.List.{List, [], _∷_, map}
 use lib.ListN.{length, take, drop}
 use lib.IntN.{ℤ, pos, natAbs}
 use lib.Dec.{eqb}
-use Rattle.edges.specs.Width.{edgeLimit, positionLimit}
+use Rattle.edges.specs.Width.{positionLimit}
 use Rattle.codes.specs.Texts.{bytes}
 use Rattle.codes.specs.Answer.{Read, value, refused, Step}
 use Rattle.codes.specs.Bytes.{isWhitespace}
 use Rattle.read_text.specs.Alike.{alike}
 use Rattle.store.specs.Store.{Store}
-use Rattle.codes.specs.Limits.{Limits}
+use Rattle.codes.specs.Limits.{Limits, nodeLimit}
 use Rattle.node_lines.specs.Line.{Line}
 use Rattle.node_lines.specs.Decode.{NodeLines, DecodeEnd, allRead, stopped, decodeFrom}
 use Rattle.import_ascii.specs.Text.{textLineAt}
@@ -135,7 +135,7 @@ EdgesIf false edges = Unit
 
 -- what the calls lean on: limits that were judged before
 pub record Bounded (u : Setup) (edges seats : ℕ) : Type 0 where
-  pub nodes : u .nnodes < edgeLimit
+  pub nodes : u .nnodes ≤ nodeLimit
   pub edges-long : u .nnodes ≤ edges
   pub seats-long : u .nnodes ≤ seats
   pub few-levels : length (u .list) < positionLimit

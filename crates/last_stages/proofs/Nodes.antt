@@ -2,14 +2,13 @@
 use mathlib.Core.Path.{_≡_}
 use mathlib.Core.Bool.{Bool, not}
 use mathlib.Core.List.{List}
-use Prim.Native.Nat.{ℕ, _<_}
+use Prim.Native.Nat.{ℕ, _≤_}
 use lib.Dec.{eqb}
 use lib.ListN.{length, replicate}
 use lib.IntN.{ℤ, pos}
-use Rattle.edges.specs.Width.{edgeLimit}
 use Rattle.header_values.specs.Kinds.{ofVarInfo}
 use Rattle.store.specs.Store.{Store}
-use Rattle.codes.specs.Limits.{limits}
+use Rattle.codes.specs.Limits.{limits, nodeLimit}
 use Rattle.store.specs.Rules.{Rules}
 use Rattle.unique_table.specs.Index.{Finds, widthFor}
 use Rattle.slots.specs.Most.{mostNodes}
@@ -34,7 +33,7 @@ module _ (r : Loaded) (σ : Store) (list : List ℕ) where
 
     module _ (e s : ℕ) (p : Readable (ofLoaded r) σ list e s) where
       -- where the answer so far is a header, its nodes are few
-      pub few-nodes : h .nnodes < edgeLimit
+      pub few-nodes : h .nnodes ≤ nodeLimit
       few-nodes = (rw q at p) .1 .1 .nodes
 
       -- and what their import leans on holds

@@ -58,7 +58,7 @@ fn agrees_with(
     work: &mut [Index],
 ) -> bool {
     let levels = field(head, 1);
-    let count = field(head, 3);
+    let count = field(head, 3) as Index;
     if head[0] == 1 {
         return is_kept(
             head,
@@ -116,20 +116,47 @@ fn agrees(
 }
 
 // Each list as long as the case has it lent.
-fn with_edges(head: &[u8; 23], lists: &[u16], then: &[Edge], els: &[Edge], setting: &[u8]) -> bool {
+fn with_level(
+    head: &[u8; 23],
+    lists: &[u16],
+    then: &[Edge],
+    els: &[Edge],
+    next: &[Index],
+    heads: &[Index],
+    setting: &[u8],
+) -> bool {
     let level = change::LEVEL + length(head, 5);
-    let next = change::NEXT + length(head, 11);
-    let heads = change::HEADS + length(head, 13);
-    if level <= lists.len() && next <= lists.len() && heads <= lists.len() {
-        return agrees(
-            head,
-            &lists[change::LEVEL..level],
-            then,
-            els,
-            &lists[change::NEXT..next],
-            &lists[change::HEADS..heads],
-            setting,
-        );
+    if level <= lists.len() {
+        return agrees(head, &lists[change::LEVEL..level], then, els, next, heads, setting);
+    }
+    false
+}
+
+fn with_heads(
+    head: &[u8; 23],
+    lists: &[u16],
+    then: &[Edge],
+    els: &[Edge],
+    next: &[Index],
+    setting: &[u8],
+) -> bool {
+    let n = length(head, 13);
+    let end = change::HEADS + n;
+    let mut heads = change::no_indices();
+    if n <= heads.len() && end <= lists.len() {
+        change::to_indices(&lists[change::HEADS..end], &mut heads);
+        return with_level(head, lists, then, els, next, &heads[..n], setting);
+    }
+    false
+}
+
+fn with_next(head: &[u8; 23], lists: &[u16], then: &[Edge], els: &[Edge], setting: &[u8]) -> bool {
+    let n = length(head, 11);
+    let end = change::NEXT + n;
+    let mut next = change::no_indices();
+    if n <= next.len() && end <= lists.len() {
+        change::to_indices(&lists[change::NEXT..end], &mut next);
+        return with_heads(head, lists, then, els, &next[..n], setting);
     }
     false
 }
@@ -140,7 +167,7 @@ fn with_els(head: &[u8; 23], lists: &[u16], then: &[Edge], setting: &[u8]) -> bo
     let mut els = change::no_edges();
     if n <= els.len() && end <= lists.len() {
         change::to_edges(&lists[change::ELS..end], &mut els);
-        return with_edges(head, lists, then, &els[..n], setting);
+        return with_next(head, lists, then, &els[..n], setting);
     }
     false
 }

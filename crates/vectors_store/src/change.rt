@@ -24,7 +24,7 @@ const ROOM: usize = 131500;
 // The length of work that is enough for the index of every store.
 const WORK: usize = 98304;
 
-// Zeros for all lists, for the edges of one, for work, and for the bytes of a stretch. The `ensures` give only the lengths: a function that has such an
+// Zeros for all lists, for the edges or the indices of one, for work, and for the bytes of a stretch. The `ensures` give only the lengths: a function that has such an
 // array for a local of its own takes seconds to check.
 pub fn no_lists() -> [u16; ROOM]
     ensures { λ r. ⌜ 131500 ≡ length r ⌝ }
@@ -33,6 +33,12 @@ pub fn no_lists() -> [u16; ROOM]
 }
 
 pub fn no_edges() -> [Edge; SLOTS]
+    ensures { λ r. ⌜ 32800 ≡ length r ⌝ }
+{
+    [0; SLOTS]
+}
+
+pub fn no_indices() -> [Index; SLOTS]
     ensures { λ r. ⌜ 32800 ≡ length r ⌝ }
 {
     [0; SLOTS]
@@ -112,16 +118,26 @@ pub fn signed(x: u16) -> Edge {
     if x < 32768 {
         return x as Edge;
     }
-    if x == 32768 {
-        return -32768;
-    }
     edges::negate((65535 - x + 1) as Edge)
 }
 
+// The entries of a list as edges, and as indices: the cases have 16 bits for each.
 pub fn to_edges(numbers: &[u16], edges: &mut [Edge]) {
     let mut i = 0;
     while i < edges.len() && i < numbers.len() {
         edges[i] = signed(numbers[i]);
+        i += 1;
+    }
+}
+
+fn index_of(x: u16) -> Index {
+    x as Index
+}
+
+pub fn to_indices(numbers: &[u16], indices: &mut [Index]) {
+    let mut i = 0;
+    while i < indices.len() && i < numbers.len() {
+        indices[i] = index_of(numbers[i]);
         i += 1;
     }
 }

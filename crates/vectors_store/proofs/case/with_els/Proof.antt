@@ -33,11 +33,11 @@ to-edges-requires c κs = search needs
 array-share-prefix-els : tie.Need-array-share-prefix-els
 array-share-prefix-els c = search needs
 
-slice-aggregate-with-edges : tie.Need-slice-aggregate-with-edges
-slice-aggregate-with-edges c = sym (length-take-le _ _ (omega (arith, c .before .before .to-edges .kept .1 .0, c .before .before .before .before .before .before .if1 .taken)))
+slice-aggregate-with-next : tie.Need-slice-aggregate-with-next
+slice-aggregate-with-next c = sym (length-take-le _ _ (omega (arith, c .before .before .to-edges .kept .1 .0, c .before .before .before .before .before .before .if1 .taken)))
 
-with-edges-requires : tie.Need-with-edges-requires
-with-edges-requires c κs = search needs
+with-next-requires : tie.Need-with-next-requires
+with-next-requires c κs = search needs
 
 returns : tie.Need-returns
 returns c = search needs
@@ -58,7 +58,7 @@ with-els-spec =
     slice-aggregate-to-edges
     to-edges-requires
     array-share-prefix-els
-    slice-aggregate-with-edges
-    with-edges-requires
+    slice-aggregate-with-next
+    with-next-requires
     returns
     returns-2)

@@ -1,4 +1,4 @@
--- `signed` is safe: above 32,768 the number's distance to 65,536 is an edge.
+-- `signed` is safe: from 32,768 on the number's distance to 65,536 is an edge.
 use Prim.Native.Nat.{_+_, _-_}
 use native.Mathlib.Omega.{arith}
 use borrow.Author.Needs.{needs}
@@ -13,9 +13,6 @@ cast-result c = search needs
 returns : tie.Need-returns
 returns c = search needs
 
-returns-2 : tie.Need-returns-2
-returns-2 c = search needs
-
 sub-negate : tie.Need-sub-negate
 sub-negate c = search needs
 
@@ -26,10 +23,10 @@ cast-negate : tie.Need-cast-negate
 cast-negate c = search needs
 
 negate-requires : tie.Need-negate-requires
-negate-requires c κs = rw (toZ-pos edgeWidth (65535 - c .before .before .args .x + 1) (omega arith)) (omega arith)
+negate-requires c κs = rw (toZ-pos edgeWidth (65535 - c .before .args .x + 1) (omega arith)) (omega arith)
 
-returns-3 : tie.Need-returns-3
-returns-3 c = search needs
+returns-2 : tie.Need-returns-2
+returns-2 c = search needs
 
 pub signed-spec : {M : Type 1} → statement M
 signed-spec =
@@ -37,9 +34,8 @@ signed-spec =
     (tie.spec
     cast-result
     returns
-    returns-2
     sub-negate
     add-negate
     cast-negate
     negate-requires
-    returns-3)
+    returns-2)

@@ -1,8 +1,8 @@
--- `zt_load` meets its contract: it hands everything on, and gives the answer in C's form.
+-- `zt2_load` meets its contract: it hands everything on, and gives the answer in C's form.
 use mathlib.Core.Path.{ap, _∙_}
 use Rattle.c_answers.specs.Answers.{ofLoadAnswer}
-use Rattle.firmware.proofs.zt_load.Statement.{statement}
-use Rattle.firmware.proofs.zt_load.Tie as tie
+use Rattle.firmware.proofs.zt2_load.Statement.{statement}
+use Rattle.firmware.proofs.zt2_load.Tie as tie
 
 -- the load, seen from the return
 abbrev loading : tie.After-load-answer → tie.After-load
@@ -76,8 +76,8 @@ returns c = record {
   work-left = loading c .load .ensures .work-left;
 }
 
-pub zt-load-spec : {M : Type 1} → statement M
-zt-load-spec =
+pub zt2-load-spec : {M : Type 1} → statement M
+zt2-load-spec =
     tie.close
     (tie.spec
     load-requires

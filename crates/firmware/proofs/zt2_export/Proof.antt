@@ -1,12 +1,12 @@
--- `zt_export` meets its contract: the export is that of the settings that the bytes stand for.
+-- `zt2_export` meets its contract: the export is that of the settings that the bytes stand for.
 use mathlib.Core.Path.{ap, _∙_}
 use lib.ListN.{length}
 use Rattle.store.specs.Store.{store}
 use Rattle.c_answers.specs.Answers.{ofLength}
 use Rattle.c_answers.specs.Settings.{settingsOf}
 use Rattle.firmware.proofs.Exported.{exported-as}
-use Rattle.firmware.proofs.zt_export.Statement.{statement}
-use Rattle.firmware.proofs.zt_export.Tie as tie
+use Rattle.firmware.proofs.zt2_export.Statement.{statement}
+use Rattle.firmware.proofs.zt2_export.Tie as tie
 
 -- the export, seen from the return
 abbrev exporting : tie.After-export-answer → tie.After-export
@@ -57,8 +57,8 @@ returns c =
       work-left = exporting c .export .ensures .work-left;
     }
 
-pub zt-export-spec : {M : Type 1} → statement M
-zt-export-spec =
+pub zt2-export-spec : {M : Type 1} → statement M
+zt2-export-spec =
     tie.close
     (tie.spec
     settings-of-requires

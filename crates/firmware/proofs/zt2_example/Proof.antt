@@ -1,11 +1,11 @@
--- `zt_example` meets its contract: it hands everything on, the wanted answer by its byte, and gives the answer in C's form.
+-- `zt2_example` meets its contract: it hands everything on, the wanted answer by its byte, and gives the answer in C's form.
 use mathlib.Core.Path.{ap, _∙_}
 use Rattle.c_answers.specs.Answers.{ofExample}
 use Rattle.example_walk.specs.Example.{settingLeft}
 use Rattle.example_walk.specs.Promises.{told}
 use Rattle.example_walk.proofs.Calling.{example-read}
-use Rattle.firmware.proofs.zt_example.Statement.{statement}
-use Rattle.firmware.proofs.zt_example.Tie as tie
+use Rattle.firmware.proofs.zt2_example.Statement.{statement}
+use Rattle.firmware.proofs.zt2_example.Tie as tie
 
 -- the walk, the wanted answer and the function's entry, seen from its return
 abbrev walked : tie.After-example-answer → tie.After-example
@@ -42,6 +42,6 @@ returns c =
       work-left = o .work-left;
     }
 
-pub zt-example-spec : {M : Type 1} → statement M
-zt-example-spec =
+pub zt2-example-spec : {M : Type 1} → statement M
+zt2-example-spec =
     tie.close (tie.spec wanted-of-requires example-requires example-answer-requires same-length same-length-2 returns)

@@ -1,7 +1,7 @@
--- `zt_evaluate` meets its contract: it hands everything on, and gives the answer in C's form.
+-- `zt2_evaluate` meets its contract: it hands everything on, and gives the answer in C's form.
 use mir.Facts.{toZ-ofZ}
-use Rattle.firmware.proofs.zt_evaluate.Statement.{statement}
-use Rattle.firmware.proofs.zt_evaluate.Tie as tie
+use Rattle.firmware.proofs.zt2_evaluate.Statement.{statement}
+use Rattle.firmware.proofs.zt2_evaluate.Tie as tie
 
 -- the evaluation and the function's entry, seen from its return
 abbrev evaluated : tie.After-evaluate-answer → tie.After-evaluate
@@ -25,5 +25,5 @@ returns c = record {
   work-left = evaluated c .evaluate .ensures .work-left;
 }
 
-pub zt-evaluate-spec : {M : Type 1} → statement M
-zt-evaluate-spec = tie.close (tie.spec evaluate-requires evaluate-answer-requires same-length returns)
+pub zt2-evaluate-spec : {M : Type 1} → statement M
+zt2-evaluate-spec = tie.close (tie.spec evaluate-requires evaluate-answer-requires same-length returns)

@@ -1,12 +1,12 @@
--- `zt_and` meets its contract: it hands everything on with its operation, the and, and gives the answer in C's form.
+-- `zt2_or` meets its contract: it hands everything on with its operation, the or, and gives the answer in C's form.
 use mathlib.Core.Path.{ap, _∙_}
 use Rattle.store.specs.Store.{store}
 use Rattle.store.specs.Make.{Made}
 use Rattle.joined.specs.declared.Op.the-variants as op
 use Rattle.joins.proofs.Calling.{joins-read}
 use Rattle.c_answers.specs.Answers.{ofRoot}
-use Rattle.firmware.proofs.zt_and.Statement.{statement}
-use Rattle.firmware.proofs.zt_and.Tie as tie
+use Rattle.firmware.proofs.zt2_or.Statement.{statement}
+use Rattle.firmware.proofs.zt2_or.Tie as tie
 
 -- the join and the function's entry, seen from its return
 abbrev at-join : tie.After-join-answer → tie.After-join
@@ -46,7 +46,7 @@ returns : tie.Need-returns
 returns c =
     let j = at-join c in
     let s = at-start c in
-    let E = joins-read op.And
+    let E = joins-read op.Or
     (store (s .args .levels) (s .args .count .now) (s .args .level .now) (s .args .then .now) (s .args .els .now) (s .args .next .now) (s .args .heads .now))
     (s .args .left) (s .args .right) (s .fits .left) (s .fits .right) in
     record {
@@ -56,8 +56,8 @@ returns c =
       work-left = j .join .ensures .work-left;
     }
 
-pub zt-and-spec : {M : Type 1} → statement M
-zt-and-spec =
+pub zt2-or-spec : {M : Type 1} → statement M
+zt2-or-spec =
     tie.close
     (tie.spec
     join-requires

@@ -1,9 +1,9 @@
--- `zt_not` meets its contract: it hands everything on, and gives the answer in C's form.
+-- `zt2_not` meets its contract: it hands everything on, and gives the answer in C's form.
 use mathlib.Core.Path.{ap, _∙_}
 use Rattle.joins.proofs.Calling.{opposite-read}
 use Rattle.c_answers.specs.Answers.{ofRoot}
-use Rattle.firmware.proofs.zt_not.Statement.{statement}
-use Rattle.firmware.proofs.zt_not.Tie as tie
+use Rattle.firmware.proofs.zt2_not.Statement.{statement}
+use Rattle.firmware.proofs.zt2_not.Tie as tie
 
 opposite-requires : tie.Need-opposite-requires
 opposite-requires c κs = tt
@@ -23,5 +23,5 @@ returns c =
       work-left = o .opposite .ensures .work-left;
     }
 
-pub zt-not-spec : {M : Type 1} → statement M
-zt-not-spec = tie.close (tie.spec opposite-requires join-answer-requires same-length returns)
+pub zt2-not-spec : {M : Type 1} → statement M
+zt2-not-spec = tie.close (tie.spec opposite-requires join-answer-requires same-length returns)

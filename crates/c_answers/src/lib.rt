@@ -3,12 +3,13 @@ ghost use mathlib.Core.Path.{_≡_};
 ghost use Rattle.evaluation.specs.Evaluated.{ofEvaluation};
 ghost use Rattle.example_walk.specs.Promises.{ofFound};
 ghost use Rattle.joins.specs.Kinds.{ofJoined};
+ghost use Rattle.widening.specs.Promises.{ofTurned};
 ghost use Rattle.header_values.specs.Kinds.{ofVarInfo};
 ghost use Rattle.header.specs.Kinds.{ofLoaded};
 ghost use Rattle.exporter.specs.Settings.{ofSettings};
 ghost use Rattle.exporter.specs.Promise.{ofExported};
 ghost use Rattle.evaluation.specs.SettingBytes.{byteOf};
-ghost use Rattle.c_answers.specs.Answers.{ofLoadAnswer, ofEvaluated, ofExample, ofLength, ofRoot};
+ghost use Rattle.c_answers.specs.Answers.{ofLoadAnswer, ofEvaluated, ofExample, ofLength, ofRoot, ofTurn};
 ghost use Rattle.c_answers.specs.Settings.{versionOf, settingsOf, wantedOf};
 use codes::DDDMPVersion;
 use codes::VarInfo;
@@ -19,6 +20,7 @@ use exporter::ExportSettings;
 use exporter::Exported;
 use header::Loaded;
 use joins::Joined;
+use widening::Turned;
 
 // The answer of a load: the number of a refusal, 0 of none, and its line; then the numbers of the header, zeros on a refusal.
 #[repr(C)]
@@ -48,6 +50,13 @@ pub struct EvaluateAnswer {
 // The answer of an example: the setting lies in the part that was lent for it. The line is always 0.
 #[repr(C)]
 pub struct ExampleAnswer {
+    pub refusal: u8,
+    pub line: usize,
+}
+
+// The answer of a turn: the new store lies in the parts that were lent for it. The line is always 0.
+#[repr(C)]
+pub struct WidenAnswer {
     pub refusal: u8,
     pub line: usize,
 }
@@ -164,6 +173,21 @@ pub fn wanted_of(b: u8) -> bool
     ensures { λ r. ⌜ r ≡ wantedOf b ⌝ }
 {
     b != 0
+}
+
+pub fn widen_answer(turned: Turned) -> WidenAnswer
+    ensures { λ r. ⌜ r ≡ ofTurn (ofTurned turned) ⌝ }
+{
+    match turned {
+        Turned::Done => WidenAnswer {
+            refusal: 0,
+            line: 0,
+        },
+        Turned::Refused(n) => WidenAnswer {
+            refusal: n,
+            line: 0,
+        },
+    }
 }
 
 pub fn export_answer(exported: Exported) -> ExportAnswer

@@ -30,12 +30,12 @@ use Rattle.calls.proofs.RootsAnswer.{roots-answer}
 use Rattle.calls.proofs.Growing.{run-grows, after-grows, after-rules}
 
 -- a call that gives a root leaves a store that keeps the rules, where the root has its meaning
-gives-rules : {m : Limits} {c : Call} {σ : Store} {e : ℤ} {x : Meaning} → Gives m c σ e x → Rules m (leaves m c σ .after)
+pub gives-rules : {m : Limits} {c : Call} {σ : Store} {e : ℤ} {x : Meaning} → Gives m c σ e x → Rules m (leaves m c σ .after)
 gives-rules {m} (loaded c σ h i e q k t) = roots-answer m c σ h q .rules
 gives-rules {m} (joined o a b σ e q) = join-extends m o σ a b .rules (join-gives m o σ a b e q .0 .rules)
 gives-rules {m} (opposed a σ e q) = opposite-means m σ a e q .rules
 
-gives-means : {m : Limits} {c : Call} {σ : Store} {e : ℤ} {x : Meaning} → Gives m c σ e x → Means (leaves m c σ .after) e x
+pub gives-means : {m : Limits} {c : Call} {σ : Store} {e : ℤ} {x : Meaning} → Gives m c σ e x → Means (leaves m c σ .after) e x
 gives-means {m} (loaded c σ h i e q k t) =
     let w = roots-answer m c σ h q .root i k in
     subst (λ (r : ℤ). Means (loadOf m c σ .after) r (loadSays m c σ i)) (Option·some-injective (w .root) e (sym (w .there) ∙ t)) (w .means)
@@ -43,7 +43,7 @@ gives-means {m} (joined o a b σ e q) = let w = join-means m o σ a b e q in rec
 gives-means {m} (opposed a σ e q) = let w = opposite-means m σ a e q in record { edge = w .edge; agrees = λ s. ap some (sym (w .says s)) }
 
 -- an edge keeps its meaning while the store grows
-means-grown : {m : Limits} {σ τ : Store} {e : ℤ} {x : Meaning} → Grows σ τ → Rules m σ → Means σ e x → Means τ e x
+pub means-grown : {m : Limits} {σ τ : Store} {e : ℤ} {x : Meaning} → Grows σ τ → Rules m σ → Means σ e x → Means τ e x
 means-grown {e = e} G R M = record { edge = grow-edge G e (M .edge); agrees = λ s. M .agrees s ∙ ap some (sym (grow-answer G (R .nodes) s e (M .edge))) }
 
 -- an answer that two have is one that the other two have
@@ -51,7 +51,7 @@ swapped : {x y : Option Bool} → SameAnswer x y → SameAnswer y x
 swapped w = (w .0, (w .1 .1, w .1 .0))
 
 -- two edges of a store that keeps the rules, each with its meaning
-one-store : {m : Limits} (levels : ℕ) {τ : Store} (a b : ℤ) (x y : Meaning) → τ .levels ≡ levels → Rules m τ → Means τ a x → Means τ b y
+pub one-store : {m : Limits} (levels : ℕ) {τ : Store} (a b : ℤ) (x y : Meaning) → τ .levels ≡ levels → Rules m τ → Means τ a x → Means τ b y
     → (a ≡ b) ↔ Alike levels x y
 one-store levels {τ} a b x y v R M N =
     let C = canonicity τ (R .nodes) a b (M .edge) (N .edge) in (

@@ -70,7 +70,7 @@ load-rules m c σ R = go (loadOf m c σ .answer) refl
     go (refusal n line) q = rw (load-refused m c σ n line q) R
 
 -- so does every call
-call-rules : (m : Limits) (c : Call) (σ : Store) → Rules m σ → Rules m (leaves m c σ .after)
+pub call-rules : (m : Limits) (c : Call) (σ : Store) → Rules m σ → Rules m (leaves m c σ .after)
 call-rules m (load c) σ R = load-rules m c σ R
 call-rules m (evaluate e s) σ R = R
 call-rules m (example e wanted long) σ R = R

@@ -1,9 +1,11 @@
-// The public calls: load, evaluate, example, export, join and opposite, on one store. Each is lent `work`, of any length: where it is long enough, nodes are found by an
-// index in it, else along their chains. No answer depends on it, and it ends as zeros.
+// The public calls: load, evaluate, example, export, join and opposite, on one store, and widen, which turns an old store into a new one. Each is lent
+// `work`, of any length: where it is long enough, nodes are found by an index in it, else along their chains. No answer depends on it, and it ends as
+// zeros.
 ghost use Rattle.example_walk.specs.Promises.{ExamplePromise};
 ghost use Rattle.exporter.specs.Promise.{ExportPromise};
 ghost use Rattle.joins.specs.Promises.{JoinPromise, OppositePromise};
 ghost use Rattle.dddmp.specs.Promises.{LoadPromise, EvaluatePromise};
+ghost use Rattle.widening.specs.Promises.{WidenPromise};
 use edges::Edge;
 use edges::Index;
 use evaluation::Evaluation;
@@ -14,6 +16,9 @@ use header::DumpHeader;
 use header::Loaded;
 use joined::Op;
 use joins::Joined;
+use widening::OldEdge;
+use widening::OldIndex;
+use widening::Turned;
 
 // Loads a file into the store. `list` is the level list, one level of the store for each support variable. Beside the store are lent: the
 // lists of the header, that is `.ids`, the support order, `.permids`, `.auxids`, the variables' names as starts and lengths, the roots, the
@@ -259,4 +264,42 @@ pub fn opposite(
     ensures { λ r. ⌜ OppositePromise levels count level then els next heads root work r ⌝ }
 {
     joins::opposite(levels, count, level, then, els, next, heads, root, work)
+}
+
+// Turns an old store, whose edges have 16 bits, into a new one with its level count and every node, chain and root number kept. The old store is only
+// read, and judged by the old rules; the new one is output.
+pub fn widen(
+    levels: u16,
+    old_count: OldIndex,
+    old_level: &[u16],
+    old_then: &[OldEdge],
+    old_els: &[OldEdge],
+    old_next: &[OldIndex],
+    old_heads: &[OldIndex],
+    count: &mut Index,
+    level: &mut [u16],
+    then: &mut [Edge],
+    els: &mut [Edge],
+    next: &mut [Index],
+    heads: &mut [Index],
+    work: &mut [Index],
+) -> Turned
+    ensures { λ r. ⌜ WidenPromise levels «old_count» «old_level» «old_then» «old_els» «old_next» «old_heads» count level then els next heads work r ⌝ }
+{
+    widening::widen(
+        levels,
+        old_count,
+        old_level,
+        old_then,
+        old_els,
+        old_next,
+        old_heads,
+        count,
+        level,
+        then,
+        els,
+        next,
+        heads,
+        work,
+    )
 }

@@ -14,6 +14,8 @@ use Rattle.exporter.specs.Promise.{ExportPromise}
 use Rattle.joined.specs.declared.Op.the-variants as op
 use Rattle.joins.specs.declared.Joined.{Joined}
 use Rattle.joins.specs.Promises.{JoinPromise, OppositePromise}
+use Rattle.widening.specs.declared.Turned.{Turned}
+use Rattle.widening.specs.Promises.{WidenPromise}
 use Rattle.dddmp.specs.Promises.{LoadPromise, EvaluatePromise}
 use Rattle.dddmp.proofs.load.Reads as load
 use Rattle.dddmp.proofs.load.Kinds as load-kinds
@@ -27,12 +29,15 @@ use Rattle.dddmp.proofs.join.Reads as join
 use Rattle.dddmp.proofs.join.Kinds as join-kinds
 use Rattle.dddmp.proofs.opposite.Reads as opposite
 use Rattle.dddmp.proofs.opposite.Kinds as opposite-kinds
-use Rattle.firmware.specs.Promises.{ZtLoadPromise, ZtEvaluatePromise, ZtExamplePromise, ZtExportPromise, ZtJoinPromise, ZtNotPromise}
+use Rattle.dddmp.proofs.widen.Reads as widen
+use Rattle.dddmp.proofs.widen.Kinds as widen-kinds
+use Rattle.firmware.specs.Promises.{ZtLoadPromise, ZtEvaluatePromise, ZtExamplePromise, ZtExportPromise, ZtJoinPromise, ZtNotPromise, ZtWidenPromise}
 use Rattle.c_answers.specs.declared.LoadAnswer.{LoadAnswer}
 use Rattle.c_answers.specs.declared.EvaluateAnswer.{EvaluateAnswer}
 use Rattle.c_answers.specs.declared.ExampleAnswer.{ExampleAnswer}
 use Rattle.c_answers.specs.declared.ExportAnswer.{ExportAnswer}
 use Rattle.c_answers.specs.declared.JoinAnswer.{JoinAnswer}
+use Rattle.c_answers.specs.declared.WidenAnswer.{WidenAnswer}
 use Rattle.firmware.proofs.zt2_load.Reads as zt-load
 use Rattle.firmware.proofs.zt2_load.Kinds as zt-load-kinds
 use Rattle.firmware.proofs.zt2_evaluate.Reads as zt-evaluate
@@ -49,6 +54,8 @@ use Rattle.firmware.proofs.zt2_xor.Reads as zt-xor
 use Rattle.firmware.proofs.zt2_xor.Kinds as zt-xor-kinds
 use Rattle.firmware.proofs.zt2_not.Reads as zt-not
 use Rattle.firmware.proofs.zt2_not.Kinds as zt-not-kinds
+use Rattle.firmware.proofs.zt2_widen.Reads as zt-widen
+use Rattle.firmware.proofs.zt2_widen.Kinds as zt-widen-kinds
 
 -- a part as it is lent, and as the call leaves it
 abbrev part : {X : Type 0} → RefT X → RefT X → Part X
@@ -171,6 +178,26 @@ module _ (κs : Lfts 6) (a : Dens κs opposite-kinds.ps) (r : Joined) (s : AtExi
       (part (a .1 .1 .1 .1 .1 .1 .1 .1 .0) (s .1 .1 .1 .1 .1 .1 .1 .1 .0))
       r
   opposite-promises p = p
+
+module _ (κs : Lfts 12) (a : Dens κs widen-kinds.ps) (r : Turned) (s : AtExit (endedOf 12 widen-kinds.ps widen-kinds.r) κs) where
+  pub widen-promises : widen.Post κs a r s
+      → WidenPromise
+      (a .0)
+      (a .1 .0)
+      (part (a .1 .1 .0) (s .1 .1 .0))
+      (part (a .1 .1 .1 .0) (s .1 .1 .1 .0))
+      (part (a .1 .1 .1 .1 .0) (s .1 .1 .1 .1 .0))
+      (part (a .1 .1 .1 .1 .1 .0) (s .1 .1 .1 .1 .1 .0))
+      (part (a .1 .1 .1 .1 .1 .1 .0) (s .1 .1 .1 .1 .1 .1 .0))
+      (part (a .1 .1 .1 .1 .1 .1 .1 .0) (s .1 .1 .1 .1 .1 .1 .1 .0))
+      (part (a .1 .1 .1 .1 .1 .1 .1 .1 .0) (s .1 .1 .1 .1 .1 .1 .1 .1 .0))
+      (part (a .1 .1 .1 .1 .1 .1 .1 .1 .1 .0) (s .1 .1 .1 .1 .1 .1 .1 .1 .1 .0))
+      (part (a .1 .1 .1 .1 .1 .1 .1 .1 .1 .1 .0) (s .1 .1 .1 .1 .1 .1 .1 .1 .1 .1 .0))
+      (part (a .1 .1 .1 .1 .1 .1 .1 .1 .1 .1 .1 .0) (s .1 .1 .1 .1 .1 .1 .1 .1 .1 .1 .1 .0))
+      (part (a .1 .1 .1 .1 .1 .1 .1 .1 .1 .1 .1 .1 .0) (s .1 .1 .1 .1 .1 .1 .1 .1 .1 .1 .1 .1 .0))
+      (part (a .1 .1 .1 .1 .1 .1 .1 .1 .1 .1 .1 .1 .1 .0) (s .1 .1 .1 .1 .1 .1 .1 .1 .1 .1 .1 .1 .1 .0))
+      r
+  widen-promises p = p
 
 module _ (κs : Lfts 20) (a : Dens κs zt-load-kinds.ps) (r : LoadAnswer) (s : AtExit (endedOf 20 zt-load-kinds.ps zt-load-kinds.r) κs) where
   pub zt-load-promises : zt-load.Post κs a r s
@@ -328,3 +355,23 @@ module _ (κs : Lfts 6) (a : Dens κs zt-not-kinds.ps) (r : JoinAnswer) (s : AtE
       (part (a .1 .1 .1 .1 .1 .1 .1 .1 .0) (s .1 .1 .1 .1 .1 .1 .1 .1 .0))
       r
   zt-not-promises p = p
+
+module _ (κs : Lfts 12) (a : Dens κs zt-widen-kinds.ps) (r : WidenAnswer) (s : AtExit (endedOf 12 zt-widen-kinds.ps zt-widen-kinds.r) κs) where
+  pub zt-widen-promises : zt-widen.Post κs a r s
+      → ZtWidenPromise
+      (a .0)
+      (a .1 .0)
+      (part (a .1 .1 .0) (s .1 .1 .0))
+      (part (a .1 .1 .1 .0) (s .1 .1 .1 .0))
+      (part (a .1 .1 .1 .1 .0) (s .1 .1 .1 .1 .0))
+      (part (a .1 .1 .1 .1 .1 .0) (s .1 .1 .1 .1 .1 .0))
+      (part (a .1 .1 .1 .1 .1 .1 .0) (s .1 .1 .1 .1 .1 .1 .0))
+      (part (a .1 .1 .1 .1 .1 .1 .1 .0) (s .1 .1 .1 .1 .1 .1 .1 .0))
+      (part (a .1 .1 .1 .1 .1 .1 .1 .1 .0) (s .1 .1 .1 .1 .1 .1 .1 .1 .0))
+      (part (a .1 .1 .1 .1 .1 .1 .1 .1 .1 .0) (s .1 .1 .1 .1 .1 .1 .1 .1 .1 .0))
+      (part (a .1 .1 .1 .1 .1 .1 .1 .1 .1 .1 .0) (s .1 .1 .1 .1 .1 .1 .1 .1 .1 .1 .0))
+      (part (a .1 .1 .1 .1 .1 .1 .1 .1 .1 .1 .1 .0) (s .1 .1 .1 .1 .1 .1 .1 .1 .1 .1 .1 .0))
+      (part (a .1 .1 .1 .1 .1 .1 .1 .1 .1 .1 .1 .1 .0) (s .1 .1 .1 .1 .1 .1 .1 .1 .1 .1 .1 .1 .0))
+      (part (a .1 .1 .1 .1 .1 .1 .1 .1 .1 .1 .1 .1 .1 .0) (s .1 .1 .1 .1 .1 .1 .1 .1 .1 .1 .1 .1 .1 .0))
+      r
+  zt-widen-promises p = p

@@ -5,3 +5,4 @@ pub mod LoadsBack
 pub mod Promised
 pub mod ReadBack
 pub mod Starred
+pub mod Turns

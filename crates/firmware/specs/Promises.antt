@@ -6,6 +6,7 @@ use lib.ListN.{length, replicate}
 use lib.IntN.{ℤ, pos}
 use Rattle.codes.specs.Limits.{limits}
 use Rattle.codes.specs.Lent.{Part, old, new}
+use Rattle.store.specs.Store.{Store}
 use Rattle.store.specs.Lent.{oldStore, newStore}
 use Rattle.example_walk.specs.Example.{exampleOf, settingLeft}
 use Rattle.example_walk.specs.Promises.{told}
@@ -14,6 +15,8 @@ use Rattle.joined.specs.declared.Op.{Op}
 use Rattle.joined.specs.Roots.{oppositeRoot}
 use Rattle.store.specs.Make.{Made}
 use Rattle.joins.specs.Promises as joins
+use Rattle.widened.specs.Widen.{NewLengths, widenAnswer, widenOf}
+use Rattle.widening.specs.Promises as widening
 use Rattle.exporter.specs.Promise.{exportLeaves}
 use Rattle.calls.specs.Load as calls
 use Rattle.calls.specs.Load.{Parts, lengthsOf, partsOf}
@@ -24,7 +27,8 @@ use Rattle.c_answers.specs.declared.EvaluateAnswer.{EvaluateAnswer}
 use Rattle.c_answers.specs.declared.ExampleAnswer.{ExampleAnswer}
 use Rattle.c_answers.specs.declared.ExportAnswer.{ExportAnswer}
 use Rattle.c_answers.specs.declared.JoinAnswer.{JoinAnswer}
-use Rattle.c_answers.specs.Answers.{ofLoadAnswer, ofEvaluated, ofExample, ofLength, ofRoot}
+use Rattle.c_answers.specs.declared.WidenAnswer.{WidenAnswer}
+use Rattle.c_answers.specs.Answers.{ofLoadAnswer, ofEvaluated, ofExample, ofLength, ofRoot, ofTurn}
 use Rattle.c_answers.specs.Settings.{settingsOf, wantedOf}
 
 module _ (file list : Part (List ℕ)) (levels : ℕ) (count : Part ℕ) (level : Part (List ℕ)) (then els : Part (List ℤ))
@@ -104,3 +108,20 @@ pub record ZtNotPromise (levels count : ℕ) (level : Part (List ℕ)) (then els
   pub answer : r ≡ ofRoot (oppositeRoot limits (oldStore levels count level then els next heads) root)
   -- 'Scratch ends as zeros.'
   pub work-left : new work ≡ replicate (length (old work)) 0
+
+module _ (levels oldCount : ℕ) (oldLevel : Part (List ℕ)) (oldThen oldEls : Part (List ℤ)) (oldNext oldHeads : Part (List ℕ)) (count : Part ℕ)
+    (level : Part (List ℕ)) (then els : Part (List ℤ)) (next heads : Part (List ℕ)) where
+  -- the old store, and the lengths of the lists for the new one
+  abbrev given : Store
+  given = widening.given levels oldCount oldLevel oldThen oldEls oldNext oldHeads count level then els next heads
+
+  abbrev lent : NewLengths
+  lent = widening.lent levels oldCount oldLevel oldThen oldEls oldNext oldHeads count level then els next heads
+
+  pub record ZtWidenPromise (work : Part (List ℕ)) (r : WidenAnswer) : Type 0 where
+    -- 'slot lists unequal or shorter than the old count, or other than 256 heads, meet 1, before 3'
+    pub answer : r ≡ ofTurn (widenAnswer lent given)
+    -- 'a new one with its level count and every node, chain and root number kept'; 'On any refusal outputs are all zeros'
+    pub store : newStore levels (new count) level then els next heads ≡ widenOf lent given
+    -- 'Scratch ends as zeros.'
+    pub work-left : new work ≡ replicate (length (old work)) 0

@@ -1,15 +1,18 @@
 // The public calls for C: `include/zonetweed.h` declares and explains them. A slice is a pointer and then a length. The names have the version of
 // the interface, which rises with each change of a width or of a parameter: a program that was compiled for another version doesn't link.
-ghost use Rattle.firmware.specs.Promises.{ZtLoadPromise, ZtEvaluatePromise, ZtExamplePromise, ZtExportPromise, ZtJoinPromise, ZtNotPromise};
+ghost use Rattle.firmware.specs.Promises.{ZtLoadPromise, ZtEvaluatePromise, ZtExamplePromise, ZtExportPromise, ZtJoinPromise, ZtNotPromise, ZtWidenPromise};
 ghost use Rattle.joined.specs.declared.Op.the-variants as op;
 use c_answers::EvaluateAnswer;
 use c_answers::ExampleAnswer;
 use c_answers::ExportAnswer;
 use c_answers::JoinAnswer;
 use c_answers::LoadAnswer;
+use c_answers::WidenAnswer;
 use edges::Edge;
 use edges::Index;
 use joined::Op;
+use widening::OldEdge;
+use widening::OldIndex;
 
 // Loads a file into the store.
 #[no_mangle]
@@ -302,6 +305,44 @@ pub extern "C" fn zt2_not(
         next,
         heads,
         root,
+        work,
+    ))
+}
+
+// Turns an old store into a new one.
+#[no_mangle]
+pub extern "C" fn zt2_widen(
+    levels: u16,
+    old_count: OldIndex,
+    old_level: &[u16],
+    old_then: &[OldEdge],
+    old_els: &[OldEdge],
+    old_next: &[OldIndex],
+    old_heads: &[OldIndex],
+    count: &mut Index,
+    level: &mut [u16],
+    then: &mut [Edge],
+    els: &mut [Edge],
+    next: &mut [Index],
+    heads: &mut [Index],
+    work: &mut [Index],
+) -> WidenAnswer
+    ensures { λ r. ⌜ ZtWidenPromise levels «old_count» «old_level» «old_then» «old_els» «old_next» «old_heads» count level then els next heads work r ⌝ }
+{
+    c_answers::widen_answer(dddmp::widen(
+        levels,
+        old_count,
+        old_level,
+        old_then,
+        old_els,
+        old_next,
+        old_heads,
+        count,
+        level,
+        then,
+        els,
+        next,
+        heads,
         work,
     ))
 }

@@ -32,7 +32,7 @@ unfolding addLine
 line-count m σ levels edges terminal = le-refl (σ .count)
 line-count m σ levels edges (inner p t e) = make-count m σ (getD levels p 0) (edgeFor edges t) (edgeFor edges e)
 
-on-count : (m : Limits) (levels : List ℕ) (σ : Store) (edges : List ℤ) (ls : List Line) → σ .count ≤ buildOn m levels σ edges ls .after .count
+pub on-count : (m : Limits) (levels : List ℕ) (σ : Store) (edges : List ℤ) (ls : List Line) → σ .count ≤ buildOn m levels σ edges ls .after .count
 unfolding buildOn
 on-count m levels σ edges [] = le-refl (σ .count)
 on-count m levels σ edges (l ∷ ls) =
@@ -55,10 +55,10 @@ record Tells (m : Limits) (σ : Store) (r s : Built) : Type 0 where
   count : Complete r → r .after .count ≡ s .after .count
 
 -- the lines left, by what the line before them gives
-onwards-value : (r : Made) (k : ℤ → Store → Built) (a : ℤ) → r .answer ≡ value a → onwards r k ≡ k a (r .after)
+pub onwards-value : (r : Made) (k : ℤ → Store → Built) (a : ℤ) → r .answer ≡ value a → onwards r k ≡ k a (r .after)
 onwards-value r k a q = ap (λ (x : Read ℤ). onwards (record { answer = x; after = r .after }) k) q
 
-onwards-refused : (r : Made) (k : ℤ → Store → Built) (n : ℕ) → r .answer ≡ refused n → onwards r k ≡ built (refused n) (r .after)
+pub onwards-refused : (r : Made) (k : ℤ → Store → Built) (n : ℕ) → r .answer ≡ refused n → onwards r k ≡ built (refused n) (r .after)
 onwards-refused r k n q = ap (λ (x : Read ℤ). onwards (record { answer = x; after = r .after }) k) q
 
 -- no refusal is an end of all lines

@@ -169,7 +169,7 @@ module _ {m w : Limits} {k : ℕ} {σ τ : Store} (B : Beside m w k σ τ) where
 
 -- a join in both
 module _ (m w : Limits) (o : Op) where
-  by-pair : (f k : ℕ) (σ τ : Store) (a b : ℤ) → Ready m σ a b → σ .levels ≤ top σ a b + f → Beside m w (mostMade f + k) σ τ
+  pub by-pair : (f k : ℕ) (σ τ : Store) (a b : ℤ) → Ready m σ a b → σ .levels ≤ top σ a b + f → Beside m w (mostMade f + k) σ τ
       → Pair m w k σ (joinBy f m o σ a b) (joinBy f w o τ a b)
   unfolding joinBy mostMade
   by-pair zero k σ τ a b Q h B = both _ refl refl refl (beside-fewer (0 + k) k (omega arith) B)

@@ -127,7 +127,15 @@ fn with_level(
 ) -> bool {
     let level = change::LEVEL + length(head, 5);
     if level <= lists.len() {
-        return agrees(head, &lists[change::LEVEL..level], then, els, next, heads, setting);
+        return agrees(
+            head,
+            &lists[change::LEVEL..level],
+            then,
+            els,
+            next,
+            heads,
+            setting,
+        );
     }
     false
 }

@@ -1,4 +1,3 @@
-pub mod Old
-pub mod Widened
-pub mod Refusals
-pub mod Examples
+pub mod Faults
+pub mod Copying
+pub mod Turning

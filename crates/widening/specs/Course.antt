@@ -14,8 +14,8 @@ use Rattle.store.specs.Store.{Store}
 use Rattle.store.specs.Lent.{oldStore}
 use Rattle.store.specs.Rules.{Sizes, Zeros}
 use Rattle.store.specs.Keeps.{keeps}
-use Rattle.widening.specs.OldLimits.{oldLimits}
-use Rattle.widening.specs.Widen.{NewLengths, takes, widenFault}
+use Rattle.widened.specs.OldLimits.{oldLimits}
+use Rattle.widened.specs.Widen.{NewLengths, takes, widenFault}
 
 -- What is found before a node is looked at. Nothing: then the new lists can take the store, and sizes and zeros are as the old rules ask. Or the refusal.
 pub record Judged (l : NewLengths) (σ : Store) (r : ℕ) : Type 0 where

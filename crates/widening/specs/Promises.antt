@@ -10,7 +10,7 @@ use Rattle.store.specs.Store.{Store}
 use Rattle.store.specs.Lent.{oldStore, newStore}
 use Rattle.widening.specs.declared.Turned.{Turned}
 use Rattle.widening.specs.declared.Turned.the-variants as turned
-use Rattle.widening.specs.Widen.{NewLengths, lengths, widenAnswer, widenOf}
+use Rattle.widened.specs.Widen.{NewLengths, lengths, widenAnswer, widenOf}
 
 -- that the store was turned, or the number of a refusal
 abbrev pub ofTurned : Turned → Read Unit

@@ -13,8 +13,8 @@ ghost use Rattle.store.specs.Lent.{oldStore};
 ghost use Rattle.store.specs.Store.{store};
 ghost use Rattle.store.specs.Rules.{Sizes, Zero, Zeros};
 ghost use Rattle.store.specs.Keeps.{Decides};
-ghost use Rattle.widening.specs.OldLimits.{oldLimits};
-ghost use Rattle.widening.specs.Widen.{lengths, takes, answerBy};
+ghost use Rattle.widened.specs.OldLimits.{oldLimits};
+ghost use Rattle.widened.specs.Widen.{lengths, takes, answerBy};
 ghost use Rattle.widening.specs.Course.{Judged, CopyAsks, CopyPromise, CopyFaultPromise, ClearPromise};
 ghost use Rattle.widening.specs.Promises.{WidenPromise, ofTurned};
 use codes::limits;
@@ -38,10 +38,17 @@ pub enum Turned {
 }
 
 // Can lists of such lengths take a store of so many nodes?
-fn lists_take(count: usize, level: usize, then: usize, els: usize, next: usize, heads: usize) -> bool
+fn lists_take(
+    count: usize,
+    level: usize,
+    then: usize,
+    els: usize,
+    next: usize,
+    heads: usize,
+) -> bool
     ensures { λ r. ⌜ r ≡ takes (lengths level then els next heads) count ⌝ }
 {
-    then == level && els == level && next == level && count <= level && heads == BUCKETS
+    (then == level) & (els == level) & (next == level) & (count <= level) & (heads == BUCKETS)
 }
 
 // Are the old lists as long as they must be, and both counts within the old limits?
@@ -106,7 +113,13 @@ fn slot_zero(level: &[u16], then: &[OldEdge], els: &[OldEdge], next: &[OldIndex]
 }
 
 // Are slot 1 and the unused slots of an old store zero?
-fn zeros_kept(count: OldIndex, level: &[u16], then: &[OldEdge], els: &[OldEdge], next: &[OldIndex]) -> bool
+fn zeros_kept(
+    count: OldIndex,
+    level: &[u16],
+    then: &[OldEdge],
+    els: &[OldEdge],
+    next: &[OldIndex],
+) -> bool
     requires { ⌜ (1 ≤ count) × (count ≤ length (now level)) ⌝ }
     requires { ⌜ (length (now then) ≡ length (now level)) × ((length (now els) ≡ length (now level)) × (length (now next) ≡ length (now level))) ⌝ }
     ensures { λ r. ⌜ Decides r (Zeros (store 0 count (now (level .entry)) (now (then .entry)) (now (els .entry)) (now (next .entry)) [])) ⌝ }
@@ -143,7 +156,14 @@ fn parts_fault(
 ) -> u8
     ensures { λ r. ⌜ Judged (lengths «new_level» «new_then» «new_els» «new_next» «new_heads») (oldStore levels count level then els next heads) r ⌝ }
 {
-    if !lists_take(count as usize, new_level, new_then, new_els, new_next, new_heads) {
+    if !lists_take(
+        count as usize,
+        new_level,
+        new_then,
+        new_els,
+        new_next,
+        new_heads,
+    ) {
         return refusal::TOO_SHORT;
     }
     if !sizes_kept(levels, count, level, then, els, next, heads) {
@@ -188,7 +208,8 @@ fn copy_edges(n: usize, from: &[OldEdge], to: &mut [Edge])
     zeros::clear_edges(to);
     let mut i = 0;
     while i < n {
-        to[i] = wide_edge(from[i]);
+        let e = from[i];
+        to[i] = wide_edge(e);
         i += 1;
     }
 }
@@ -256,7 +277,14 @@ fn copy_fault(
 }
 
 // Zeros in the new lists where the turn is refused.
-fn clear_refused(fault: u8, level: &mut [u16], then: &mut [Edge], els: &mut [Edge], next: &mut [Index], heads: &mut [Index])
+fn clear_refused(
+    fault: u8,
+    level: &mut [u16],
+    then: &mut [Edge],
+    els: &mut [Edge],
+    next: &mut [Index],
+    heads: &mut [Index],
+)
     ensures { λ _. ⌜ ClearPromise fault level then els next heads ⌝ }
 {
     if fault == 0 {

@@ -1,15 +1,15 @@
 -- Turns, computed by hand: a store of document 01's size, with two levels, two nodes beside node 1 and three slots, turned into four slots.
 use mathlib.Core.Path.{_≡_, refl}
-use mathlib.Core.Bool.{true, false}
+use mathlib.Core.Bool.{true}
 use mathlib.Core.List.{List, [], _∷_}
 use Prim.Native.Nat.{ℕ}
 use lib.ListN.{replicate, set}
-use lib.IntN.{ℤ, pos, negsuc}
+use lib.IntN.{pos, negsuc}
 use Rattle.codes.specs.Answer.{refused}
 use Rattle.codes.specs.Faults.{firstFault}
 use Rattle.codes.specs.Lent.{laid}
 use Rattle.store.specs.Store.{Store, store}
-use Rattle.widening.specs.Widen.{NewLengths, takes, widenFault, widened, zeroed, widenAnswer}
+use Rattle.widened.specs.Widen.{NewLengths, takes, widenFault, widened, zeroed, widenAnswer}
 
 -- node 2 says level 1, in bucket 1 + 3 × 1 - 5 = 255; node 3 says both levels, in bucket 0 + 3 × 2 - 5 = 1
 abbrev heads : List ℕ

@@ -1,9 +1,9 @@
 -- The turned store. Document 02, request 5: 'A call turns an old store .. into a new one with its level count and every node, chain and root number
 -- kept.' Its slots up to the count hold what the old ones hold, and the others zeros; so it keeps the rules where the old store does, under limits that
 -- allow at least as much, and every edge says what it said.
-use mathlib.Core.Path.{_≡_, refl, sym, ap, _∙_}
+use mathlib.Core.Path.{_≡_, refl, sym, _∙_}
 use mathlib.Core.List.{List, [], _∷_}
-use Prim.Native.Nat.{ℕ, zero, suc, _+_, _-_, _≤_, _<_}
+use Prim.Native.Nat.{ℕ, zero, suc, _-_, _≤_, _<_}
 use native.Mathlib.Omega.{arith}
 use native.Mathlib.Nat.{le-refl, le-trans}
 use native.Mathlib.Decide.{decLt}
@@ -13,14 +13,14 @@ use lib.IntN.{ℤ, pos}
 use Rattle.codes.specs.Limits.{Limits}
 use Rattle.codes.specs.Lent.{laid}
 use Rattle.codes.proofs.Lent.{length-laid}
-use Rattle.store.specs.Store.{Store, levelAt, thenAt, elseAt, nextAt, headAt}
-use Rattle.store.specs.Rules.{Sizes, Nodes, Zero, Rules}
+use Rattle.store.specs.Store.{Store, levelAt, thenAt, elseAt, nextAt}
+use Rattle.store.specs.Rules.{Sizes, Zero, Rules}
 use Rattle.store.specs.Meaning.{Setting, answer}
 use Rattle.store.specs.Growth.{EdgeOf, Grows}
 use Rattle.store.proofs.Growth.{grow-edge, grow-answer, fewer-nodes}
 use Rattle.store.proofs.Chain.{Linked, linked-chains, chains-linked, Agree, agree-newest, agree-next}
-use Rattle.widening.specs.OldLimits.{Wider}
-use Rattle.widening.specs.Widen.{widened}
+use Rattle.widened.specs.OldLimits.{Wider}
+use Rattle.widened.specs.Widen.{widened}
 
 -- entries laid over a list: its front is theirs,
 laid-front : {A : Type 0} (es old : List A) (i : ℕ) (d : A) → length es ≤ length old → i < length es → getD (laid es old) i d ≡ getD es i d

@@ -5,7 +5,7 @@ use mathlib.Core.Path.{_≡_}
 use mathlib.Core.Bool.{cond}
 use mathlib.Core.List.{List, [], _∷_}
 use lib.Dec.{eqb}
-use Rattle.widening.specs.OldLimits.{oldLimits}
+use Rattle.widened.specs.OldLimits.{oldLimits}
 use Rattle.edges.specs.Edge.{bucketAt}
 use Rattle.store.specs.Store.{Store, levelAt, thenAt, elseAt, headAt}
 use Rattle.store.specs.Rules.{Sizes, Nodes, chain, Zeros}

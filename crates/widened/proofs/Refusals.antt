@@ -1,7 +1,7 @@
 -- What a turn answers. Document 02, request 5: 'slot lists unequal or shorter than the old count, or other than 256 heads, meet 1, before 3.' It is
 -- accepted exactly where the lists can take the store and the store keeps the old rules, and refused with a number exactly where the rule of that
 -- number is the first that is broken.
-use mathlib.Core.Path.{_≡_, refl, sym, ap, subst, _∙_}
+use mathlib.Core.Path.{_≡_, refl, sym, subst, _∙_}
 use mathlib.Core.Logic.{_↔_}
 use mathlib.Core.Bool.{Bool, true, false, _&&_, true≢false}
 use mathlib.Core.List.{[], _∷_}
@@ -13,15 +13,15 @@ use Rattle.codes.specs.Answer.{Read, value, refused}
 use Rattle.codes.specs.Faults.{firstFault, unless}
 use Rattle.codes.proofs.Bytes.{both}
 use Rattle.store.specs.Store.{Store}
-use Rattle.store.specs.Rules.{Rules}
 use Rattle.store.specs.Keeps.{keeps, keeps-true, keeps-false}
-use Rattle.widening.specs.OldLimits.{oldLimits}
-use Rattle.widening.specs.Old.{OldRules}
-use Rattle.widening.specs.Widen.{NewLengths, Takes, takes, widenFault, widened, zeroed, answerBy, widenAnswer, leftBy, widenOf, WidenRefused, new-short, old-broken}
-use Rattle.widening.proofs.Old.{old-rules}
+use Rattle.widened.specs.OldLimits.{oldLimits}
+use Rattle.widened.specs.Old.{OldRules}
+use Rattle.widened.specs.Widen.{NewLengths, Takes, takes, widenFault, widened, zeroed, answerBy, widenAnswer, leftBy, widenOf}
+use Rattle.widened.specs.Widen.{WidenRefused, new-short, old-broken}
+use Rattle.widened.proofs.Old.{old-rules}
 
 -- lists that can take the store
-takes-true : (l : NewLengths) (count : ℕ) → takes l count ≡ true → Takes l count
+pub takes-true : (l : NewLengths) (count : ℕ) → takes l count ≡ true → Takes l count
 takes-true l count q =
     let t : Bool = eqb (l .then) (l .level) in
     let e : Bool = eqb (l .els) (l .level) in

@@ -11,10 +11,10 @@ use lib.IntN.{pos}
 use Rattle.codes.specs.Answer.{Read, value, refused}
 use Rattle.codes.specs.Faults.{firstFault, unless}
 use Rattle.codes.specs.Lent.{laid}
-use Rattle.widening.specs.OldLimits.{oldLimits}
+use Rattle.widened.specs.OldLimits.{oldLimits}
 use Rattle.store.specs.Store.{Store, store}
 use Rattle.store.specs.Keeps.{keeps}
-use Rattle.widening.specs.Old.{OldRules}
+use Rattle.widened.specs.Old.{OldRules}
 
 -- the lengths of the lists that are lent for the new store
 pub record NewLengths : Type 0 where

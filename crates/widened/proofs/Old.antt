@@ -6,12 +6,13 @@ use Prim.Native.Nat.{ℕ, zero, suc, _≤_, _<_, _^_}
 use native.Mathlib.Omega.{arith}
 use native.Mathlib.Nat.{le-refl}
 use lib.IntN.{ℤ, natAbs}
+use Rattle.codes.specs.Limits.{limits}
 use Rattle.edges.specs.Edge.{bucketAt, bucketOf}
 use Rattle.edges.proofs.Edge.{bucket-width}
 use Rattle.store.specs.Store.{Store, levelAt, thenAt, elseAt}
 use Rattle.store.specs.Rules.{Sizes, Nodes, bucket, members, Rules}
-use Rattle.widening.specs.OldLimits.{oldLimits}
-use Rattle.widening.specs.Old.{oldBucket, oldMembers, OldRules}
+use Rattle.widened.specs.OldLimits.{oldLimits, Wider}
+use Rattle.widened.specs.Old.{oldBucket, oldMembers, OldRules}
 
 -- edges of at most 15 bits lie in the same bucket, wherever the sum wraps
 pub old-edges : (l : ℕ) (t e : ℤ) → natAbs t < 2 ^ 15 → natAbs e < 2 ^ 15 → bucketOf l t e ≡ bucketAt 16 l t e
@@ -46,3 +47,7 @@ old-rules σ = (
     zeros = R .zeros;
   },
 )
+
+-- today's limits allow at least as much
+pub old-wider : Wider oldLimits limits
+old-wider = record { nodes = omega arith; levels = omega arith; input = omega arith }

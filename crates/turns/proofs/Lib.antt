@@ -1,0 +1,10 @@
+pub mod Wider
+pub mod Making
+pub mod Asking
+pub mod Loading
+pub mod Joining
+pub mod Accepted
+pub mod WiderLimits
+pub mod Running
+pub mod AsIfWide
+pub mod Demand3

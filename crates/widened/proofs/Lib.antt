@@ -1,0 +1,4 @@
+pub mod Old
+pub mod Widened
+pub mod Refusals
+pub mod Examples

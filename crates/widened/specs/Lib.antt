@@ -1,0 +1,3 @@
+pub mod OldLimits
+pub mod Old
+pub mod Widen

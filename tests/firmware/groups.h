@@ -41,6 +41,11 @@ struct load_vector {
 int next_load(struct table *t, struct load_vector *v);
 void drop_load(struct load_vector *v);
 int has_answers(const struct load_vector *v);
+
+/* Entries of scratch that are enough for a file: that many, or as many as there may be where it says that it has more lines. */
+enum { ENOUGH_LINES = 33000 };
+size_t scratch_for(const struct bytes *file);
+
 void setting_of(size_t k, size_t levels, uint8_t *setting);
 
 /* vectors.c: makes a stored load, and holds it to what is stored */

@@ -33,7 +33,7 @@ static struct store store_with(struct bytes *answer, const struct store *before,
     size_t slots = count > before->level_len ? count : before->level_len, n;
     struct store s = empty_store(before->levels, slots);
     uint16_t *level = take_list(answer, count, slots);
-    zt_edge *then = (zt_edge *)take_list(answer, count, slots), *els = (zt_edge *)take_list(answer, count, slots);
+    zt_edge *then = take_edges(answer, count, slots), *els = take_edges(answer, count, slots);
 
     for (n = 1; n < count; n++)
         add_node(&s, level[n], then[n], els[n]);
@@ -86,7 +86,7 @@ static char *read_answer(struct bytes answer, struct load_vector *v)
     } else {
         v->roots_len = take_number(&answer);
         count = take_number(&answer);
-        v->roots = (zt_edge *)take_list(&answer, v->roots_len, v->roots_len);
+        v->roots = take_edges(&answer, v->roots_len, v->roots_len);
         v->after = store_with(&answer, &v->before, count);
         answers = answers_in(&answer, v->roots_len, v->before.levels);
     }

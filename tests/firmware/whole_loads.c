@@ -77,7 +77,7 @@ static int next_whole_load(struct table *t, struct whole_load *w)
     if (strcmp(column[10], "none") != 0 || strcmp(column[32], "none") != 0)
         stop("a stored load lends a list of counts");
     w->file = bytes_in(column[0], strlen(column[0]));
-    w->list = unsigned_list(column[1], &w->list_len);
+    w->list = short_list(column[1], &w->list_len);
     w->before = store_in(column + 2);
     read_lens(column[11], column[12], column[13], w->lens);
     w->answer = answer_in(column + 14);

@@ -84,6 +84,17 @@ zt_edge opposite_of(zt_edge edge)
     return (zt_edge)(0 - (uint32_t)edge);
 }
 
+void bad_roots(zt_edge beyond, zt_edge *bad)
+{
+    static const zt_edge far[BAD_ROOTS] = {0, INT32_MIN, 0, 0, INT32_MAX, -32768, 65537, -INT32_MAX};
+    size_t i;
+
+    for (i = 0; i < BAD_ROOTS; i++)
+        bad[i] = magnitude_of(far[i]) < (size_t)beyond && far[i] != 0 ? 0 : far[i];
+    bad[2] = beyond;
+    bad[3] = (zt_edge)-beyond;
+}
+
 size_t bucket_of(uint16_t level, zt_edge then, zt_edge els)
 {
     uint32_t sum = (uint32_t)level + 3 * (uint32_t)then + 5 * (uint32_t)els;

@@ -27,6 +27,9 @@ int same_store(const struct store *a, const struct store *b);
 /* Adds a node at the next number, with its link and its bucket's head. There must be a slot. */
 void add_node(struct store *s, uint16_t level, zt_edge then, zt_edge els);
 
+/* More nodes than an edge of 16 bits can name, and not so many that every test has to do with them. */
+enum { MANY_NODES = 34567 };
+
 /* A store of 4,096 levels with so many nodes, at least 4 and at most 36,000. */
 struct store full_store(size_t nodes, size_t slots);
 
@@ -43,6 +46,10 @@ int answer_of(const struct store *s, zt_edge edge, const uint8_t *setting);
 size_t reached_levels(const struct store *s, const zt_edge *roots, size_t count, uint16_t *list);
 
 size_t magnitude_of(zt_edge edge);
+
+/* Numbers that are no edges of a store, where the first number beyond its count is this. */
+enum { BAD_ROOTS = 8 };
+void bad_roots(zt_edge beyond, zt_edge *bad);
 
 /* The edge with the other sign. The least number there is, which is no edge, stays as it is. */
 zt_edge opposite_of(zt_edge edge);

@@ -40,7 +40,8 @@ import sys
 sys.path.insert(0, os.path.join(os.path.dirname(os.path.abspath(__file__)), "..", "cases"))
 from record import DOCUMENT, Record  # noqa: E402
 
-VARS, ROOTS, BUCKETS, NODES = 4096, 1024, 256, 32767
+VARS, ROOTS, BUCKETS = 4096, 1024, 256
+LINES = 32768  # entries of scratch, enough for each of these files, whatever it says of its lines
 MOST = 12000  # bytes of a file
 
 
@@ -78,7 +79,7 @@ def linked(nodes, slots):
     """The links and heads of the nodes from number 2 on, by document 01, 'Store and meaning'."""
     nexts, heads = [0] * slots, [0] * BUCKETS
     for n, (level, then, els) in enumerate(nodes, 2):
-        b = (level + 3 * then + 5 * els) % 65536 % 256
+        b = (level + 3 * then + 5 * els) % 2 ** 32 % 256
         nexts[n - 1], heads[b] = heads[b], n
     return nexts, heads
 
@@ -130,7 +131,7 @@ def of_load(name):
             if len(data) > MOST:
                 continue
             tables = [] if tables == "-" else tables.split(",")
-            yield Case(data, empty(int(levels), int(slots)), numbers(level_list), NODES, NODES), \
+            yield Case(data, empty(int(levels), int(slots)), numbers(level_list), LINES, LINES), \
                 Answer(int(refusal), int(at), numbers(roots), pairs(nodes), tables), judged
 
 

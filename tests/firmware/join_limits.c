@@ -217,9 +217,9 @@ static void try_full(void)
 
     join_in_full_store(&s);
     join_refused(&s, 0, 1, 4);
-    join_refused(&s, 32767, -32768, 4);
-    join_refused(&s, 32767, INT32_MIN, 4);
-    opposite_gives(&s, -32768, 4, 0);
+    join_refused(&s, MANY_NODES, -MANY_NODES - 1, 4);
+    join_refused(&s, MANY_NODES, INT32_MIN, 4);
+    opposite_gives(&s, -MANY_NODES - 1, 4, 0);
     s.next[MANY_NODES - 1]++;
     join_refused(&s, 0, 1, 3);
     join_refused(&s, 1, 1, 3);

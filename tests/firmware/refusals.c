@@ -160,11 +160,13 @@ static void refuse_long_input(void)
     memset(file, ' ', ZT_MOST_INPUT + 1);
     memcpy(file, start, sizeof start - 1);
     refuse_load(19, 0, &c, &s);
-    c = load_of(file, ZT_MOST_INPUT, NULL, 0, 0);
-    call_load(&c, &s);
-    case_is("load of an input at the limit");
-    holds(c.answer.refusal == 0, "it is accepted");
-    done_with(&c);
+    if (!exact) { /* a tool that watches memory takes minutes over so many bytes */
+        c = load_of(file, ZT_MOST_INPUT, NULL, 0, 0);
+        call_load(&c, &s);
+        case_is("load of an input at the limit");
+        holds(c.answer.refusal == 0, "it is accepted");
+        done_with(&c);
+    }
     drop_store(&s);
     free(file);
 }

@@ -11,6 +11,9 @@ enum { PART_FILE, PART_GIVEN, PART_ANSWER };
 
 enum { MOST_TABLE_LEVELS = 8, TABLE_NUMBERS = 16 };
 
+/* What stands for as much scratch as any file needs: more than a number of 16 bits. */
+enum { ALL = 65535 };
+
 static void lens_in(const uint16_t *head, size_t *lens)
 {
     size_t p;
@@ -20,8 +23,8 @@ static void lens_in(const uint16_t *head, size_t *lens)
         lens[p] = head[VARIABLE_LEN];
     for (p = LOAD_ROOTS; p <= LOAD_ROOTLENS; p++)
         lens[p] = head[ROOT_LEN];
-    lens[LOAD_EDGES] = head[EDGES_LEN];
-    lens[LOAD_SEATS] = head[SEATS_LEN];
+    lens[LOAD_EDGES] = head[EDGES_LEN] == ALL ? ZT_MOST_NODES : head[EDGES_LEN];
+    lens[LOAD_SEATS] = head[SEATS_LEN] == ALL ? ZT_MOST_NODES : head[SEATS_LEN];
 }
 
 /*

@@ -26,8 +26,8 @@ The files:
     index.tsv       for each of all cases its source and judge: see tests/cases/record.py
 
 All numbers are of 16 bits, lowest byte first. A case starts with 20 of them: the store's level count and count; the lengths of its lists
-level, then, else, next and of the bucket heads; the lengths of the level list, of the scratch lists edges and seats, of the variable
-lists, of the root lists; how many slots and how many heads are given; then the lengths of the file, of what is given and of the answer,
+level, then, else, next and of the bucket heads; the lengths of the level list, of the scratch lists edges and seats (65535 stands for
+1,000,000), of the variable lists, of the root lists; how many slots and how many heads are given; then the lengths of the file, of what is given and of the answer,
 two numbers each, lower first. The file follows; then what is given: the four slot lists as far as they are given, the heads, the level
 list. Then comes the answer: a refusal and its line; or 0, 0, how many roots there are, the store's count, the roots, the level, then and
 else of the slots up to the count, each list for itself, and, where they are known, 16 numbers for each root that hold its answers in
@@ -35,13 +35,14 @@ their bits, lowest first.
 """
 import os
 import random
+import re
 import sys
 
 sys.path.insert(0, os.path.join(os.path.dirname(os.path.abspath(__file__)), "..", "cases"))
 from record import DOCUMENT, Record  # noqa: E402
 
 VARS, ROOTS, BUCKETS = 4096, 1024, 256
-LINES = 32768  # entries of scratch, enough for each of these files, whatever it says of its lines
+LINES, ALL = 32768, 65535  # entries of scratch: enough for most files; 65535 stands for 1,000,000
 MOST = 12000  # bytes of a file
 
 
@@ -122,6 +123,12 @@ def case_bytes(case, answer):
     return bytes_of(head) + case.file + given + stored
 
 
+def scratch_for(data):
+    """Scratch that is enough for a file, whatever it says of its lines."""
+    said = [int(n) for n in re.findall(rb"\.nnodes[ \t]+(\d+)", data)]
+    return ALL if any(LINES < n <= 1000000 for n in said) else LINES
+
+
 def of_load(name):
     with open(name) as f:
         for line in f:
@@ -131,7 +138,7 @@ def of_load(name):
             if len(data) > MOST:
                 continue
             tables = [] if tables == "-" else tables.split(",")
-            yield Case(data, empty(int(levels), int(slots)), numbers(level_list), LINES, LINES), \
+            yield Case(data, empty(int(levels), int(slots)), numbers(level_list), *[scratch_for(data)] * 2), \
                 Answer(int(refusal), int(at), numbers(roots), pairs(nodes), tables), judged
 
 

@@ -87,10 +87,24 @@ static void turn_counted(zt_old_index count)
 
 /* Broken stores */
 
+/* The plan's nodes in so many slots, with so many heads. */
+static struct store with_slots_and_heads(size_t slots, size_t heads)
+{
+    struct store few = plan_store(), s = with_slots(&few, slots);
+
+    free(s.heads);
+    s.heads = room(heads * sizeof *s.heads);
+    memset(s.heads, 0, heads * sizeof *s.heads);
+    memcpy(s.heads, few.heads, ZT_BUCKETS * sizeof *s.heads);
+    s.heads_len = heads;
+    drop_store(&few);
+    return s;
+}
+
 /* Node 2 is x1, node 3 its and with x0; five slots. Each number breaks one rule, the first few those of the lengths. */
 enum { BREAKS = 37 };
 
-static void break_lengths(struct old_store *o, size_t how)
+static size_t *length_of(struct old_store *o, size_t list)
 {
     size_t *lens[STORE_PARTS];
 
@@ -99,7 +113,23 @@ static void break_lengths(struct old_store *o, size_t how)
     lens[STORE_ELS] = &o->els_len;
     lens[STORE_NEXT] = &o->next_len;
     lens[STORE_HEADS] = &o->heads_len;
-    --*lens[how];
+    return lens[list];
+}
+
+/* One list of an old store has an entry more, which is 0: all others are an entry of zeros shorter, or the heads are one too many. */
+static void turn_longer(size_t list)
+{
+    struct store s = with_slots_and_heads(6, ZT_BUCKETS + 1);
+    struct old_store o = narrowed(&s);
+    size_t part;
+
+    case_is("turn of an old store whose list %zu is longer", list);
+    for (part = 0; part < STORE_PARTS; part++)
+        *length_of(&o, part) -= part != list;
+    widen_gives(&o, 6, 3);
+    widen_gives(&o, 2, 1);
+    drop_old_store(&o);
+    drop_store(&s);
 }
 
 static void break_slots(struct old_store *o, size_t how)
@@ -167,7 +197,7 @@ static void turn_broken(size_t how, int mended)
 
     case_is("turn of an old store, broken in way %zu%s", how, mended ? ", links mended" : "");
     if (how < STORE_PARTS)
-        break_lengths(&o, how);
+        --*length_of(&o, how);
     else if (how < 21)
         break_slots(&o, how - STORE_PARTS);
     else
@@ -202,6 +232,21 @@ static void turn_chains(void)
     add_node(&s, 34, 1, -1);
     o = narrowed(&s);
     widen_gives(&o, 4, 3);
+    drop_old_store(&o);
+    drop_store(&s);
+}
+
+/* A node above a deeper one whose number is higher: as then, and as else. */
+static void turn_upside_down(zt_edge then, zt_edge els)
+{
+    struct store s = empty_store(2, 3);
+    struct old_store o;
+
+    case_is("turn of a store with the children %d and %d of node 2", (int)then, (int)els);
+    add_node(&s, 0, then, els);
+    add_node(&s, 1, 1, -1);
+    o = narrowed(&s);
+    widen_gives(&o, 3, 3);
     drop_old_store(&o);
     drop_store(&s);
 }
@@ -324,6 +369,7 @@ struct pair {
     struct store turned, wide;
 };
 
+/* Where the turn is none, what comes after it is tried all the same, on a copy of the other store. */
 static struct pair pair_of(const struct store *s, size_t slots)
 {
     struct old_store o = narrowed(s);
@@ -331,7 +377,10 @@ static struct pair pair_of(const struct store *s, size_t slots)
 
     p.turned = turned(&o, slots);
     p.wide = with_slots(s, slots);
-    holds(same_store(&p.turned, &p.wide), "a turned store is as one that was wide from its start");
+    if (!holds(same_store(&p.turned, &p.wide), "a turned store is as one that was wide from its start")) {
+        drop_store(&p.turned);
+        p.turned = copy_of(&p.wide);
+    }
     drop_old_store(&o);
     return p;
 }
@@ -492,7 +541,11 @@ void try_widen_laws(void)
         turn_broken(how, 0);
         turn_broken(how, 1);
     }
+    for (how = 0; how < STORE_PARTS; how++)
+        turn_longer(how);
     turn_chains();
+    turn_upside_down(3, -1);
+    turn_upside_down(1, -3);
     try_new_lengths();
     try_nothing();
     group_done("turns: full, empty and broken old stores, lengths", cases);

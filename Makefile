@@ -6,13 +6,14 @@
 # make round    builds an example in C over that library: build/round, which evaluates a round
 # make join     builds another: build/join, which joins two plans
 # make walk     builds another: build/walk, which gives example rounds for a plan
+# make widen    builds another: build/widen, which turns an old store, of edges of 16 bits, into a new one
 # make bench    measures the library for C on generated files; ORACLE=DIR compares it with the Rust: see bench/run
 # make cases ORACLE=DIR
 #               makes the stored cases again, with the Rust, and says whether they are those of the repository;
 #               INSTALL=1 puts them in place: see tests/README.md
 # make differences ORACLE=DIR
 #               runs the inputs of docs/DIFFERENCES.md on the Rust
-.PHONY: recode test costs lib round join walk bench cases differences clean
+.PHONY: recode test costs lib round join walk widen bench cases differences clean
 
 CFLAGS = -std=c99 -O2 -Wall -Wextra -pedantic
 
@@ -41,6 +42,9 @@ join: lib
 
 walk: lib
 	$(CC) $(CFLAGS) -Ibuild -o build/walk examples/walk.c build/libzonetweed.a
+
+widen: lib
+	$(CC) $(CFLAGS) -Ibuild -o build/widen examples/widen.c build/libzonetweed.a
 
 bench:
 	@ORACLE='$(ORACLE)' bench/run

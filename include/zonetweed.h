@@ -1,5 +1,6 @@
 /*
  * Zonetweed: loads DDDMP files of decision diagrams into a store, evaluates their roots, finds settings for them, joins them and exports files.
+ * This is interface 2: edges and node numbers have 32 bits. See 'Interface'.
  *
  * The calls are proved against the definitions of the repository: for every content of the parts that it is lent, a call gives the
  * answer, and leaves in each part the content, that are stated there. What the caller owes is not proved, and is listed under 'Parts'.
@@ -7,33 +8,43 @@
  * Words
  *   part      memory that the caller lends for the time of a call: a pointer, then a length, counted in entries and not in bytes.
  *   level     a place in the order of a diagram, counted from 0. A store has a fixed number of them.
- *   edge      a signed number: its magnitude names a node of the store, counted from 1, and a minus turns the node's answer over.
+ *   edge      a signed number of 32 bits: its magnitude names a node of the store, counted from 1, and a minus turns the node's answer over.
  *             Node 1 answers yes at every setting.
  *   root      an edge that a load, a join or zt_not gave. It stays valid, with the same answers, as long as the store is only changed by loads
  *             and joins. Two roots of a store, whichever calls gave them, are the same number exactly where they answer alike at every setting.
+ *             The roots of an old store are roots of the new one that zt_widen makes of it, with the same numbers and answers.
  *   setting   one byte for each level: 1 for yes, 0 for no.
  *   place     where a name stands: its start and its length in bytes. In a load's lists a start counts from the first byte of the file, and
  *             a name that there isn't is start 0, length 0.
  *
  * Parts
  *   - A pointer is valid for as many entries as its length says, and aligned as its type asks. An empty part, of length 0, may have a null
- *     pointer. The pointer `count` of a load or a join is never null.
+ *     pointer. The pointer `count` of a load, a join or zt_widen is never null.
  *   - No part that a call writes may overlap another part that the same call is lent. Parts that are only read may overlap each other.
  *     A pointer to const is only read; every other part is written.
  *   - A part may be longer than it has to be. What isn't used of a part that is written is zeros afterwards, but for the store's.
- *   - A part that is written need not be cleared before the call, but for the store's.
+ *   - A part that is written need not be cleared before the call, but for the store's. The new store of zt_widen is output, and need not be.
  *
  * Store
  *   A store is its level count `levels`, its node count `count`, four slot lists of equal length, `level`, `then`, `els` and `next`, and
  *   the list `heads` of ZT_BUCKETS entries. Entry n - 1 of the slot lists is node n. The caller keeps all of them from call to call, and
  *   changes none. An empty store is made by the caller's zeros: all entries of the five lists 0, count 1, and any level count up to
- *   ZT_MOST_LEVELS, which stays as it is for the store's whole life. One slot is the least, since node 1 has one. Every call checks that
- *   the store keeps its rules before it uses it, and answers ZT_BROKEN_STORE where it doesn't; no content of a store makes a call read or
- *   write outside its parts.
+ *   ZT_MOST_LEVELS, which stays as it is for the store's whole life. One slot is the least, since node 1 has one. There may be more slots than
+ *   ZT_MOST_NODES, though no more nodes. Every call checks that the store keeps its rules before it uses it, and answers ZT_BROKEN_STORE where
+ *   it doesn't; no content of a store makes a call read or write outside its parts.
+ *
+ * Old store
+ *   A store as interface 1 had it: the same parts, with edges and node numbers of 16 bits (zt_old_edge, zt_old_index), and at most
+ *   ZT_OLD_MOST_NODES nodes. zt_widen makes a store of it. No other call takes it.
+ *
+ * Memory
+ *   A slot of a store takes 14 bytes: 4 each in `then`, `els` and `next`, 2 in `level`; `heads` takes 1 KB. Beside the store a load is lent 6 bytes
+ *   of scratch for each node line, an export 8 bytes of marks for each node and its output, and every call some work, 24 bytes for each node where
+ *   it is as long as ZT_WORK_ENTRIES says. A store of ZT_MOST_NODES slots takes 14 MB, with work 38 MB, and with scratch for every file 44 MB.
  *
  * Work
- *   Every call that is given a store is also lent `work`, the entries of an index of its nodes, in any number, none included. No length is
- *   refused, and no answer depends on it. It needn't be cleared before a call, and is zeros afterwards. See ZT_WORK_ENTRIES.
+ *   Every call that is given a store, an old one too, is also lent `work`, the entries of an index of its nodes, in any number, none included. No
+ *   length is refused, and no answer depends on it. It needn't be cleared before a call, and is zeros afterwards. See ZT_WORK_ENTRIES.
  *
  * Cache
  *   The calls that join two roots are also lent `cache`, for results that they remember while they join, in any number of entries, none
@@ -42,12 +53,18 @@
  *
  * Refusals
  *   Every answer starts with the number of a refusal, 0 for none, and a line, counted from 1 at the top of the file, or 0 where no line is
- *   given. On any refusal all outputs are zeros, scratch, marks, work and cache are zeros, and the store is as it was.
+ *   given. On any refusal all outputs are zeros, scratch, marks, work and cache are zeros, and the store is as it was. The new store of zt_widen is
+ *   output: on a refusal it is zeros too, its count with it, and so no store that any call takes.
+ *
+ * Interface
+ *   The numbers in the lists of a store are wider than in interface 1, and C doesn't see across a call how wide they are in the memory that a
+ *   pointer leads to. So the names that are linked carry the interface's number: a program that was compiled for another one isn't linked with
+ *   this library. Programs write the names without it.
  *
  * Threads
  *   There is no state beside the parts. Calls at the same time are independent of each other where none writes a part that another is lent:
  *   calls on different stores always are, and so are evaluations, examples, exports and opposites of one store while no load and no join changes
- *   it. Work and cache are written by each call, so calls at the same time are lent different ones.
+ *   it. Turns of one old store are independent as well. Work and cache are written by each call, so calls at the same time are lent different ones.
  *
  * Stack
  *   The library takes no memory but the stack's: about 16 KB for a load, 24 KB for an export, 7 KB for an evaluation or an example, 97 KB for a
@@ -63,21 +80,39 @@
 extern "C" {
 #endif
 
+/* The number of this interface. 1 had edges and node numbers of 16 bits, and no zt_widen. */
+#define ZT_INTERFACE 2
+
+/*
+ * The names that are linked carry that number, so that a program compiled for another interface doesn't link, rather than handing over lists of
+ * another width.
+ */
+#define zt_load zt2_load
+#define zt_evaluate zt2_evaluate
+#define zt_example zt2_example
+#define zt_export zt2_export
+#define zt_and zt2_and
+#define zt_or zt2_or
+#define zt_xor zt2_xor
+#define zt_not zt2_not
+#define zt_widen zt2_widen
+
 /* Lengths and limits. A value at a limit passes. */
 #define ZT_VARIABLE_ENTRIES 4096 /* the least length of each variable list of a load, and the most variables of a file */
 #define ZT_ROOT_ENTRIES 1024     /* the least length of each root list of a load, and the most roots of a file */
 #define ZT_BUCKETS 256           /* the length of the list of bucket heads */
 #define ZT_MOST_LEVELS 4096      /* levels of a store */
-#define ZT_MOST_NODES 32767      /* nodes of a file, and of a store */
+#define ZT_MOST_NODES 1000000    /* nodes of a file, and of a store */
+#define ZT_OLD_MOST_NODES 32767  /* nodes of an old store */
 #define ZT_MOST_ROOTS 1024       /* roots of an export */
-#define ZT_MOST_INPUT 16777216   /* bytes of a file that is loaded */
+#define ZT_MOST_INPUT 67108864   /* bytes of a file that is loaded */
 #define ZT_MOST_NAME 255         /* bytes of a name that is exported */
 
 /*
  * The length of `work` that is enough where a store has at most so many nodes after the call: for a load and a join its slots, up to
- * ZT_MOST_NODES; for the other calls its count. It buys that a node is found in a few steps whatever the nodes are. Half of it buys the same, a
- * little slower; with less, nodes are found along their chains: about as fast where nodes are spread over the buckets, and far slower where most
- * share one.
+ * ZT_MOST_NODES; for the other calls its count, for zt_widen that of the old store. It buys that a node is found in a few steps whatever the nodes
+ * are. Half of it buys the same, a little slower; with less, nodes are found along their chains: about as fast where the nodes are few and spread
+ * over the buckets, and far slower where they are many, or most share one bucket.
  */
 #define ZT_WORK_ENTRIES(nodes) (6 * ((size_t)(nodes) + 1))
 
@@ -91,8 +126,12 @@ extern "C" {
 #define ZT_OWN_CACHE_ENTRIES 16384
 
 /* An edge, and the number of a node. */
-typedef int16_t zt_edge;
-typedef uint16_t zt_index;
+typedef int32_t zt_edge;
+typedef uint32_t zt_index;
+
+/* An edge of an old store, and the number of a node of it: what zt_edge and zt_index were in interface 1. */
+typedef int16_t zt_old_edge;
+typedef uint16_t zt_old_index;
 
 /* The numbers of the refusals, by who can cause them. 0 stands for no refusal. */
 enum zt_refusal {
@@ -138,7 +177,7 @@ enum zt_refusal {
     ZT_NO_END = 39,       /* no `.end`, or something after it other than space, tab, LF, FF and CR; line 0 */
 
     /* whoever filled the store; the line is 0 */
-    ZT_NO_ROOM = 40, /* a line or a join needs a new node, and every slot that was lent, or 32,767, is used */
+    ZT_NO_ROOM = 40, /* a line or a join needs a new node, and every slot that was lent, or 1,000,000, is used */
 
     /* the root that was asked about; the line is 0 */
     ZT_NO_SETTING = 41 /* no setting gives the wanted answer */
@@ -187,6 +226,12 @@ struct zt_join_answer {
     zt_edge root;    /* the root; 0 on a refusal */
 };
 
+/* The answer of a turn: the new store itself lies in the parts that were lent for it. */
+struct zt_widen_answer {
+    uint8_t refusal; /* the number of the refusal, 0 for none */
+    size_t line;     /* always 0 */
+};
+
 /*
  * Loads a file into a store.
  *
@@ -209,7 +254,8 @@ struct zt_join_answer {
  *   rootlens   ZT_ROOT_ENTRIES       .. and length
  *
  * Scratch
- *   edges      as many entries as the file has node lines (`.nnodes`). ZT_MOST_NODES is enough for every file.
+ *   edges      as many entries as the file has node lines (`.nnodes`). ZT_MOST_NODES is enough for every file; a program that knows that its
+ *              files are smaller lends less, and meets ZT_TOO_SHORT where one isn't.
  *   seats      likewise
  *   work       any length. See 'Work' above.
  *
@@ -476,6 +522,52 @@ struct zt_join_answer zt_not(
     const zt_index *next, size_t next_len,
     const zt_index *heads, size_t heads_len,
     zt_edge root,
+    zt_index *work, size_t work_len);
+
+/*
+ * Turns an old store, of 16 bits, into a new one that every other call takes. Each node keeps its number, its chain keeps its order, and so each
+ * root of the old store is a root of the new one: the same number, with the same answers. Roots that were taken before the turn compare with those
+ * that are taken after it, as if all of them had come from calls on the new store.
+ *
+ * Read
+ *   levels     the level count, of the old store and of the new one
+ *   old_count, old_level, old_then, old_els, old_next, old_heads
+ *              the old store. See 'Old store' above.
+ *
+ * Outputs: the new store. What these parts hold before the call isn't looked at.
+ *   count      the new count
+ *   level      the slot lists: all four of one length, and that at least `old_count`. More slots than that are free ones of the new store.
+ *   then       likewise
+ *   els        likewise
+ *   next       likewise
+ *   heads      ZT_BUCKETS entries, neither fewer nor more
+ *
+ * Scratch
+ *   work       any length. See 'Work' above.
+ *
+ * Refusals, in the order in which they are judged
+ *   ZT_TOO_SHORT      the new slot lists are unequal in length, or shorter than `old_count` as it was handed in, or `heads` isn't ZT_BUCKETS entries,
+ *                     where more are refused as well
+ *   ZT_BROKEN_STORE   the old store breaks the rules of an old one: those of a store, with at most ZT_OLD_MOST_NODES nodes, and with the sum of
+ *                     a bucket wrapped at 65,536
+ *
+ * Afterwards, on success: the new store has the level count, the count, the nodes, the chains and the heads of the old one, and zeros in the slots
+ * that aren't used. Afterwards, on a refusal: `count` is 0 and the new lists are zeros. Work is zeros, always, and the old store is as it was.
+ */
+struct zt_widen_answer zt_widen(
+    uint16_t levels,
+    zt_old_index old_count,
+    const uint16_t *old_level, size_t old_level_len,
+    const zt_old_edge *old_then, size_t old_then_len,
+    const zt_old_edge *old_els, size_t old_els_len,
+    const zt_old_index *old_next, size_t old_next_len,
+    const zt_old_index *old_heads, size_t old_heads_len,
+    zt_index *count,
+    uint16_t *level, size_t level_len,
+    zt_edge *then, size_t then_len,
+    zt_edge *els, size_t els_len,
+    zt_index *next, size_t next_len,
+    zt_index *heads, size_t heads_len,
     zt_index *work, size_t work_len);
 
 #ifdef __cplusplus

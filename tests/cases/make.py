@@ -184,7 +184,7 @@ def coverage_text(cases):
     lines += table("Lists of variable names", "not empty", with_file, lambda c: [(order.index(c.names), FORMS[c.names])])
     lines += ["", "Next, what the nodes of exported files in binary have: how many files have a node line with this code for its variable, then or",
               "else; a number of so many 7-bit groups there; some numbers at which groups or limits end; bytes that are written with an escape.",
-              "An export writes no number over 16,383, so none of three groups: the smaller of a child's number and its distance is written."]
+              "The smaller of a child's number and its distance is written: numbers of three groups are in files of more than 32,767 nodes alone."]
     lines += table("Nodes in binary", "has", (c for c in cases if c.met), lambda c: c.met)
     lines += ["", "The kinds of files in `loads`: `vectors` and `room` are those of `tests/vectors`; of the generated ones `whole` was made to be",
               "read by document 01, `made to meet N` to meet that refusal, `made` for a place between, `damaged` at random in the way that is",

@@ -6,7 +6,7 @@ import sys
 import tempfile
 
 # How many requests of document 02 have landed, of those that change what a load answers.
-REQUESTS = 3
+REQUESTS = 5
 
 
 def build(oracle, into, profiles=("release",)):

@@ -32,7 +32,7 @@ class Nodes:
             if byte % 2 == 0:
                 break
         self.has.add("group: %s of %s" % (what, {1: "one group", 2: "two groups"}.get(groups, "three groups or more")))
-        if value in (127, 128, 16383):
+        if value in (127, 128, 16383, 16384):
             self.has.add("value: %s %d" % (what, value))
         return value
 

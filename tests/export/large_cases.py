@@ -51,7 +51,7 @@ from lines import in_order  # noqa: E402
 from record import DOCUMENT, RUST, Record  # noqa: E402
 
 BLOCK = 4096
-NODES, ROOTS = 32767, 1024
+NODES, ROOTS = 1000000, 1024
 
 # The bytes that names are lent in, and places in them: the same bytes twice, one a part of another, one that ends inside another.
 BYTES = "gate-dock.yard_\u00fcber\u2603xT0-1".encode() + b"A" * 255
@@ -209,11 +209,15 @@ def made():
     few = Plan(6, 9, 5, 2, 1, 3)
     # Two-group numbers begin at 128: nodes alone at their levels, whose numbers in the file are therefore their own.
     edges = [(127, 0, 0), (128, 0, 0), (129, 0, 0), (254, 127, 1), (255, 128, -127), (256, 128, -129), (257, 129, 128), (258, 129, -128)]
-    # The largest: with 32,767 nodes a child is written by its number up to 16,383, or by its distance where that is less than its number.
+    # With 32,767 nodes a child is written by its number up to 16,383, or by its distance where that is less than its number.
     top = [(16383, 0, 0), (16384, 0, 0), (32766, 16383, -16383), (32767, 16384, -16384)]
+    # With more, three-group numbers begin: 16,384, by the number and by the distance.
+    over = [(16384, 0, 0), (16385, 0, 0), (23612, 0, 0), (23613, 0, 0), (23614, 0, 0), (23615, 0, 0), (32772, 16384, -16385),
+            (39997, 23612, -23613), (39999, 23615, -23614)]
     plans = {"128": Plan(120, 128, 11, 3, 3, 4), "768": Plan(700, 768, 12, 2, 2, 9, edges), "16384": Plan(4096, 16384, 13, 7, 2, 20, edges),
-             "20000": Plan(120, 20000, 14, 300, 2, 7), "32767": Plan(4096, 32767, 15, 9, 1, 30, edges + top)}
-    steps = {"128": (7, 3), "768": (11, 5), "16384": (5, 77), "20000": (7, 1), "32767": (4095, 4095)}
+             "20000": Plan(120, 20000, 14, 300, 2, 7), "32767": Plan(4096, 32767, 15, 9, 1, 30, edges + top),
+             "40000": Plan(4096, 40000, 16, 12, 1, 30, edges + over)}
+    steps = {"128": (7, 3), "768": (11, 5), "16384": (5, 77), "20000": (7, 1), "32767": (4095, 4095), "40000": (3, 1)}
     for mode in "AB":
         for version in "23":
             yield Case("9 nodes, names", few, mode, version, (5, 2), (3, 0), (5, 1), 4)
@@ -228,13 +232,13 @@ def made():
 
 
 # What the binary files must have between them, so that the cases keep what they are there for. A variable is written with code 0 on the
-# terminal's line alone. No number of three groups can be: an export has at most 32,767 nodes, and writes the smaller of a child's number and
-# its distance, which is at most 16,383; and at most 4,096 variables.
+# terminal's line alone, and never in three groups: there are at most 4,096. Of a child the smaller of its number and its distance is written,
+# which has three groups from 16,384 on, in files of more than 32,767 nodes.
 WANTED = {"code: %s %s" % (part, code) for part in ("variable", "then", "else") for code in ("terminal", "absolute", "relative", "one before")}
 WANTED |= {"group: %s %s of %s" % (part, code, groups) for part in ("variable", "then", "else") for code in ("absolute", "relative")
-           for groups in ("one group", "two groups")}
+           for groups in ("one group", "two groups", "three groups or more") if part != "variable" or groups != "three groups or more"}
 WANTED |= {"escape: %s in a number" % byte for byte in ("00", "0a", "0d", "1a")} | {"escape: 00 in a code"}
-WANTED |= {"value: %s %s %d" % (part, code, n) for part in ("then", "else") for code in ("absolute", "relative") for n in (127, 128, 16383)}
+WANTED |= {"value: %s %s %d" % (part, code, n) for part in ("then", "else") for code in ("absolute", "relative") for n in (127, 128, 16383, 16384)}
 WANTED |= {"code: else turned over", "code: else not turned over"}
 
 
@@ -259,7 +263,6 @@ def main():
             record.add(0, case.source, RUST, file=case.file, met=met(case.file))
             met_all |= met(case.file)
     assert WANTED <= met_all, "the files don't have: %s" % ", ".join(sorted(WANTED - met_all))
-    assert not any("three groups" in x for x in met_all)
     whole = [case.stored() for case in cases]
     false = [x for case in cases if not case.refusal and case.plan.count < 1000 for x in falsified(case, True)]
     false += [x for case in cases if case.plan.count >= 1000 for x in falsified(case, False)]

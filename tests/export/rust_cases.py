@@ -39,7 +39,7 @@ def linked(nodes, slots):
     """The links and heads of the nodes from number 2 on, by document 01, 'Store and meaning'."""
     nexts, heads = [0] * slots, [0] * BUCKETS
     for n, (level, then, els) in enumerate(nodes, 2):
-        b = (level + 3 * then + 5 * els) % 65536 % 256
+        b = (level + 3 * then + 5 * els) % 2 ** 32 % 256
         nexts[n - 1], heads[b] = heads[b], n
     return nexts, heads
 

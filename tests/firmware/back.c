@@ -185,17 +185,17 @@ void try_reading_back(void)
     group_done("exports read back", cases);
 }
 
-/* As many roots as there may be, spread over a store with as many nodes and levels as there may be. */
+/* As many roots as there may be, spread over a full store with many nodes and as many levels as there may be. */
 void try_full_store(void)
 {
-    struct store s = full_store(ZT_MOST_NODES, ZT_MOST_NODES);
+    struct store s = full_store(MANY_NODES, MANY_NODES);
     zt_edge roots[ZT_MOST_ROOTS];
     uint8_t setting[4096];
     size_t i;
 
     case_is("full store");
     for (i = 0; i < ZT_MOST_ROOTS; i++)
-        roots[i] = (zt_edge)((i % 2 == 0 ? 1 : -1) * (long)(ZT_MOST_NODES - 31 * i));
+        roots[i] = (zt_edge)((i % 2 == 0 ? 1 : -1) * (long)(MANY_NODES - 31 * i));
     for (i = 0; i < s.levels; i++)
         setting[i] = (uint8_t)(i % 3 == 0);
     holds(keeps_rules(&s), "a full store keeps the rules");

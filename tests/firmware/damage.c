@@ -5,7 +5,7 @@
 #include "groups.h"
 #include "report.h"
 
-enum { MOST_WHOLE = 1000, DAMAGED_COLUMNS = 9 };
+enum { MOST_WHOLE = 1000, DAMAGED_COLUMNS = 9, MOST_MARKS = 70000 };
 
 /* xorshift, from a fixed seed: every run has the same cases. */
 static uint64_t state = 88172645463325252u;
@@ -18,15 +18,37 @@ static uint64_t chance(uint64_t below)
     return state % below;
 }
 
-/* Another value: a near one, or any. */
-static uint16_t other_value(uint16_t value)
+/* Another value: a near one, any of 16 bits, the same but for its upper 16 bits, or any of 32. */
+static uint32_t other_value(uint32_t value)
+{
+    uint32_t other;
+
+    do
+        switch (chance(6)) {
+        case 0: other = (uint32_t)chance(65536); break;
+        case 1: other = value + 65536 * (uint32_t)chance(65536); break;
+        case 2: other = (uint32_t)chance(4294967296u); break;
+        default: other = value + (uint32_t)chance(7) - 3; break;
+        }
+    while (other == value);
+    return other;
+}
+
+/* Another one of 16 bits. */
+static uint16_t other_short(uint16_t value)
 {
     uint16_t other;
 
     do
-        other = chance(2) ? (uint16_t)(value + chance(7) - 3) : (uint16_t)chance(65536);
+        other = (uint16_t)other_value(value);
     while (other == value);
     return other;
+}
+
+/* Any edge, of a broken store. */
+static zt_edge any_edge(void)
+{
+    return (zt_edge)(chance(2) ? chance(65536) : chance(4294967296u));
 }
 
 /* An entry of a list: one of a slot that is used, of the first one that isn't, or any. */
@@ -41,25 +63,32 @@ static void damage_edges(const struct store *s, zt_edge *list, size_t len)
 {
     size_t i = some_entry(s, len);
 
-    list[i] = (zt_edge)other_value((uint16_t)list[i]);
+    list[i] = (zt_edge)other_value((uint32_t)list[i]);
 }
 
-static void damage_numbers(const struct store *s, uint16_t *list, size_t len)
+static void damage_numbers(const struct store *s, zt_index *list, size_t len)
 {
     size_t i = some_entry(s, len);
 
     list[i] = other_value(list[i]);
 }
 
+static void damage_levels(const struct store *s, uint16_t *list, size_t len)
+{
+    size_t i = some_entry(s, len);
+
+    list[i] = other_short(list[i]);
+}
+
 static void damage(struct store *s)
 {
     switch (chance(7)) {
-    case 0: damage_numbers(s, s->level, s->level_len); break;
+    case 0: damage_levels(s, s->level, s->level_len); break;
     case 1: damage_edges(s, s->then, s->then_len); break;
     case 2: damage_edges(s, s->els, s->els_len); break;
     case 3: damage_numbers(s, s->next, s->next_len); break;
-    case 4: s->heads[chance(s->heads_len)] = (zt_index)chance(s->count + 2u); break;
-    case 5: s->levels = other_value(s->levels); break;
+    case 4: s->heads[chance(s->heads_len)] = chance(4) ? (zt_index)chance(s->count + 2u) : other_value(s->count); break;
+    case 5: s->levels = other_short(s->levels); break;
     default: s->count = other_value(s->count); break;
     }
 }
@@ -68,7 +97,7 @@ static void evaluate_damaged(const struct store *s, int whole)
 {
     uint8_t *setting = room(s->levels);
     size_t l;
-    zt_edge root = (zt_edge)(whole ? 1 + chance(s->count) : chance(65536));
+    zt_edge root = whole ? (zt_edge)(1 + chance(s->count)) : any_edge();
     struct zt_evaluate_answer a;
 
     for (l = 0; l < s->levels; l++)
@@ -83,7 +112,7 @@ static void evaluate_damaged(const struct store *s, int whole)
 /* One byte less than the levels is refused for that, also where the store is broken. */
 static void example_damaged(const struct store *s, int whole)
 {
-    struct example c = example_of(s, (zt_edge)(whole ? 1 + chance(s->count) : chance(65536)), (uint8_t)chance(3));
+    struct example c = example_of(s, whole ? (zt_edge)(1 + chance(s->count)) : any_edge(), (uint8_t)chance(3));
     unsigned none = c.root == 1 && c.wanted == 0 ? 41 : 0;
 
     c.setting_len += chance(2);
@@ -98,8 +127,10 @@ static void example_damaged(const struct store *s, int whole)
     }
 }
 
+/* Marks for as many nodes as are said may be more than there is memory for: fewer are refused for that, whether the store is broken or not. */
 static void export_damaged(const struct store *s, int whole)
 {
+    unsigned refusal = s->count > MOST_MARKS ? 1 : whole ? 0 : 3;
     uint16_t *order = room(s->levels * sizeof *order);
     zt_edge root = (zt_edge)(whole ? 1 + chance(s->count) : 1);
     struct export e;
@@ -109,8 +140,12 @@ static void export_damaged(const struct store *s, int whole)
         order[l] = (uint16_t)l;
     e = export_of(s, &root, 1, order, s->levels);
     e.text = (uint8_t)chance(2);
+    if (refusal == 1) {
+        e.slots_len = e.numbers_len = MOST_MARKS;
+        e.out_len = 32 * MOST_MARKS;
+    }
     call_export(&e, s);
-    holds(e.answer.refusal == (whole ? 0 : 3), "an export sees whether a store is broken");
+    holds(e.answer.refusal == refusal, "an export sees whether a store is broken");
     if (whole && e.answer.refusal == 0)
         hold_back(s, &root, 1, e.out.at, e.answer.len);
     done_exporting(&e);
@@ -153,7 +188,7 @@ static int answers_as(const struct store *s, enum operation op, zt_edge a, zt_ed
 static void join_damaged(const struct store *s, int whole)
 {
     enum operation op = (enum operation)chance(OPERATIONS);
-    zt_edge a = (zt_edge)(whole ? 1 + chance(s->count) : chance(65536)), b = (zt_edge)(whole ? -1 - (long)chance(s->count) : (long)chance(65536));
+    zt_edge a = whole ? (zt_edge)(1 + chance(s->count)) : any_edge(), b = whole ? (zt_edge)(-1 - (long)chance(s->count)) : any_edge();
     struct store copy = copy_of(s);
     struct zt_join_answer answer = call_join(&copy, op, a, b);
 

@@ -182,15 +182,11 @@ static void try_small_store(const struct store *s)
 /* Roots that are none of the store, for both answers, refused with 4, or for what comes before. */
 static void refuse_bad_roots(const struct store *s, unsigned refusal)
 {
-    zt_edge beyond = (zt_edge)(s->count < ZT_MOST_NODES ? s->count + 1 : 0), bad[5];
+    zt_edge beyond = (zt_edge)(s->count + 1), bad[BAD_ROOTS];
     size_t i;
 
-    bad[0] = 0;
-    bad[1] = -32768;
-    bad[2] = beyond;
-    bad[3] = (zt_edge)-beyond;
-    bad[4] = s->count < ZT_MOST_NODES ? 32767 : 0;
-    for (i = 0; i < 5; i++) {
+    bad_roots(beyond, bad);
+    for (i = 0; i < BAD_ROOTS; i++) {
         example_refused(s, bad[i], 0, s->levels, refusal);
         example_refused(s, bad[i], 1, s->levels + 3u, refusal);
         if (s->levels > 0)
@@ -371,16 +367,16 @@ static void try_chains(uint16_t levels)
 
 static void try_full(size_t slots)
 {
-    struct store s = full_store(ZT_MOST_NODES, slots);
+    struct store s = full_store(MANY_NODES, slots);
     size_t n;
 
     for (n = 1; n <= s.count; n += s.count / 7) {
         hold_settled(&s, (zt_edge)n, 0);
         hold_settled(&s, (zt_edge)-(long)n, 1);
     }
-    hold_settled(&s, ZT_MOST_NODES, 1);
+    hold_settled(&s, MANY_NODES, 1);
     refuse_bad_roots(&s, 4);
-    s.next[ZT_MOST_NODES - 1]++;
+    s.next[MANY_NODES - 1]++;
     example_refused(&s, 1, 1, s.levels, 3);
     example_refused(&s, 0, 1, s.levels - 1u, 1);
     drop_store(&s);
@@ -403,7 +399,7 @@ void try_example_laws(void)
     try_chains(2);
     try_chains(40);
     try_chains(ZT_MOST_LEVELS);
-    try_full(ZT_MOST_NODES);
+    try_full(MANY_NODES);
     try_full(40000);
     group_done("refusals of examples, long chains, full stores", cases);
 }

@@ -85,8 +85,8 @@ int next_export(struct table *t, struct export_vector *v)
     if (!next_line(t, EXPORT_COLUMNS, PLACED_COLUMNS))
         return 0;
     v->store = store_in(t->columns);
-    v->roots = signed_list(t->columns[8], &roots_len);
-    v->order = unsigned_list(t->columns[9], &order_len);
+    v->roots = edge_list(t->columns[8], &roots_len);
+    v->order = short_list(t->columns[9], &order_len);
     v->call = export_of(&v->store, v->roots, roots_len, v->order, order_len);
     if (t->width == PLACED_COLUMNS)
         read_placed(t->columns + 10, v);

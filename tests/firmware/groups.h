@@ -41,6 +41,11 @@ struct load_vector {
 int next_load(struct table *t, struct load_vector *v);
 void drop_load(struct load_vector *v);
 int has_answers(const struct load_vector *v);
+
+/* Entries of scratch that are enough for a file: that many, or as many as there may be where it says that it has more lines. */
+enum { ENOUGH_LINES = 33000 };
+size_t scratch_for(const struct bytes *file);
+
 void setting_of(size_t k, size_t levels, uint8_t *setting);
 
 /* vectors.c: makes a stored load, and holds it to what is stored */
@@ -73,6 +78,20 @@ void try_example_laws(void);
 
 /* example_laws.c: holds examples of an edge to that search, where the store has few levels */
 void hold_examples_of(const struct store *s, zt_edge root);
+
+/* widens.c: stored turns of old stores, and changed ones */
+void try_widens(void);
+void change_widens(void);
+
+/* widen_laws.c: full, empty and broken old stores, lengths of new lists, and calls that go on after a turn */
+void try_widen_laws(void);
+
+/* long_loads.c: stored loads of long inputs and of a file of many nodes, and changed ones */
+void try_long_loads(void);
+void try_big_loads(void);
+
+/* most_nodes.c: stores and files of as many nodes as there may be */
+void try_most_nodes(void);
 
 /* small_joins.c: joins of every pair of edges of small stores, and changed ones */
 void try_small_joins(void);

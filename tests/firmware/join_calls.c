@@ -60,7 +60,7 @@ static struct lent stale_cache(const struct join *c, size_t entries)
     line[2] = sorted ? c->right : c->left;
     for (i = 1; i <= 2; i++)
         if (c->op == OR || (c->op == XOR && line[i] < 0))
-            line[i] = (zt_edge)-line[i];
+            line[i] = opposite_of(line[i]);
     line[3] = 1;
     for (i = 0; !exact && i < entries; i++)
         at[i] = line[i % 4];
@@ -123,7 +123,8 @@ struct zt_join_answer call_join(struct store *s, enum operation op, zt_edge left
     c.left = left;
     c.right = right;
     join_with(&c, s, cache_in_turn(), work_for(most_nodes(s)));
-    join_otherwise(&c, s, 0, 0);
+    if (without_work_too(s))
+        join_otherwise(&c, s, 0, 0);
     for (i = 0; every_cache && i < CACHE_LENGTHS; i++)
         join_otherwise(&c, s, cache_lengths[i], work_for(most_nodes(s)));
     if (c.answer.refusal == 0)
@@ -149,9 +150,9 @@ struct zt_join_answer call_opposite(const struct store *s, zt_edge root)
     struct zt_join_answer a, other;
 
     lend_store(p, s);
-    p[OPPOSITE_WORK] = lend_room(work_for(s->count), sizeof(zt_index));
+    p[OPPOSITE_WORK] = lend_room(work_for(nodes_there(s)), sizeof(zt_index));
     a = opposite_with(s, root, p, &p[OPPOSITE_WORK]);
-    other = opposite_with(s, root, p, &none);
+    other = without_work_too(s) ? opposite_with(s, root, p, &none) : a;
     holds(all_guards_hold(p, OPPOSITE_PARTS) && guards_hold(&none), "an opposite writes nothing beside its parts");
     holds(all_as_before(p, 0, STORE_HEADS), "an opposite leaves the store as it was");
     holds(all_zeros(p, OPPOSITE_WORK, OPPOSITE_WORK), "work ends as zeros");

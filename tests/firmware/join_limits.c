@@ -46,18 +46,14 @@ static void opposite_gives(const struct store *s, zt_edge root, unsigned refusal
 /* Each root in turn is none of the store. */
 static void refuse_bad_roots(struct store *s, zt_edge good)
 {
-    zt_edge beyond = (zt_edge)(s->count < ZT_MOST_NODES ? s->count + 1 : 0), bad[5];
+    zt_edge beyond = (zt_edge)(s->count + 1), bad[BAD_ROOTS];
     size_t i;
 
-    bad[0] = 0;
-    bad[1] = -32768;
-    bad[2] = beyond;
-    bad[3] = (zt_edge)-beyond;
-    bad[4] = s->count < ZT_MOST_NODES ? 32767 : 0;
-    for (i = 0; i < 5; i++) {
+    bad_roots(beyond, bad);
+    for (i = 0; i < BAD_ROOTS; i++) {
         join_refused(s, bad[i], good, 4);
         join_refused(s, (zt_edge)-good, bad[i], 4);
-        join_refused(s, bad[i], bad[4 - i], 4);
+        join_refused(s, bad[i], bad[BAD_ROOTS - 1 - i], 4);
         opposite_gives(s, bad[i], 4, 0);
     }
 }
@@ -214,37 +210,48 @@ static void join_in_full_store(struct store *s)
     opposite_gives(s, top, 0, (zt_edge)-top);
 }
 
-static void try_full(size_t slots)
+/* As many nodes as slots, and as an edge of 16 bits could name. */
+static void try_full(void)
 {
-    struct store s = full_store(ZT_MOST_NODES, slots);
+    struct store s = full_store(MANY_NODES, MANY_NODES);
 
     join_in_full_store(&s);
     join_refused(&s, 0, 1, 4);
-    join_refused(&s, 32767, -32768, 4);
-    opposite_gives(&s, -32768, 4, 0);
-    s.next[ZT_MOST_NODES - 1]++;
+    join_refused(&s, MANY_NODES, -MANY_NODES - 1, 4);
+    join_refused(&s, MANY_NODES, INT32_MIN, 4);
+    opposite_gives(&s, -MANY_NODES - 1, 4, 0);
+    s.next[MANY_NODES - 1]++;
     join_refused(&s, 0, 1, 3);
     join_refused(&s, 1, 1, 3);
     opposite_gives(&s, 1, 3, 0);
     drop_store(&s);
 }
 
-/* 'or would be over 32,767': the last number is given, and then no more, though there are slots. */
-static void fill_store(void)
+/* Numbers that an edge of 16 bits has, and the first ones that it hasn't: a store of so many slots is filled, and then there is no room. */
+static void pass_16_bits(size_t slots)
 {
-    struct store s = full_store(ZT_MOST_NODES - 3, 40000);
+    struct store s = full_store(32764, slots);
     zt_edge x0, x1;
 
     add_node(&s, 0, 1, -1);
     x0 = (zt_edge)s.count;
     add_node(&s, 1, 1, -1);
     x1 = (zt_edge)s.count;
-    case_is("joins that fill a store");
-    join_gives(&s, AND, x0, x1, 0, ZT_MOST_NODES, 1);
-    join_gives(&s, OR, x0, x1, 40, 0, 0);
-    join_gives(&s, XOR, x1, x0, 40, 0, 0);
-    join_gives(&s, AND, x1, x0, 0, ZT_MOST_NODES, 0);
-    join_gives(&s, OR, (zt_edge)-x0, (zt_edge)-x1, 0, -ZT_MOST_NODES, 0);
+    case_is("joins around number 32,768 in %zu slots", slots);
+    join_gives(&s, AND, x0, x1, 0, 32767, 1);
+    join_gives(&s, AND, x1, x0, 0, 32767, 0);
+    join_gives(&s, OR, (zt_edge)-x0, (zt_edge)-x1, 0, -32767, 0);
+    if (slots == 32767) {
+        join_gives(&s, OR, x0, x1, 40, 0, 0);
+        join_gives(&s, XOR, x1, x0, 40, 0, 0);
+    } else {
+        join_gives(&s, OR, x0, x1, 0, 32768, 1);
+        join_gives(&s, XOR, x1, x0, slots == 32768 ? 40 : 0, slots == 32768 ? 0 : -32769, slots != 32768);
+        join_gives(&s, AND, -32768, -32767, 0, -32768, 0);
+        join_gives(&s, AND, 32768, -1, 0, -1, 0);
+        hold_some_answers(&s, OR, x0, x1, 32768);
+        opposite_gives(&s, -32768, 0, 32768);
+    }
     drop_store(&s);
 }
 
@@ -257,8 +264,9 @@ void try_join_limits(void)
     try_chains(40);
     every_cache = 0;
     try_chains(ZT_MOST_LEVELS);
-    try_full(ZT_MOST_NODES);
-    try_full(40000);
-    fill_store();
+    try_full();
+    pass_16_bits(32767);
+    pass_16_bits(32768);
+    pass_16_bits(40000);
     group_done("refusals of joins, long chains, full stores", cases);
 }

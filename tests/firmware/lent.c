@@ -89,12 +89,10 @@ int as_before(const struct lent *part)
 int zeros_from(const struct lent *part, size_t entry)
 {
     const uint8_t *bytes = part->at;
-    size_t i;
+    size_t from = entry * part->width, all = bytes_of(part);
 
-    for (i = entry * part->width; i < bytes_of(part); i++)
-        if (bytes[i] != 0)
-            return 0;
-    return 1;
+    /* the first byte is 0, and each is like the one before it */
+    return from >= all || (bytes[from] == 0 && memcmp(bytes + from, bytes + from + 1, all - from - 1) == 0);
 }
 
 int all_as_before(const struct lent *parts, size_t from, size_t to)

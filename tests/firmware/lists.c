@@ -46,7 +46,7 @@ static void read_load(char *words, struct listed *c)
 
     c->kind = LOAD;
     c->file = bytes_in(file, strlen(file));
-    c->list = unsigned_list(words, &c->list_len);
+    c->list = short_list(words, &c->list_len);
 }
 
 static void read_join(char *words, struct listed *c)
@@ -79,7 +79,7 @@ static void read_call(char **column, struct listed *c)
         stop("a call of a list isn't known");
     c->refusal = (unsigned)number_in(column[3]);
     c->line = (size_t)number_in(column[4]);
-    c->roots = signed_list(column[5], &c->roots_len);
+    c->roots = edge_list(column[5], &c->roots_len);
     c->count = (size_t)number_in(column[6]);
 }
 
@@ -115,7 +115,7 @@ static void drop_listed(struct listed *c)
 
 static void hold_listed_load(const struct listed *c, struct store *s)
 {
-    struct load l = load_of(c->file.at, c->file.len, c->list, c->list_len, ZT_MOST_NODES);
+    struct load l = load_of(c->file.at, c->file.len, c->list, c->list_len, scratch_for(&c->file));
 
     call_load(&l, s);
     holds(l.answer.refusal == c->refusal, "the refusal is the stored one");

@@ -20,14 +20,35 @@ void setting_of(size_t k, size_t levels, uint8_t *setting)
         setting[l] = (uint8_t)(k >> l & 1);
 }
 
+/* The number at a place of a file, or more than there may be where it has many digits. */
+static size_t number_at(const struct bytes *file, size_t i)
+{
+    size_t n = 0;
+
+    for (; i < file->len && file->at[i] >= '0' && file->at[i] <= '9' && n <= ZT_MOST_NODES; i++)
+        n = 10 * n + (size_t)(file->at[i] - '0');
+    return n;
+}
+
+size_t scratch_for(const struct bytes *file)
+{
+    static const char key[] = ".nnodes ";
+    size_t len = strlen(key), i;
+
+    for (i = 0; i + len < file->len; i++)
+        if (memcmp(file->at + i, key, len) == 0 && number_at(file, i + len) > ENOUGH_LINES)
+            return ZT_MOST_NODES;
+    return ENOUGH_LINES;
+}
+
 static void read_load(char **column, struct load_vector *v)
 {
     v->before = empty_store((uint16_t)number_in(column[1]), (size_t)number_in(column[3]));
-    v->list = unsigned_list(column[2], &v->list_len);
-    fit_outputs(v->lens, ZT_MOST_NODES);
+    v->list = short_list(column[2], &v->list_len);
+    fit_outputs(v->lens, scratch_for(&v->file));
     v->refusal = (unsigned)number_in(column[4]);
     v->line = (size_t)number_in(column[5]);
-    v->roots = signed_list(column[6], &v->roots_len);
+    v->roots = edge_list(column[6], &v->roots_len);
     v->after = copy_of(&v->before);
     add_nodes(&v->after, column[7]);
     v->answers = column[8];
@@ -39,13 +60,13 @@ static void read_room(char **column, size_t line, struct load_vector *v)
     size_t lists = LOAD_ROOTLENS - LOAD_IDS + 1;
 
     v->before = store_in(column + 1);
-    v->list = unsigned_list(column[9], &v->list_len);
+    v->list = short_list(column[9], &v->list_len);
     fit_outputs(v->lens, (size_t)number_in(column[10]));
     if (strcmp(column[11], "short") == 0)
         v->lens[LOAD_IDS + line % lists]--;
     v->refusal = (unsigned)number_in(column[12]);
     v->line = (size_t)number_in(column[13]);
-    v->roots = signed_list(column[14], &v->roots_len);
+    v->roots = edge_list(column[14], &v->roots_len);
     v->after = v->refusal == 0 ? store_after(column + 15, v->before.levels) : copy_of(&v->before);
     v->answers = "-";
 }
@@ -68,11 +89,11 @@ int next_load(struct table *t, struct load_vector *v)
 
     if (!next_line(t, width, rooms ? ROOM_COLUMNS : width))
         return 0;
+    v->file = spelled ? spelled_in(t->columns[0]) : file_named(t->columns[0]);
     if (rooms)
         read_room(t->columns, t->line, v);
     else
         read_load(t->columns, v);
-    v->file = spelled ? spelled_in(t->columns[0]) : file_named(t->columns[0]);
     return 1;
 }
 

@@ -46,6 +46,11 @@ static void try_all(size_t damaged)
     try_examples();
     try_example_laws();
     try_lists();
+    try_widens();
+    try_widen_laws();
+    try_long_loads();
+    try_big_loads();
+    try_most_nodes();
     try_stored_loads();
     try_stored_exports();
     try_large_exports();

@@ -34,7 +34,7 @@ static void read_export(const struct stored *c, struct export_vector *v)
     struct bytes given = c->parts[PART_GIVEN], file = c->parts[PART_FILE];
 
     v->store = take_store(&given, head, head[SLOTS_GIVEN], head[HEADS_GIVEN]);
-    v->roots = (zt_edge *)take_list(&given, head[ROOTS_LEN], head[ROOTS_LEN]);
+    v->roots = take_edges(&given, head[ROOTS_LEN], head[ROOTS_LEN]);
     v->order = take_list(&given, head[ORDER_LEN], head[ORDER_LEN]);
     v->call = export_of(&v->store, v->roots, head[ROOTS_LEN], v->order, head[ORDER_LEN]);
     v->call.names = read_names(head, &given, c->parts[PART_NAMES]);

@@ -108,7 +108,7 @@ static void make_store(struct making *m, const uint16_t *head)
         pinned = m->pins_left != 0 && m->pins[0] == n;
         if (n > 2 && (pinned || after_pinned || draw(m, head[WIDTH]) == 0))
             rise(m, n, 1 + draw(m, head[GAP]));
-        add_next(m, n, (zt_edge)(pinned ? m->pins[1] : 0), (zt_edge)(pinned ? m->pins[2] : 0));
+        add_next(m, n, pinned ? (int16_t)m->pins[1] : 0, pinned ? (int16_t)m->pins[2] : 0);
         if (pinned) {
             m->pins += 3;
             m->pins_left--;

@@ -11,6 +11,9 @@ enum { PART_FILE, PART_GIVEN, PART_ANSWER };
 
 enum { MOST_TABLE_LEVELS = 8, TABLE_NUMBERS = 16 };
 
+/* What stands for as much scratch as any file needs: more than a number of 16 bits. */
+enum { ALL = 65535 };
+
 static void lens_in(const uint16_t *head, size_t *lens)
 {
     size_t p;
@@ -20,8 +23,8 @@ static void lens_in(const uint16_t *head, size_t *lens)
         lens[p] = head[VARIABLE_LEN];
     for (p = LOAD_ROOTS; p <= LOAD_ROOTLENS; p++)
         lens[p] = head[ROOT_LEN];
-    lens[LOAD_EDGES] = head[EDGES_LEN];
-    lens[LOAD_SEATS] = head[SEATS_LEN];
+    lens[LOAD_EDGES] = head[EDGES_LEN] == ALL ? ZT_MOST_NODES : head[EDGES_LEN];
+    lens[LOAD_SEATS] = head[SEATS_LEN] == ALL ? ZT_MOST_NODES : head[SEATS_LEN];
 }
 
 /*
@@ -33,7 +36,7 @@ static struct store store_with(struct bytes *answer, const struct store *before,
     size_t slots = count > before->level_len ? count : before->level_len, n;
     struct store s = empty_store(before->levels, slots);
     uint16_t *level = take_list(answer, count, slots);
-    zt_edge *then = (zt_edge *)take_list(answer, count, slots), *els = (zt_edge *)take_list(answer, count, slots);
+    zt_edge *then = take_edges(answer, count, slots), *els = take_edges(answer, count, slots);
 
     for (n = 1; n < count; n++)
         add_node(&s, level[n], then[n], els[n]);
@@ -86,7 +89,7 @@ static char *read_answer(struct bytes answer, struct load_vector *v)
     } else {
         v->roots_len = take_number(&answer);
         count = take_number(&answer);
-        v->roots = (zt_edge *)take_list(&answer, v->roots_len, v->roots_len);
+        v->roots = take_edges(&answer, v->roots_len, v->roots_len);
         v->after = store_with(&answer, &v->before, count);
         answers = answers_in(&answer, v->roots_len, v->before.levels);
     }

@@ -55,6 +55,30 @@ uint16_t *take_list(struct bytes *part, size_t count, size_t len)
     return list;
 }
 
+zt_edge *take_edges(struct bytes *part, size_t count, size_t len)
+{
+    uint16_t *numbers = take_list(part, count, len);
+    zt_edge *edges = room(len * sizeof *edges);
+    size_t i;
+
+    for (i = 0; i < len; i++)
+        edges[i] = (int16_t)numbers[i];
+    free(numbers);
+    return edges;
+}
+
+zt_index *take_indices(struct bytes *part, size_t count, size_t len)
+{
+    uint16_t *numbers = take_list(part, count, len);
+    zt_index *indices = room(len * sizeof *indices);
+    size_t i;
+
+    for (i = 0; i < len; i++)
+        indices[i] = numbers[i];
+    free(numbers);
+    return indices;
+}
+
 uint32_t wide_in(const uint16_t *head)
 {
     return head[0] + 65536 * (uint32_t)head[1];
@@ -86,10 +110,10 @@ struct store take_store(struct bytes *part, const uint16_t *head, size_t slots, 
     s.next_len = head[5];
     s.heads_len = head[6];
     s.level = take_list(part, slots, s.level_len);
-    s.then = (zt_edge *)take_list(part, slots, s.then_len);
-    s.els = (zt_edge *)take_list(part, slots, s.els_len);
-    s.next = take_list(part, slots, s.next_len);
-    s.heads = take_list(part, heads, s.heads_len);
+    s.then = take_edges(part, slots, s.then_len);
+    s.els = take_edges(part, slots, s.els_len);
+    s.next = take_indices(part, slots, s.next_len);
+    s.heads = take_indices(part, heads, s.heads_len);
     return s;
 }
 

@@ -29,6 +29,10 @@ struct bytes take_bytes(struct bytes *part, size_t len);
 /* So many numbers, as a list of another length: what is too much is cut off, what is missing is zeros. */
 uint16_t *take_list(struct bytes *part, size_t count, size_t len);
 
+/* Likewise edges and node numbers, which are stored as numbers of 16 bits. */
+zt_edge *take_edges(struct bytes *part, size_t count, size_t len);
+zt_index *take_indices(struct bytes *part, size_t count, size_t len);
+
 /* Numbers of 32 bits. */
 uint32_t *take_wide_list(struct bytes *part, size_t count);
 

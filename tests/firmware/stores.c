@@ -79,11 +79,27 @@ size_t magnitude_of(zt_edge edge)
     return edge < 0 ? (size_t)-(long)edge : (size_t)edge;
 }
 
+zt_edge opposite_of(zt_edge edge)
+{
+    return (zt_edge)(0 - (uint32_t)edge);
+}
+
+void bad_roots(zt_edge beyond, zt_edge *bad)
+{
+    static const zt_edge far[BAD_ROOTS] = {0, INT32_MIN, 0, 0, INT32_MAX, -32768, 65537, -INT32_MAX};
+    size_t i;
+
+    for (i = 0; i < BAD_ROOTS; i++)
+        bad[i] = magnitude_of(far[i]) < (size_t)beyond && far[i] != 0 ? 0 : far[i];
+    bad[2] = beyond;
+    bad[3] = (zt_edge)-beyond;
+}
+
 size_t bucket_of(uint16_t level, zt_edge then, zt_edge els)
 {
-    long sum = (long)level + 3L * then + 5L * els;
+    uint32_t sum = (uint32_t)level + 3 * (uint32_t)then + 5 * (uint32_t)els;
 
-    return (size_t)(((sum % 65536) + 65536) % 65536 % 256);
+    return sum % 256;
 }
 
 void add_node(struct store *s, uint16_t level, zt_edge then, zt_edge els)
@@ -120,6 +136,33 @@ struct store full_store(size_t nodes, size_t slots)
         l--;
         for (k = 0; k < 9 && s.count < nodes; k++)
             add_node(&s, l, edges[pairs[k][0]], edges[pairs[k][1]]);
+    }
+    return s;
+}
+
+/*
+ * The first twelve nodes are one above the other. At each level over them are up to 276, with all pairs of children of which the then is one of the
+ * twelve nodes before that level, and the else is one of them too, with a minus or without, and another edge.
+ */
+struct store wide_store(size_t nodes, size_t slots)
+{
+    struct store s = empty_store(4096, slots);
+    uint16_t l = 4095;
+    zt_edge last, t, e;
+
+    add_node(&s, l, 1, -1);
+    while (s.count < 13)
+        add_node(&s, --l, (zt_edge)s.count, -1);
+    while (s.count < nodes) {
+        last = (zt_edge)s.count;
+        l--;
+        for (t = last - 11; t <= last; t++)
+            for (e = last - 11; e <= last; e++) {
+                if (s.count < nodes)
+                    add_node(&s, l, t, -e);
+                if (s.count < nodes && t != e)
+                    add_node(&s, l, t, e);
+            }
     }
     return s;
 }
@@ -166,16 +209,31 @@ static int alike(const struct store *s, size_t a, size_t b)
     return s->level[a - 1] == s->level[b - 1] && s->then[a - 1] == s->then[b - 1] && s->els[a - 1] == s->els[b - 1];
 }
 
-/* Nodes that are alike have one bucket, so where chains fit, the older one of two stands in the chain after the other. */
+static size_t spread(const struct store *s, size_t node)
+{
+    uint64_t key = (uint64_t)s->level[node - 1] * 2654435761u + (uint64_t)(uint32_t)s->then[node - 1] * 40503u + (uint32_t)s->els[node - 1];
+
+    return (size_t)((key ^ key >> 15) * 2246822519u);
+}
+
+/* Each node goes to a place of a table that only nodes like it, or nodes that found their own places taken, are met before. */
 static int none_alike(const struct store *s)
 {
-    size_t a, b;
+    size_t places = 16, node, at;
+    zt_index *table;
 
-    for (a = 2; a <= s->count; a++)
-        for (b = s->next[a - 1]; b != 0; b = s->next[b - 1])
-            if (alike(s, a, b))
-                return 0;
-    return 1;
+    while (places < 2 * (size_t)s->count)
+        places *= 2;
+    table = zeros(places * sizeof *table);
+    for (node = 2; node <= s->count; node++) {
+        for (at = spread(s, node) % places; table[at] != 0 && !alike(s, node, table[at]); at = (at + 1) % places)
+            ;
+        if (table[at] != 0)
+            break;
+        table[at] = (zt_index)node;
+    }
+    free(table);
+    return node > s->count;
 }
 
 /* 'each chain holds just its bucket, newest first': a node's link is the bucket's node before it, and the head is the last one */

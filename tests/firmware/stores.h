@@ -27,8 +27,14 @@ int same_store(const struct store *a, const struct store *b);
 /* Adds a node at the next number, with its link and its bucket's head. There must be a slot. */
 void add_node(struct store *s, uint16_t level, zt_edge then, zt_edge els);
 
-/* A store of 4,096 levels with so many nodes, at least 4. */
+/* More nodes than an edge of 16 bits can name, and not so many that every test has to do with them. */
+enum { MANY_NODES = 34567 };
+
+/* A store of 4,096 levels with so many nodes, at least 4 and at most 36,000. */
 struct store full_store(size_t nodes, size_t slots);
+
+/* A store of 4,096 levels with so many nodes, at least 14 and at most 1,100,000. */
+struct store wide_store(size_t nodes, size_t slots);
 
 /* Does a store keep document 01's rules? */
 int keeps_rules(const struct store *s);
@@ -41,7 +47,14 @@ size_t reached_levels(const struct store *s, const zt_edge *roots, size_t count,
 
 size_t magnitude_of(zt_edge edge);
 
-/* 'level + 3 x then + 5 x else, where the sum wraps at 65,536, remainder by 256' */
+/* Numbers that are no edges of a store, where the first number beyond its count is this. */
+enum { BAD_ROOTS = 8 };
+void bad_roots(zt_edge beyond, zt_edge *bad);
+
+/* The edge with the other sign. The least number there is, which is no edge, stays as it is. */
+zt_edge opposite_of(zt_edge edge);
+
+/* 'level + 3 x then + 5 x else', where the sum wraps at 4,294,967,296, remainder by 256 */
 size_t bucket_of(uint16_t level, zt_edge then, zt_edge els);
 
 #endif

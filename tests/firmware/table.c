@@ -129,7 +129,7 @@ static const char *entry_after(const char *entry)
     return strchr(entry, ',') + 1;
 }
 
-uint16_t *unsigned_list(const char *column, size_t *count)
+uint16_t *short_list(const char *column, size_t *count)
 {
     size_t n = entries_in(column), i;
     uint16_t *list = room(n * sizeof *list);
@@ -141,11 +141,6 @@ uint16_t *unsigned_list(const char *column, size_t *count)
     }
     *count = n;
     return list;
-}
-
-int16_t *signed_list(const char *column, size_t *count)
-{
-    return (int16_t *)unsigned_list(column, count);
 }
 
 uint32_t *wide_list(const char *column, size_t *count)
@@ -160,6 +155,11 @@ uint32_t *wide_list(const char *column, size_t *count)
     }
     *count = n;
     return list;
+}
+
+zt_edge *edge_list(const char *column, size_t *count)
+{
+    return (zt_edge *)wide_list(column, count);
 }
 
 static uint8_t digit_in(char c)
@@ -280,10 +280,10 @@ struct store store_in(char **columns)
 
     s.levels = (uint16_t)number_in(columns[0]);
     s.count = (zt_index)number_in(columns[1]);
-    s.level = unsigned_list(columns[2], &s.level_len);
-    s.then = signed_list(columns[3], &s.then_len);
-    s.els = signed_list(columns[4], &s.els_len);
-    s.next = unsigned_list(columns[5], &s.next_len);
+    s.level = short_list(columns[2], &s.level_len);
+    s.then = edge_list(columns[3], &s.then_len);
+    s.els = edge_list(columns[4], &s.els_len);
+    s.next = wide_list(columns[5], &s.next_len);
     s.heads_len = (size_t)number_in(columns[6]);
     s.heads = room(s.heads_len * sizeof *s.heads);
     heads_in(columns[7], s.heads, s.heads_len);
@@ -296,10 +296,10 @@ struct store store_after(char **columns, uint16_t levels)
 
     s.levels = levels;
     s.count = (zt_index)number_in(columns[0]);
-    s.level = unsigned_list(columns[1], &s.level_len);
-    s.then = signed_list(columns[2], &s.then_len);
-    s.els = signed_list(columns[3], &s.els_len);
-    s.next = unsigned_list(columns[4], &s.next_len);
+    s.level = short_list(columns[1], &s.level_len);
+    s.then = edge_list(columns[2], &s.then_len);
+    s.els = edge_list(columns[3], &s.els_len);
+    s.next = wide_list(columns[4], &s.next_len);
     s.heads_len = ZT_BUCKETS;
     s.heads = room(s.heads_len * sizeof *s.heads);
     heads_in(columns[5], s.heads, s.heads_len);

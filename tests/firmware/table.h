@@ -42,9 +42,9 @@ long number_in(const char *column);
 size_t entries_in(const char *column);
 
 /* A list between commas. Answers its entries in memory of their own, and how many there are. */
-uint16_t *unsigned_list(const char *column, size_t *count);
-int16_t *signed_list(const char *column, size_t *count);
+uint16_t *short_list(const char *column, size_t *count);
 uint32_t *wide_list(const char *column, size_t *count);
+zt_edge *edge_list(const char *column, size_t *count);
 
 /* Bytes in hexadecimal digits; `empty` and `-` for none. */
 struct bytes bytes_in(const char *column, size_t len);

@@ -414,5 +414,6 @@ void try_changed_cases(void)
     change_joins();
     change_small_joins();
     change_examples();
+    change_widens();
     group_done("changed cases, which must be noticed", changed_cases);
 }

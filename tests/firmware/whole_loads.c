@@ -1,5 +1,5 @@
-/* Stored loads with all that they give, `02/03_load.tsv`: the answer's numbers, every output, and the store; and changed ones, which must be
-   noticed. */
+/* Stored loads with all that they give, `02/03_load.tsv` and `02/05_load.tsv`: the answer's numbers, every output, and the store; and changed ones,
+   which must be noticed. */
 #include <stdlib.h>
 #include <string.h>
 
@@ -8,7 +8,8 @@
 
 enum { WHOLE_COLUMNS = 34, NUMBERS = 10, OUTPUTS = LOAD_ROOTLENS - LOAD_IDS + 1 };
 
-static const char whole_loads[] = "02/03_load.tsv";
+static const char *const whole_loads[] = {"02/03_load.tsv", "02/05_load.tsv"};
+enum { WHOLE_LOADS = sizeof whole_loads / sizeof *whole_loads };
 
 /* An output as it is stored, without the zeros at its end; a root's entry is its two's complement. */
 struct output {
@@ -77,7 +78,7 @@ static int next_whole_load(struct table *t, struct whole_load *w)
     if (strcmp(column[10], "none") != 0 || strcmp(column[32], "none") != 0)
         stop("a stored load lends a list of counts");
     w->file = bytes_in(column[0], strlen(column[0]));
-    w->list = unsigned_list(column[1], &w->list_len);
+    w->list = short_list(column[1], &w->list_len);
     w->before = store_in(column + 2);
     read_lens(column[11], column[12], column[13], w->lens);
     w->answer = answer_in(column + 14);
@@ -130,9 +131,9 @@ static void hold_given(const struct whole_load *w, const struct load *c, const s
 /* What is done with each load after it was made, with what it gave and the store that it left. */
 typedef void with_load(struct whole_load *w, const struct load *c, const struct store *s);
 
-static size_t make_each(with_load *each)
+static size_t make_each(const char *name, with_load *each)
 {
-    struct table t = open_table(vectors, whole_loads);
+    struct table t = open_table(vectors, name);
     struct whole_load w;
     size_t cases = 0;
 
@@ -158,7 +159,10 @@ static void only_hold(struct whole_load *w, const struct load *c, const struct s
 
 void try_whole_loads(void)
 {
-    group_done(whole_loads, make_each(only_hold));
+    size_t i;
+
+    for (i = 0; i < WHOLE_LOADS; i++)
+        group_done(whole_loads[i], make_each(whole_loads[i], only_hold));
 }
 
 /* Changed loads */
@@ -230,5 +234,8 @@ static void hold_changed(struct whole_load *w, const struct load *c, const struc
 
 void change_whole_loads(void)
 {
-    make_each(hold_changed);
+    size_t i;
+
+    for (i = 0; i < WHOLE_LOADS; i++)
+        make_each(whole_loads[i], hold_changed);
 }

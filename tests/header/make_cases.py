@@ -10,7 +10,7 @@ folder to write to. The same files and the same script give the same cases, byte
 
 A case is a file, the lengths of the nine lent lists and what the caller found before, and what loading the header gives: the refusal
 and its line, or the numbers of the header and the entries of each lent list. Every answer is worked out by the section 'The document'
-below, a plain reading of document 01 ('Answers', 'Limits', 'Header') and of document 02 (order 3). It is compared
+below, a plain reading of document 01 ('Answers', 'Limits', 'Header') and of document 02 (orders 3 and 5). It is compared
 
 - with LOAD, for its files: a refusal and its line must be LOAD's; an accepted header is one that LOAD accepts, or refuses for its nodes;
 - with the Rust, for every file that the call comes to read: an accepted header must be accepted with the same values, and a refusal
@@ -45,7 +45,7 @@ A case is 27 bytes, numbers with the lowest byte first: what the caller found; t
 auxids, names (starts, lengths), roots, root names (starts, lengths), two bytes each; the lengths of the file and of the answer, four
 bytes each. Then come the file and the answer. An answer is numbers of 32 bits. A refusal is its number and its line. A header is 0;
 1 for mode A, else 0; varinfo; start and length of the diagram's name; `.nnodes`, `.nvars`, `.nsuppvars`, `.nroots`; the position after
-`.nodes`' line; the number of lines; then each list, as how many entries it has and these (a root as its 16 bits), without the zeros at
+`.nodes`' line; the number of lines; then each list, as how many entries it has and these (a root as its 32 bits), without the zeros at
 its end; after the last list that has entries nothing follows.
 """
 import itertools
@@ -60,7 +60,7 @@ sys.path.insert(0, os.path.join(os.path.dirname(os.path.abspath(__file__)), ".."
 import minus  # noqa: E402
 from record import DOCUMENT, RUST, Record  # noqa: E402
 
-VARS, ROOTS, NODES, INPUT = 4096, 1024, 32767, 16777216
+VARS, ROOTS, NODES, INPUT = 4096, 1024, 1000000, 67108864
 LISTS = ("ids", "order", "permids", "auxids", "names", "lens", "roots", "rootnames", "rootlens")
 LENT = (VARS,) * 6 + (ROOTS,) * 3
 BLANK = b" \t"
@@ -485,7 +485,7 @@ VERSIONS = ("|DDDMP-2.0|DDDMP-3.0|DDDMP-1.0|DDDMP-2|DDDMP-2.00|DDDMP-3|dddmp-2.0
             "|DDDMP-2.0\r|DDDMP-3.0\r \r|xDDDMP-2.0|DDDMP-23.0|\xff")
 MODES = "|A|B|a|b|AB|A B|A A|C|T|0|A\0|B\r|B\r x|\xff|\xc3\x84|Ab"
 VARINFOS = "|0|1|2|3|4|5|9|00|04|4 4|-1|+4|4.|/|:|A|\xff|2\r|3\r 3"
-NUMBERS = ("|0|1|00|007|00000000000000000000000000000000000000002|+1|-1|- 1|1 2|1\t2|1x|x|x1|0x1|1.|1,2|1_0|4096|4097|32767|32768|65536"
+NUMBERS = ("|0|1|00|007|00000000000000000000000000000000000000002|+1|-1|- 1|1 2|1\t2|1x|x|x1|0x1|1.|1,2|1_0|4096|4097|32767|32768|65536|1000000|1000001"
            "|4294967295|4294967296|4294967296x|4294967295x|x4294967296|42949672950|42949672960000|4294967297 1|1 4294967297"
            "|9223372036854775807|9223372036854775808|18446744073709551615|18446744073709551616|18446744073709551615x"
            "|18446744073709551616x|4x18446744073709551616|18446744073709551625|184467440737095516150|99999999999999999999"
@@ -522,7 +522,7 @@ def of_values():
             yield header(f"{key}  {value}", *TINY)
             n = len([word for word in value.split() if word.strip("-")])
             count = f".nroots {n}" if key == ".rootids" else f".nsuppvars {n}"
-            yield header(".nvars 3", ".nnodes 32767", listed(".ids", (0, 1, 2)[:n]), listed(".permids", (2, 0, 1)[:n]), count,
+            yield header(".nvars 3", ".nnodes 1000000", listed(".ids", (0, 1, 2)[:n]), listed(".permids", (2, 0, 1)[:n]), count,
                          f"{key} {value}")
     for key, n in zip(NAME_LISTS, (3, 3, 2, 2)):
         for value in LISTS_OF_NAMES.split("|"):
@@ -608,9 +608,9 @@ def of_limits():
         yield header(f".nvars {n}", f".nsuppvars {n + 1}", ".permids 0")
         yield header(".nvars 1", f".nsuppvars {n}")
         yield header(f".nvars {n}", ".nvars 2")
-        yield header(".nvars 2", f".nvars {n}", ".nnodes 32768")
+        yield header(".nvars 2", f".nvars {n}", f".nnodes {NODES + 1}")
         yield header(f".nvars {n}", ".nsuppvars 1", f".permids {n - 1}", ".ids 0", ".suppvarnames a")
-    for n in (NODES - 1, NODES, NODES + 1, 65535, 65536, 2 ** 32, 2 ** 63 - 1, 2 ** 63, 2 ** 64 - 1):
+    for n in (32766, 32767, 32768, 65535, 65536, NODES - 1, NODES, NODES + 1, 2 ** 32, 2 ** 63 - 1, 2 ** 63, 2 ** 64 - 1):
         for r in (n, -n, n + 1, -n - 1, n - 1):
             yield header(f".nnodes {n}", ".nroots 1", f".rootids {r}")
         yield header(".nvars 2", ".nsuppvars 3", f".nnodes {n}")
@@ -661,7 +661,7 @@ def of_order():
     """A header whose lists are all given, with a fault, and with each two: the first check that finds one decides."""
     base = (".nnodes 9|.nvars 4|.nsuppvars 3|.ids 0 1 3|.permids 3 0 1|.auxids 5 6 7|.varnames a b c d|.orderedvarnames b d c a"
             "|.suppvarnames a b d|.nroots 2|.rootids 4 -9|.rootnames f g")
-    faults = (".nvars 4097|.nnodes 32768|.nsuppvars 5|.ids 0 1|.permids 3 0|.auxids 5|.ids 0 3 1|.ids 0 1 4|.ids 0 1 1|.permids 3 0 4"
+    faults = (".nvars 4097|.nnodes 1000001|.nsuppvars 5|.ids 0 1|.permids 3 0|.auxids 5|.ids 0 3 1|.ids 0 1 4|.ids 0 1 1|.permids 3 0 4"
               "|.permids 3 0 3|.orderedvarnames b d c|.suppvarnames a b|.varnames a b c d e|.varnames a b c x|.suppvarnames a b x"
               "|.orderedvarnames x d c a|.rootids 4|.rootids 4 0|.rootids -10 0|.rootids 0 10|.rootnames f g h|.nroots 3|.nnodes 8"
               "|.nvars 3")
@@ -695,7 +695,7 @@ def some_header(rng):
     nvars = rng.choice((0, 1, 2, 3, 3, 4, 5, 6, 7))
     nsupp = rng.randint(0, nvars)
     ids, permids = sorted(rng.sample(range(nvars), nsupp)), rng.sample(range(nvars), nsupp)
-    nroots, nnodes = rng.choice((0, 1, 1, 2, 3, 5)), rng.choice((1, 2, 7, 40, 32767))
+    nroots, nnodes = rng.choice((0, 1, 1, 2, 3, 5)), rng.choice((1, 2, 7, 40, 1000000))
     names = [rng.choice(("a", "b", "long", f"x{v}", "\xc3\xa4", "-1", "0", ".ids")) for v in range(nvars)]
     ordered = in_order(names, ids, permids, rng.sample([p for p in range(nvars) if p not in permids], nvars - nsupp))
     lines = [[".nnodes", nnodes], [".nvars", nvars], [".nsuppvars", nsupp], [".ids", *ids], [".permids", *permids], [".nroots", nroots],
@@ -804,7 +804,7 @@ def used(entries):
 
 
 def case_bytes(case, answer):
-    lists = [used([v % 65536 for v in x] if name == "roots" else x) for name, x in zip(LISTS, answer.lists)]
+    lists = [used([v % 2 ** 32 for v in x] if name == "roots" else x) for name, x in zip(LISTS, answer.lists)]
     while lists and not lists[-1]:
         lists.pop()
     stored = number_bytes(answer.numbers + [v for x in lists for v in [len(x)] + x], 4)

@@ -26,8 +26,8 @@ The files:
     index.tsv       for each of all cases its source and judge: see tests/cases/record.py
 
 All numbers are of 16 bits, lowest byte first. A case starts with 20 of them: the store's level count and count; the lengths of its lists
-level, then, else, next and of the bucket heads; the lengths of the level list, of the scratch lists edges and seats, of the variable
-lists, of the root lists; how many slots and how many heads are given; then the lengths of the file, of what is given and of the answer,
+level, then, else, next and of the bucket heads; the lengths of the level list, of the scratch lists edges and seats (65535 stands for
+1,000,000), of the variable lists, of the root lists; how many slots and how many heads are given; then the lengths of the file, of what is given and of the answer,
 two numbers each, lower first. The file follows; then what is given: the four slot lists as far as they are given, the heads, the level
 list. Then comes the answer: a refusal and its line; or 0, 0, how many roots there are, the store's count, the roots, the level, then and
 else of the slots up to the count, each list for itself, and, where they are known, 16 numbers for each root that hold its answers in
@@ -35,12 +35,14 @@ their bits, lowest first.
 """
 import os
 import random
+import re
 import sys
 
 sys.path.insert(0, os.path.join(os.path.dirname(os.path.abspath(__file__)), "..", "cases"))
 from record import DOCUMENT, Record  # noqa: E402
 
-VARS, ROOTS, BUCKETS, NODES = 4096, 1024, 256, 32767
+VARS, ROOTS, BUCKETS = 4096, 1024, 256
+LINES, ALL = 32768, 65535  # entries of scratch: enough for most files; 65535 stands for 1,000,000
 MOST = 12000  # bytes of a file
 
 
@@ -78,7 +80,7 @@ def linked(nodes, slots):
     """The links and heads of the nodes from number 2 on, by document 01, 'Store and meaning'."""
     nexts, heads = [0] * slots, [0] * BUCKETS
     for n, (level, then, els) in enumerate(nodes, 2):
-        b = (level + 3 * then + 5 * els) % 65536 % 256
+        b = (level + 3 * then + 5 * els) % 2 ** 32 % 256
         nexts[n - 1], heads[b] = heads[b], n
     return nexts, heads
 
@@ -121,6 +123,12 @@ def case_bytes(case, answer):
     return bytes_of(head) + case.file + given + stored
 
 
+def scratch_for(data):
+    """Scratch that is enough for a file, whatever it says of its lines."""
+    said = [int(n) for n in re.findall(rb"\.nnodes[ \t]+(\d+)", data)]
+    return ALL if any(LINES < n <= 1000000 for n in said) else LINES
+
+
 def of_load(name):
     with open(name) as f:
         for line in f:
@@ -130,7 +138,7 @@ def of_load(name):
             if len(data) > MOST:
                 continue
             tables = [] if tables == "-" else tables.split(",")
-            yield Case(data, empty(int(levels), int(slots)), numbers(level_list), NODES, NODES), \
+            yield Case(data, empty(int(levels), int(slots)), numbers(level_list), *[scratch_for(data)] * 2), \
                 Answer(int(refusal), int(at), numbers(roots), pairs(nodes), tables), judged
 
 

@@ -166,8 +166,10 @@ def judged(folder, loads):
     for load, header, imported in zip(loads, said[0::2], said[1::2]):
         m = read(model, load)
         apart = is_apart(model, load, m)
-        by_rust = read(model, load, 0) if apart else m
-        assert apart or m == read(model, load, 0), load.source
+        before = read(model, load, 0)
+        by_rust = before if apart else m
+        # beside a minus only the limits have changed: a file that was over one is judged further
+        assert apart or m == before or before["refused"] == (19, 0), load.source
         assert load.tables is None or "refused" in by_rust or load.tables == by_rust["tables"], load.source
         why = reason(by_rust, agrees(check, by_rust, load, header, imported), imported[0])
         if load.list is None:

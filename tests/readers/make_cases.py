@@ -56,7 +56,7 @@ from record import DOCUMENT, RUST, Record  # noqa: E402
 
 FILL = 0x5A5A5A5A
 BLANKS = b" \t"
-VAR_LIMIT, ROOT_LIMIT, NODE_LIMIT, INPUT_LIMIT = 4096, 1024, 32767, 16777216
+VAR_LIMIT, ROOT_LIMIT, NODE_LIMIT, INPUT_LIMIT = 4096, 1024, 1000000, 67108864
 # The longest lent list, input and answer that the program has room for.
 MOST_ROOM, MOST_INPUT, MOST_ANSWER = 4100, 65536, 70000
 

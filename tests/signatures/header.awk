@@ -1,5 +1,10 @@
 # Writes what the header file declares: its structs with their fields, and its functions with their parameters, in order. Aliases are
-# replaced by their types. rattle.awk writes the same lines of the Rattle files.
+# replaced by their types, and names by those that are linked. rattle.awk writes the same lines of the Rattle files.
+
+# a name and the one that is linked
+/^#define zt_[a-z]+ zt[0-9]+_[a-z]+$/ {
+    linked[$2] = $3
+}
 
 # the file without comments, white space as single spaces
 {
@@ -66,7 +71,7 @@ END {
             fields(words[2], one)
         } else {
             sub(/^[^(]*[(]/, "", one); sub(/[)]$/, "", one)
-            parameters(words[3], words[2], one)
+            parameters(words[3] in linked ? linked[words[3]] : words[3], words[2], one)
         }
     }
 }

@@ -43,7 +43,8 @@ import sys
 sys.path.insert(0, os.path.join(os.path.dirname(os.path.abspath(__file__)), "..", "cases"))
 from record import DOCUMENT, Record  # noqa: E402
 
-NODE_LIMIT, LEVEL_LIMIT, BUCKETS = 32767, 4096, 256
+NODE_LIMIT, LEVEL_LIMIT, BUCKETS = 1000000, 4096, 256
+MANY = 32767  # nodes of the largest store: the numbers of a case have 16 bits
 SLOTS, HEADS = 32800, 300
 LISTS = ("level", "then", "els", "next", "heads")
 START = dict(zip(LISTS, range(0, 5 * SLOTS, SLOTS)))
@@ -65,7 +66,7 @@ class Store:
 
 def bucket(level, then, els):
     """'level + 3 x then + 5 x else, where the sum wraps at 65,536, remainder by 256'"""
-    return (level + 3 * then + 5 * els) % 65536 % 256
+    return (level + 3 * then + 5 * els) % 2 ** 32 % 256
 
 
 def nodes_fit(s):
@@ -112,7 +113,7 @@ def rest_zero(s):
 def keeps_rules(s):
     slots = len(s.level)
     return (all(len(x) == slots for x in (s.then, s.els, s.next))  # 'the four slot lists are equally long'
-            and 1 <= s.count <= slots and s.count <= NODE_LIMIT  # 'the count lies from 1 to that length and 32,767'
+            and 1 <= s.count <= slots and s.count <= NODE_LIMIT  # 'the count lies from 1 to that length' and 1,000,000
             and len(s.heads) == BUCKETS  # 'there are 256 bucket heads'
             and s.levels <= LEVEL_LIMIT  # 'A store has at most 4,096 levels'
             and nodes_fit(s) and none_alike(s) and chains_right(s) and rest_zero(s))
@@ -224,7 +225,7 @@ def changed(s, list_, place, value):
 
 
 def other_counts(s):
-    for count in (0, 1, 2, s.count - 1, s.count + 1, len(s.level) - 1, len(s.level), len(s.level) + 1, NODE_LIMIT, NODE_LIMIT + 1, 65535):
+    for count in (0, 1, 2, s.count - 1, s.count + 1, len(s.level) - 1, len(s.level), len(s.level) + 1, MANY, MANY + 1, 65535):
         if 0 <= count <= 65535 and count != s.count:
             t = s.copy()
             t.count = count
@@ -469,7 +470,7 @@ def of_refusals(rng):
 
 def of_many(rng):
     """The largest store, with one slot to spare. It comes last, since it leaves the lists full."""
-    s = layered(rng, LEVEL_LIMIT, NODE_LIMIT, NODE_LIMIT + 1)
+    s = layered(rng, LEVEL_LIMIT, MANY, MANY + 1)
     yield Case(1, s)
     for root in (s.count, -s.count, s.count - 1, s.count // 2, 0, s.count + 1, -32768):
         yield Case(2, s, root, bytes(rng.randrange(2) for _ in range(LEVEL_LIMIT)))
@@ -478,7 +479,7 @@ def of_many(rng):
     for t in other_counts(s):
         yield Case(1, t)
     for name in LISTS[:4]:
-        yield from (Case(1, t) for t in changed(s, name, NODE_LIMIT, 1))
+        yield from (Case(1, t) for t in changed(s, name, MANY, 1))
     used = [b for b in range(BUCKETS) if s.heads[b]]
     for n in (2, s.count // 3, s.count):
         for t in rng.sample(list(other_slots(s, n)), 6):
@@ -497,7 +498,7 @@ def of_many(rng):
     t = relinked(t)  # the last slot's node is in no chain any more: once that slot isn't lent, the store is full and keeps the rules
     for x in (s, t):
         for name in LISTS[:4]:
-            setattr(x, name, getattr(x, name)[:NODE_LIMIT])
+            setattr(x, name, getattr(x, name)[:MANY])
         yield Case(1, x)
 
 

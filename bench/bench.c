@@ -334,7 +334,7 @@ static void speed_row(const struct subject *s, int text, const double *medians)
     fflush(stdout);
 }
 
-enum { SMALL = 2, LARGE = 4, LARGER = 6, LARGEST = 7, SUBJECTS = 10 };
+enum { SMALL = 2, LARGE = 4, LARGER = 6, LARGEST = 7, SITE = 8, LARGE_SITE = 9, SUBJECTS = 10 };
 
 /* An ordinary diagram, or where there are zones the plan of a site. */
 static const struct kind {
@@ -420,8 +420,8 @@ static void tell_evaluations(void)
     }
 }
 
-/* The check looks at the free slots too. */
-static void slots_row(const char *name, size_t slots)
+/* The check of a few nodes in many slots, with work for so many nodes: it looks at the free slots too, and clears the work. */
+static void slots_row(size_t slots, size_t nodes)
 {
     const struct subject *s = &subjects[0];
     struct ours wide = ours_open(s->levels, slots, s->nodes);
@@ -431,17 +431,19 @@ static void slots_row(const char *name, size_t slots)
 
     if (ours_load(&wide, s->files[TEXT].bytes, s->files[TEXT].len) != 0)
         give_up("a file is refused");
-    wide.work_len = ZT_WORK_ENTRIES(s->nodes);
+    wide.work_len = ZT_WORK_ENTRIES(nodes);
     task.with = &e;
     measure(&task, 1, medians);
-    printf("  %-14s %11s %11.2f   (100 nodes in %s slots, with work for 100)\n", "100", "", medians[0] * 1e6, name);
+    printf("  %-14s %11s %11.2f   (100 nodes in %zu slots, with work for %zu)\n", "100", "", medians[0] * 1e6, slots, nodes);
     ours_close(&wide);
 }
 
 static void tell_slots(void)
 {
-    slots_row("32,767", 32767);
-    slots_row("1,000,000", ZT_MOST_NODES);
+    slots_row(32767, 100);
+    slots_row(32767, 32767);
+    slots_row(ZT_MOST_NODES, 100);
+    slots_row(ZT_MOST_NODES, ZT_MOST_NODES);
 }
 
 static void tell_walks(void)
@@ -493,7 +495,15 @@ static void run_turn(void *with)
     t->turn = (t->turn + 1) % TURNS;
 }
 
-static void growth_row(const char *what, const char *sizes, struct turns *small, const struct task *large)
+/* The subjects of growth: eight small ones and a large one. */
+struct growth {
+    int goal;
+    char sizes[48];
+    struct subject smalls[TURNS];
+    struct subject *large;
+};
+
+static void growth_row(const char *what, const struct growth *g, struct turns *small, const struct task *large)
 {
     struct task tasks[2] = {{before_turn, run_turn, NULL, NULL}, {NULL, NULL, NULL, NULL}};
     double medians[2];
@@ -504,15 +514,9 @@ static void growth_row(const char *what, const char *sizes, struct turns *small,
     measure(tasks, 2, medians);
     printf("  %-14s %11.1f %11.1f %8.2f\n", what, medians[0] * 1e6, medians[1] * 1e6, medians[1] / medians[0]);
     fflush(stdout);
-    note(GROWTH_GOAL, medians[1] / medians[0], what, sizes);
+    note(g->goal, medians[1] / medians[0], what, g->sizes);
 }
 
-/* The subjects of growth: eight small ones and a large one. */
-struct growth {
-    char sizes[40];
-    struct subject smalls[TURNS];
-    struct subject *large;
-};
 
 static struct subject *growing(struct growth *g, size_t i)
 {
@@ -534,7 +538,7 @@ static void growth_of_loads(struct growth *g, int text)
         task.with = &l[i];
         *(i < TURNS ? &turns.tasks[i] : &large) = task;
     }
-    growth_row(text ? "load text" : "load binary", g->sizes, &turns, &large);
+    growth_row(text ? "load text" : "load binary", g, &turns, &large);
     for (i = 0; i <= TURNS; i++)
         ours_close(&l[i].ours);
 }
@@ -554,7 +558,7 @@ static void growth_of_exports(struct growth *g, int text)
         task.with = &e[i];
         *(i < TURNS ? &turns.tasks[i] : &large) = task;
     }
-    growth_row(text ? "export text" : "export binary", g->sizes, &turns, &large);
+    growth_row(text ? "export text" : "export binary", g, &turns, &large);
 }
 
 static void growth_of_check(struct growth *g)
@@ -572,14 +576,15 @@ static void growth_of_check(struct growth *g)
         task.with = &e[i];
         *(i < TURNS ? &turns.tasks[i] : &large) = task;
     }
-    growth_row("check", g->sizes, &turns, &large);
+    growth_row("check", g, &turns, &large);
 }
 
-static void growth_between(size_t small, size_t large)
+static void growth_between(int goal, size_t small, size_t large)
 {
     struct growth g;
     size_t i;
 
+    g.goal = goal;
     snprintf(g.sizes, sizeof g.sizes, "%s to %s nodes", kinds[small].name, kinds[large].name);
     printf("  %s\n", g.sizes);
     for (i = 0; i < TURNS; i++)
@@ -598,8 +603,9 @@ static void tell_growth(void)
 {
     printf("\nGrowth: eight small files in turn, each call, and a large one with eight times the nodes\n  %-14s %11s %11s %8s\n", "", "small us",
         "large us", "times");
-    growth_between(SMALL, LARGE);
-    growth_between(LARGER, LARGEST);
+    growth_between(GROWTH_GOAL, SMALL, LARGE);
+    growth_between(SCALE_GOAL, LARGER, LARGEST);
+    growth_between(SCALE_GOAL, SITE, LARGE_SITE);
 }
 
 /* Two tasks side by side, in microseconds and as a ratio. */

@@ -8,7 +8,7 @@ struct goal {
     double limit;
     int at_least;
     double worst;
-    char where[64];
+    char where[80];
     int seen;
 };
 
@@ -18,6 +18,7 @@ static struct goal goals[GOALS] = {
     {"the check of 32,000 nodes in at most 12 ns a node", 12, 0, 0, "", 0},
     {"the walk of an evaluation at least as fast as the Rust's", 1, 1, 0, "", 0},
     {"eightfold work in at most tenfold time", 10, 0, 0, "", 0},
+    {"eightfold work in at most tenfold time, up to 1,000,000 nodes", 10, 0, 0, "", 0},
     {"a hostile file within twenty times an ordinary one of its size", 20, 0, 0, "", 0},
     {"without work, an ordinary file of up to 32,000 nodes within three times the time with it", 3, 0, 0, "", 0},
     {"a load on at most 64 KB of stack", 64, 0, 0, "", 0},

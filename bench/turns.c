@@ -105,7 +105,8 @@ void tell_turns(void)
 {
     struct turning t = turning_of(random_plan(64, ZT_OLD_MOST_NODES, 0));
 
-    printf("\nTurn: an old store of %d nodes into a new one, with work for its nodes and without, beside the check of the new one\n", ZT_OLD_MOST_NODES);
+    printf("\nTurn: an old store of %d nodes into a new one, with work for its nodes and without, beside the check of the new one\n",
+        ZT_OLD_MOST_NODES);
     printf("  %-14s %-8s %11s %11s %8s %11s\n", "new slots", "work", "us", "check us", "times", "stack");
     turn_row(&t, "32,767", ZT_OLD_MOST_NODES, ZT_WORK_ENTRIES(ZT_OLD_MOST_NODES));
     turn_row(&t, "32,767", ZT_OLD_MOST_NODES, 0);

@@ -26,11 +26,13 @@
 #include "examples.h"
 #include "goals.h"
 #include "joins.h"
+#include "memory.h"
 #include "ours.h"
 #include "plans.h"
 #include "rust.h"
 #include "stack.h"
 #include "timing.h"
+#include "turns.h"
 #include "zonetweed.h"
 
 enum { SETTINGS = 64, TEXT = 1, BINARY = 0 };
@@ -108,6 +110,8 @@ static struct subject subject_of(const char *name, struct plan plan)
     s.ours = ours_open(s.levels, s.nodes, s.nodes);
     if (ours_load(&s.ours, s.source.bytes, s.source.len) != 0)
         give_up("a generated file is refused");
+    if (s.ours.count != s.nodes)
+        give_up("a generated file has nodes that are alike");
     s.nroots = s.ours.nroots;
     s.roots = room_for(s.nroots, sizeof *s.roots);
     memcpy(s.roots, s.ours.roots, s.nroots * sizeof *s.roots);
@@ -312,7 +316,7 @@ static double time_evaluation(const struct subject *s, double *medians)
 /* Tables. Times are in microseconds, MB are 1,000,000 bytes of the file. */
 static void speed_heads(const char *title)
 {
-    printf("\n%s\n  %-14s %-6s %8s %9s %7s", title, "file", "mode", "bytes", "us", "MB/s");
+    printf("\n%s\n  %-14s %-6s %8s %11s %7s", title, "file", "mode", "bytes", "us", "MB/s");
     if (with_rust)
         printf(" %11s %7s %6s", "Rust's us", "MB/s", "ratio");
     printf("\n");
@@ -322,7 +326,7 @@ static void speed_row(const struct subject *s, int text, const double *medians)
 {
     double bytes = (double)s->files[text].len;
 
-    printf("  %-14s %-6s %8zu %9.1f %7.1f", s->name, text ? "text" : "binary", s->files[text].len, medians[0] * 1e6,
+    printf("  %-14s %-6s %8zu %11.1f %7.1f", s->name, text ? "text" : "binary", s->files[text].len, medians[0] * 1e6,
         bytes / medians[0] / 1e6);
     if (with_rust)
         printf(" %11.1f %7.1f %6.2f", medians[1] * 1e6, bytes / medians[1] / 1e6, medians[1] / medians[0]);
@@ -330,15 +334,31 @@ static void speed_row(const struct subject *s, int text, const double *medians)
     fflush(stdout);
 }
 
-enum { SIZES = 5, SMALL = 2, LARGE = 4, DEEP = 5, SUBJECTS = 6 };
+enum { SMALL = 2, LARGE = 4, LARGER = 6, LARGEST = 7, SITE = 8, LARGE_SITE = 9, SUBJECTS = 10 };
 
-static const struct {
+/* An ordinary diagram, or where there are zones the plan of a site. */
+static const struct kind {
     const char *name;
     uint16_t levels;
     size_t nodes;
+    struct site site;
 } kinds[SUBJECTS] = {
-    {"100", 24, 100}, {"1,000", 32, 1000}, {"4,000", 48, 4000}, {"10,000", 56, 10000}, {"32,000", 64, 32000}, {"32,000 deep", 4096, 32000},
+    {"100", 24, 100, {0, 0, 0, 0}},
+    {"1,000", 32, 1000, {0, 0, 0, 0}},
+    {"4,000", 48, 4000, {0, 0, 0, 0}},
+    {"10,000", 56, 10000, {0, 0, 0, 0}},
+    {"32,000", 64, 32000, {0, 0, 0, 0}},
+    {"32,000 deep", 4096, 32000, {0, 0, 0, 0}},
+    {"125,000", 128, 125000, {0, 0, 0, 0}},
+    {"1,000,000", 256, 1000000, {0, 0, 0, 0}},
+    {"site 125,000", 0, 0, {32, 64, 16, 8}},
+    {"site 1,000,000", 0, 0, {64, 64, 22, 32}},
 };
+
+static struct plan plan_of(const struct kind *k, uint64_t seed)
+{
+    return k->site.zones == 0 ? random_plan(k->levels, k->nodes, seed) : site_plan(&k->site);
+}
 
 static struct subject subjects[SUBJECTS];
 
@@ -400,20 +420,30 @@ static void tell_evaluations(void)
     }
 }
 
-static void tell_slots(void)
+/* The check of a few nodes in many slots, with work for so many nodes: it looks at the free slots too, and clears the work. */
+static void slots_row(size_t slots, size_t nodes)
 {
     const struct subject *s = &subjects[0];
-    struct ours wide = ours_open(s->levels, ZT_MOST_NODES, ZT_MOST_NODES);
+    struct ours wide = ours_open(s->levels, slots, s->nodes);
     struct evaluating e = evaluations_of(s, &wide);
     struct task task = {NULL, check_ours, NULL, NULL};
     double medians[1];
 
     if (ours_load(&wide, s->files[TEXT].bytes, s->files[TEXT].len) != 0)
         give_up("a file is refused");
+    wide.work_len = ZT_WORK_ENTRIES(nodes);
     task.with = &e;
     measure(&task, 1, medians);
-    printf("  %-14s %11s %11.2f   (100 nodes in 32,767 slots)\n", "100 of 32,767", "", medians[0] * 1e6);
+    printf("  %-14s %11s %11.2f   (100 nodes in %zu slots, with work for %zu)\n", "100", "", medians[0] * 1e6, slots, nodes);
     ours_close(&wide);
+}
+
+static void tell_slots(void)
+{
+    slots_row(32767, 100);
+    slots_row(32767, 32767);
+    slots_row(ZT_MOST_NODES, 100);
+    slots_row(ZT_MOST_NODES, ZT_MOST_NODES);
 }
 
 static void tell_walks(void)
@@ -465,7 +495,15 @@ static void run_turn(void *with)
     t->turn = (t->turn + 1) % TURNS;
 }
 
-static void growth_row(const char *what, struct turns *small, const struct task *large)
+/* The subjects of growth: eight small ones and a large one. */
+struct growth {
+    int goal;
+    char sizes[48];
+    struct subject smalls[TURNS];
+    struct subject *large;
+};
+
+static void growth_row(const char *what, const struct growth *g, struct turns *small, const struct task *large)
 {
     struct task tasks[2] = {{before_turn, run_turn, NULL, NULL}, {NULL, NULL, NULL, NULL}};
     double medians[2];
@@ -476,64 +514,98 @@ static void growth_row(const char *what, struct turns *small, const struct task 
     measure(tasks, 2, medians);
     printf("  %-14s %11.1f %11.1f %8.2f\n", what, medians[0] * 1e6, medians[1] * 1e6, medians[1] / medians[0]);
     fflush(stdout);
-    note(GROWTH_GOAL, medians[1] / medians[0], what, "4,000 to 32,000 nodes");
+    note(g->goal, medians[1] / medians[0], what, g->sizes);
+}
+
+
+static struct subject *growing(struct growth *g, size_t i)
+{
+    return i < TURNS ? &g->smalls[i] : g->large;
+}
+
+static void growth_of_loads(struct growth *g, int text)
+{
+    struct turns turns;
+    struct task large;
+    struct loading l[TURNS + 1];
+    size_t i;
+
+    for (i = 0; i <= TURNS; i++) {
+        const struct subject *s = growing(g, i);
+        struct task task = {empty_ours, load_ours, NULL, NULL};
+
+        l[i] = loading_of(&s->files[text], s->levels, s->nodes);
+        task.with = &l[i];
+        *(i < TURNS ? &turns.tasks[i] : &large) = task;
+    }
+    growth_row(text ? "load text" : "load binary", g, &turns, &large);
+    for (i = 0; i <= TURNS; i++)
+        ours_close(&l[i].ours);
+}
+
+static void growth_of_exports(struct growth *g, int text)
+{
+    struct turns turns;
+    struct task large;
+    struct exporting e[TURNS + 1];
+    size_t i;
+
+    for (i = 0; i <= TURNS; i++) {
+        struct task task = {NULL, export_ours, NULL, NULL};
+
+        e[i].subject = growing(g, i);
+        e[i].text = (uint8_t)text;
+        task.with = &e[i];
+        *(i < TURNS ? &turns.tasks[i] : &large) = task;
+    }
+    growth_row(text ? "export text" : "export binary", g, &turns, &large);
+}
+
+static void growth_of_check(struct growth *g)
+{
+    struct turns turns;
+    struct task large;
+    struct evaluating e[TURNS + 1];
+    size_t i;
+
+    for (i = 0; i <= TURNS; i++) {
+        const struct subject *s = growing(g, i);
+        struct task task = {NULL, check_ours, NULL, NULL};
+
+        e[i] = evaluations_of(s, &s->ours);
+        task.with = &e[i];
+        *(i < TURNS ? &turns.tasks[i] : &large) = task;
+    }
+    growth_row("check", g, &turns, &large);
+}
+
+static void growth_between(int goal, size_t small, size_t large)
+{
+    struct growth g;
+    size_t i;
+
+    g.goal = goal;
+    snprintf(g.sizes, sizeof g.sizes, "%s to %s nodes", kinds[small].name, kinds[large].name);
+    printf("  %s\n", g.sizes);
+    for (i = 0; i < TURNS; i++)
+        g.smalls[i] = subject_of(kinds[small].name, plan_of(&kinds[small], i));
+    g.large = &subjects[large];
+    growth_of_loads(&g, TEXT);
+    growth_of_loads(&g, BINARY);
+    growth_of_exports(&g, TEXT);
+    growth_of_exports(&g, BINARY);
+    growth_of_check(&g);
+    for (i = 0; i < TURNS; i++)
+        drop_subject(&g.smalls[i]);
 }
 
 static void tell_growth(void)
 {
-    struct subject smalls[TURNS];
-    struct turns turns;
-    struct task large;
-    size_t i;
-    int text;
-
-    printf("\nGrowth: eight files of 4,000 nodes in turn, each call, and the file of 32,000 nodes\n  %-14s %11s %11s %8s\n", "",
-        "4,000 us", "32,000 us", "times");
-    for (i = 0; i < TURNS; i++)
-        smalls[i] = subject_of("4,000", random_plan(kinds[SMALL].levels, kinds[SMALL].nodes, i));
-    for (text = 1; text >= 0; text--) {
-        struct loading l[TURNS + 1];
-
-        for (i = 0; i <= TURNS; i++) {
-            const struct subject *s = i < TURNS ? &smalls[i] : &subjects[LARGE];
-            struct task task = {empty_ours, load_ours, NULL, NULL};
-
-            l[i] = loading_of(&s->files[text], s->levels, s->nodes);
-            task.with = &l[i];
-            *(i < TURNS ? &turns.tasks[i] : &large) = task;
-        }
-        growth_row(text ? "load text" : "load binary", &turns, &large);
-        for (i = 0; i <= TURNS; i++)
-            ours_close(&l[i].ours);
-    }
-    for (text = 1; text >= 0; text--) {
-        struct exporting e[TURNS + 1];
-
-        for (i = 0; i <= TURNS; i++) {
-            struct task task = {NULL, export_ours, NULL, NULL};
-
-            e[i].subject = i < TURNS ? &smalls[i] : &subjects[LARGE];
-            e[i].text = (uint8_t)text;
-            task.with = &e[i];
-            *(i < TURNS ? &turns.tasks[i] : &large) = task;
-        }
-        growth_row(text ? "export text" : "export binary", &turns, &large);
-    }
-    {
-        struct evaluating e[TURNS + 1];
-
-        for (i = 0; i <= TURNS; i++) {
-            const struct subject *s = i < TURNS ? &smalls[i] : &subjects[LARGE];
-            struct task task = {NULL, check_ours, NULL, NULL};
-
-            e[i] = evaluations_of(s, &s->ours);
-            task.with = &e[i];
-            *(i < TURNS ? &turns.tasks[i] : &large) = task;
-        }
-        growth_row("check", &turns, &large);
-    }
-    for (i = 0; i < TURNS; i++)
-        drop_subject(&smalls[i]);
+    printf("\nGrowth: eight small files in turn, each call, and a large one with eight times the nodes\n  %-14s %11s %11s %8s\n", "", "small us",
+        "large us", "times");
+    growth_between(GROWTH_GOAL, SMALL, LARGE);
+    growth_between(SCALE_GOAL, LARGER, LARGEST);
+    growth_between(SCALE_GOAL, SITE, LARGE_SITE);
 }
 
 /* Two tasks side by side, in microseconds and as a ratio. */
@@ -607,11 +679,14 @@ static void tell_hostile_file(struct subject *s, size_t again, int with_work)
 
 static void tell_hostile(void)
 {
-    printf("\nHostile: a file whose nodes fall into one bucket over 40 children, against the ordinary one with as many lines\n");
+    printf("\nHostile: a file whose nodes fall into one bucket over few children, against the ordinary one with as many lines\n");
     printf("  %-14s %-30s %11s %11s %8s\n", "lines", "", "us", "ordinary us", "times");
     tell_hostile_file(&subjects[SMALL], 0, 1);
     tell_hostile_file(&subjects[LARGE], 0, 1);
     tell_hostile_file(&subjects[LARGE], subjects[LARGE].nodes / 2, 1);
+    tell_hostile_file(&subjects[LARGER], 0, 1);
+    tell_hostile_file(&subjects[LARGEST], 0, 1);
+    tell_hostile_file(&subjects[LARGEST], subjects[LARGEST].nodes / 2, 1);
     printf("  without work, both\n");
     tell_hostile_file(&subjects[SMALL], 0, 0);
     tell_hostile_file(&subjects[LARGE], 0, 0);
@@ -620,7 +695,10 @@ static void tell_hostile(void)
 
 static void without_row(const struct subject *s, const char *what, struct task without, struct task with)
 {
-    note(WITHOUT_GOAL, compare(s->name, what, without, with), what, s->name);
+    double times = compare(s->name, what, without, with);
+
+    if (s->nodes <= kinds[LARGE].nodes)
+        note(WITHOUT_GOAL, times, what, s->name);
 }
 
 static void load_without(const struct subject *s, int text)
@@ -654,8 +732,11 @@ static void tell_without(void)
 
     printf("\nWithout work, against the same with it\n  %-14s %-30s %11s %11s %8s\n", "file", "", "us", "with, us", "times");
     for (i = 0; i < SUBJECTS; i++) {
-        load_without(&subjects[i], TEXT);
-        load_without(&subjects[i], BINARY);
+        /* a load of the largest would take a minute */
+        if (subjects[i].nodes <= kinds[LARGER].nodes) {
+            load_without(&subjects[i], TEXT);
+            load_without(&subjects[i], BINARY);
+        }
         check_without(&subjects[i]);
     }
 }
@@ -692,15 +773,16 @@ static void stack_export_binary(void *with)
     ours_export(&((struct subject *)with)->ours, BINARY);
 }
 
-/* The stack of a call, with work and without, on two subjects. */
-static void stack_row(const char *what, int goal, void (*call)(void *with), struct subject *large, struct subject *deep)
+/* The stack of a call, with work and without, on two subjects, and with work on a third. */
+static void stack_row(const char *what, int goal, void (*call)(void *with), struct subject *large, struct subject *deep, struct subject *largest)
 {
-    struct subject *on[2];
-    size_t taken[4], i;
+    struct subject *on[3];
+    size_t taken[5], i;
 
     on[0] = large;
     on[1] = deep;
-    for (i = 0; i < 4; i++) {
+    on[2] = largest;
+    for (i = 0; i < 5; i++) {
         struct subject *s = on[i / 2];
         size_t enough = s->ours.work_len;
 
@@ -709,25 +791,31 @@ static void stack_row(const char *what, int goal, void (*call)(void *with), stru
         s->ours.work_len = enough;
         note(goal, (double)taken[i] / 1024, what, s->name);
     }
-    printf("  %-14s %11zu %11zu %11zu %11zu\n", what, taken[0], taken[1], taken[2], taken[3]);
+    printf("  %-14s %11zu %11zu %11zu %11zu %11zu\n", what, taken[0], taken[1], taken[2], taken[3], taken[4]);
+}
+
+/* Gives a subject the names of its first file again, which exports write. */
+static void load_first(struct subject *s)
+{
+    if (ours_load(&s->ours, s->source.bytes, s->source.len) != 0)
+        give_up("a file is refused");
 }
 
 static void tell_stack(void)
 {
     struct subject deep = subject_of("4,096 levels", parity_plan(ZT_MOST_LEVELS));
-    struct subject *large = &subjects[LARGE];
+    struct subject *large = &subjects[LARGE], *largest = &subjects[LARGEST];
 
-    printf("\nPeak stack in bytes, with work and without: the file of 32,000 nodes, and a root that leads down 4,096 levels\n");
-    printf("  %-14s %11s %11s %11s %11s\n", "", "32,000", "without", "4,096 lev.", "without");
-    stack_row("load text", LOAD_STACK, stack_load_text, large, &deep);
-    stack_row("load binary", LOAD_STACK, stack_load_binary, large, &deep);
-    stack_row("evaluate", EVALUATE_STACK, stack_evaluate, large, &deep);
-    /* the loads left the names of other files */
-    if (ours_load(&large->ours, large->source.bytes, large->source.len) != 0
-        || ours_load(&deep.ours, deep.source.bytes, deep.source.len) != 0)
-        give_up("a file is refused");
-    stack_row("export text", EXPORT_STACK, stack_export_text, large, &deep);
-    stack_row("export binary", EXPORT_STACK, stack_export_binary, large, &deep);
+    printf("\nPeak stack in bytes, with work and without: a file of 32,000 nodes, a root that leads down 4,096 levels, a file of 1,000,000 nodes\n");
+    printf("  %-14s %11s %11s %11s %11s %11s\n", "", "32,000", "without", "4,096 lev.", "without", "1,000,000");
+    stack_row("load text", LOAD_STACK, stack_load_text, large, &deep, largest);
+    stack_row("load binary", LOAD_STACK, stack_load_binary, large, &deep, largest);
+    stack_row("evaluate", EVALUATE_STACK, stack_evaluate, large, &deep, largest);
+    load_first(large);
+    load_first(&deep);
+    load_first(largest);
+    stack_row("export text", EXPORT_STACK, stack_export_text, large, &deep, largest);
+    stack_row("export binary", EXPORT_STACK, stack_export_binary, large, &deep, largest);
     drop_subject(&deep);
 }
 
@@ -746,12 +834,13 @@ static void measure_all(const char *archive)
 
     printf("Zonetweed%s. Times are medians of up to %d runs%s; MB are 1,000,000 bytes of the file", with_rust ? " and the Rust" : "", RUNS,
         by_processor_clock() ? ", by the processor's clock" : "");
-    printf("%s.\n\nFiles\n  %-14s %6s %7s %6s %9s %9s\n",
+    printf("%s.\n\nFiles\n  %-14s %7s %7s %6s %9s %9s\n",
         with_rust ? "; a ratio is the Rust's time by Zonetweed's" : "", "", "nodes", "levels", "roots", "text", "binary");
     for (i = 0; i < SUBJECTS; i++) {
-        subjects[i] = subject_of(kinds[i].name, random_plan(kinds[i].levels, kinds[i].nodes, 0));
-        printf("  %-14s %6zu %7u %6zu %9zu %9zu\n", subjects[i].name, subjects[i].nodes, subjects[i].levels, subjects[i].nroots,
+        subjects[i] = subject_of(kinds[i].name, plan_of(&kinds[i], 0));
+        printf("  %-14s %7zu %7u %6zu %9zu %9zu\n", subjects[i].name, subjects[i].nodes, subjects[i].levels, subjects[i].nroots,
             subjects[i].files[TEXT].len, subjects[i].files[BINARY].len);
+        fflush(stdout);
     }
     if (with_rust)
         printf("  Both sides agree on every file: nodes, roots and answers; each reads what the other exports.\n");
@@ -766,6 +855,8 @@ static void measure_all(const char *archive)
     tell_stack();
     tell_joins();
     tell_examples();
+    tell_turns();
+    tell_memory();
     tell_archive(archive);
     tell_goals();
     for (i = 0; i < SUBJECTS; i++)

@@ -36,11 +36,11 @@ void buddy_start(uint16_t levels)
 static BDD taken(const struct ours *s, zt_edge root)
 {
     BDD *functions = room_for(2 * (size_t)s->count + 1, sizeof *functions), *of = functions + s->count, f;
-    int n;
+    zt_edge n, count = (zt_edge)s->count;
 
     of[1] = bddtrue;
     of[-1] = bddfalse;
-    for (n = 2; n <= s->count; n++) {
+    for (n = 2; n <= count; n++) {
         BDD level = bdd_ithvar(s->level[n - 1]);
         zt_edge then = s->then[n - 1], els = s->els[n - 1];
 
@@ -48,7 +48,7 @@ static BDD taken(const struct ours *s, zt_edge root)
         of[-n] = bdd_addref(bdd_ite(level, of[-then], of[-els]));
     }
     f = bdd_addref(of[root]);
-    for (n = 2; n <= s->count; n++) {
+    for (n = 2; n <= count; n++) {
         bdd_delref(of[n]);
         bdd_delref(of[-n]);
     }

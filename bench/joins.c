@@ -165,7 +165,7 @@ static void join_rows(struct joining j)
 
 static void tell_pairs(void)
 {
-    printf("\nJoins: the two roots of a store with 32,767 slots, with a cache for %d results; and with no cache lent\n", BUDDY_RESULTS);
+    printf("\nJoins: the two roots of a store with %d slots, with a cache for %d results; and with no cache lent\n", JOIN_SLOTS, BUDDY_RESULTS);
     if (buddy_there())
         printf("  BuDDy has room for %d nodes and %d results, and none of either are left from before. The ratios are its time by that of\n"
             "  Zonetweed's join without the check of the store, and by that of the whole call.\n", BUDDY_NODES, BUDDY_RESULTS);
@@ -307,7 +307,7 @@ static void close_all(struct turns *t)
 static void take_pair(struct turns *t, struct joining j)
 {
     j.op = AND;
-    ours_lend_cache(&j.ours, ZT_MOST_NODES);
+    ours_lend_cache(&j.ours, JOIN_SLOTS);
     t->joinings[t->count++] = j;
 }
 
@@ -346,7 +346,7 @@ static void tell_growth(void)
     uint64_t seed;
 
     printf("\nGrowth of joins: eight small pairs and a large one, their and, the check of the store apart, with a cache for %d results\n",
-        ZT_MOST_NODES);
+        JOIN_SLOTS);
     printf("  %-22s %9s %11s %9s %11s %8s\n", "", "new nodes", "ns/node", "new nodes", "ns/node", "8 times");
     for (seed = 0; seed < TURNS; seed++)
         take_pair(&small, joining_of("", threshold_pair(48, 1, seed)));

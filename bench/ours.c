@@ -140,7 +140,7 @@ zt_edge ours_join(struct ours *s, enum op op, zt_edge left, zt_edge right)
 
 struct ours ours_with(const struct plan *plan)
 {
-    struct ours s = ours_open(plan->levels, ZT_MOST_NODES, ZT_MOST_NODES);
+    struct ours s = ours_open(plan->levels, JOIN_SLOTS, JOIN_SLOTS);
     struct file f = text_file(plan);
 
     if (ours_load(&s, f.bytes, f.len) != 0)

@@ -39,6 +39,9 @@ struct ours {
 
 enum op { AND, OR, XOR, OPS };
 
+/* The slots of stores in which roots are joined: each join looks through all of them. */
+enum { JOIN_SLOTS = 32767 };
+
 /* An empty store. Its calls read files of at most so many lines. */
 struct ours ours_open(uint16_t levels, size_t slots, size_t lines);
 void ours_close(struct ours *s);
@@ -67,7 +70,7 @@ void ours_lend_cache(struct ours *s, size_t results);
 /* The root of an operation on two roots; a refusal ends the program. */
 zt_edge ours_join(struct ours *s, enum op op, zt_edge left, zt_edge right);
 
-/* An empty store with all slots that a store can have, into which a diagram was loaded. */
+/* A store of JOIN_SLOTS slots into which a diagram was loaded. */
 struct ours ours_with(const struct plan *plan);
 
 /* The diagram of two roots. */

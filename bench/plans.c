@@ -32,22 +32,32 @@ static size_t below(uint64_t *state, size_t limit)
     return draw(state) % limit;
 }
 
-/* A set of nodes, by open addressing. */
-enum { PLACES = 1 << 17 };
-
+/* A set of nodes, by open addressing: 2 to the power of `bits` places. */
 struct seen {
+    unsigned bits;
     struct node *places;
 };
 
+/* Room for so many nodes, and at least as many places free. */
+static struct seen seen_of(size_t count)
+{
+    struct seen s = {1, NULL};
+
+    while ((size_t)1 << s.bits < 2 * count)
+        s.bits++;
+    s.places = room_for((size_t)1 << s.bits, sizeof *s.places);
+    return s;
+}
+
 static int is_new(struct seen *s, struct node n)
 {
-    uint64_t key = ((uint64_t)n.level << 34) ^ ((uint64_t)(uint32_t)n.then << 17) ^ (uint32_t)n.els;
-    size_t at = (size_t)(key * 0x9e3779b97f4a7c15u >> 47);
+    uint64_t key = ((uint64_t)n.level << 48) ^ ((uint64_t)(uint32_t)n.then << 24) ^ (uint32_t)n.els;
+    size_t at = (size_t)(key * 0x9e3779b97f4a7c15u >> (64 - s->bits));
 
     while (s->places[at].then != 0) {
         if (s->places[at].level == n.level && s->places[at].then == n.then && s->places[at].els == n.els)
             return 0;
-        at = (at + 1) % PLACES;
+        at = (at + 1) % ((size_t)1 << s->bits);
     }
     s->places[at] = n;
     return 1;
@@ -58,6 +68,7 @@ struct plan room_for_plan(uint16_t levels, size_t count, size_t nroots)
     struct plan p;
 
     p.levels = levels;
+    p.points = 0;
     p.count = count;
     p.nodes = room_for(count, sizeof *p.nodes);
     p.nroots = nroots;
@@ -97,7 +108,7 @@ static int32_t child(uint64_t *state, size_t deeper)
 struct plan random_plan(uint16_t levels, size_t count, uint64_t seed)
 {
     struct plan p = room_for_plan(levels, count, MOST_FREE_ROOTS + EXTRA_ROOTS);
-    struct seen seen = {room_for(PLACES, sizeof(struct node))};
+    struct seen seen = seen_of(count);
     /* nodes that no edge leads to yet, oldest first */
     int32_t *loose = room_for(count + 1, sizeof *loose);
     size_t first = 0, last = 0;
@@ -175,28 +186,92 @@ struct plan and_or_plan(uint16_t levels)
     return p;
 }
 
+/*
+ * A zone's points, from the last on: where enough of them are yes `kept` is next, else `not_kept`. Answers the line of its first point. What can
+ * go either way still, and can be reached, gets a line.
+ */
+static int32_t put_zone(struct plan *p, const struct site *s, size_t zone, int32_t kept, int32_t not_kept)
+{
+    /* lines by how many points are still asked for: of the points below, and as far as they are done of this one */
+    int32_t *lines = room_for(s->asked + 1, sizeof *lines), first;
+    size_t point, still;
+
+    for (still = 0; still <= s->asked; still++)
+        lines[still] = still == 0 ? kept : not_kept;
+    for (point = s->points; point-- > 0;)
+        for (still = s->asked; still > 0 && still + point >= s->asked; still--) {
+            struct node n = {(uint16_t)(zone * s->points + point), lines[still - 1], lines[still]};
+
+            if (n.then == n.els)
+                continue;
+            p->nodes[p->count++] = n;
+            lines[still] = (int32_t)p->count;
+        }
+    first = lines[s->asked];
+    free(lines);
+    return first;
+}
+
+size_t site_nodes(const struct site *s)
+{
+    return 1 + s->asked_zones * (s->zones - s->asked_zones + 1) * s->asked * (s->points - s->asked + 1);
+}
+
+struct plan site_plan(const struct site *s)
+{
+    struct plan p = room_for_plan((uint16_t)(s->zones * s->points), site_nodes(s), s->zones);
+    /* lines by how many zones are still asked for: of the zones below, and as far as they are done of this one */
+    int32_t *lines = room_for(s->asked_zones + 1, sizeof *lines);
+    size_t zone, still;
+
+    p.points = (uint16_t)s->points;
+    p.count = 1;
+    for (still = 0; still <= s->asked_zones; still++)
+        lines[still] = still == 0 ? 1 : -1;
+    for (zone = s->zones; zone-- > 0;) {
+        for (still = s->asked_zones; still > 0 && still + zone >= s->asked_zones; still--)
+            if (lines[still - 1] != lines[still])
+                lines[still] = put_zone(&p, s, zone, lines[still - 1], lines[still]);
+        p.roots[zone] = (int32_t)p.count;
+    }
+    if (p.count != site_nodes(s))
+        give_up("a generated diagram is not as it should be");
+    free(lines);
+    return p;
+}
+
 /* The bucket of a node, as the store's rules have it. */
 static unsigned bucket(struct node n)
 {
-    return ((unsigned)n.level + 3 * (unsigned)n.then + 5 * (unsigned)n.els) % 65536 % 256;
+    return ((unsigned)n.level + 3 * (unsigned)n.then + 5 * (unsigned)n.els) % 256;
+}
+
+/* How many children give so many different nodes in one bucket, at all levels above them; a few more than that. */
+static int32_t children_for(size_t count, size_t levels)
+{
+    size_t children = 40;
+
+    while (2 * children * children * (levels - children) / 256 * 9 / 10 < count)
+        children++;
+    return (int32_t)children;
 }
 
 struct plan hostile_plan(size_t count, size_t again)
 {
-    enum { LEVELS = 4096, CHILDREN = 40 };
+    enum { LEVELS = 4096 };
     struct plan p = room_for_plan(LEVELS, count, 1);
-    size_t made = 1, i;
-    int32_t t, e, sign;
+    int32_t children = children_for(count, LEVELS), t, e, sign;
+    size_t made = 1, first = (size_t)children + 1, i;
     uint16_t l;
 
-    for (i = 1; i <= CHILDREN; i++) {
+    for (i = 1; i < first; i++) {
         struct node n = {(uint16_t)(LEVELS - i), 1, -1};
         p.nodes[made++] = n;
     }
-    for (t = 2; t <= CHILDREN + 1; t++)
-        for (e = 2; e <= CHILDREN + 1; e++)
+    for (t = 2; t <= children + 1; t++)
+        for (e = 2; e <= children + 1; e++)
             for (sign = -1; sign <= 1; sign += 2)
-                for (l = 0; l < LEVELS - CHILDREN && made < count - again; l++) {
+                for (l = 0; l < LEVELS - children && made < count - again; l++) {
                     struct node n = {l, t, sign * e};
 
                     if (t == n.els || bucket(n) != 0)
@@ -206,7 +281,7 @@ struct plan hostile_plan(size_t count, size_t again)
     if (made != count - again)
         give_up("a generated diagram is not as it should be");
     for (i = 0; i < again; i++)
-        p.nodes[made++] = p.nodes[1 + CHILDREN + i % (count - again - 1 - CHILDREN)];
+        p.nodes[made++] = p.nodes[first + i % (count - again - first)];
     p.roots[0] = (int32_t)count;
     return p;
 }
@@ -235,6 +310,14 @@ static void put_text(struct file *f, const char *format, ...)
         put(f, (uint8_t)text[i]);
 }
 
+static void put_name(struct file *f, const struct plan *p, size_t variable)
+{
+    if (p->points == 0)
+        put_text(f, " x%zu", variable);
+    else
+        put_text(f, " zone%zu.point%zu", variable / p->points, variable % p->points);
+}
+
 static void put_header(struct file *f, const struct plan *p, char mode)
 {
     size_t i;
@@ -242,7 +325,7 @@ static void put_header(struct file *f, const struct plan *p, char mode)
     put_text(f, ".ver DDDMP-2.0\n.mode %c\n.varinfo 4\n.nnodes %zu\n.nvars %u\n.nsuppvars %u\n", mode, p->count, p->levels, p->levels);
     put_text(f, ".orderedvarnames");
     for (i = 0; i < p->levels; i++)
-        put_text(f, " x%zu", i);
+        put_name(f, p, i);
     put_text(f, "\n.ids");
     for (i = 0; i < p->levels; i++)
         put_text(f, " %zu", i);

@@ -12,10 +12,10 @@ struct node {
 
 /*
  * A diagram as its node lines: line n is nodes[n - 1], line 1 is the terminal. Every level counts as a support variable, variable v stands
- * at level v, and has the name `xv`; root r has the name `fr`.
+ * at level v, and has the name `xv`, or where a zone has `points` points the name `zonez.pointp`; root r has the name `fr`.
  */
 struct plan {
-    uint16_t levels;
+    uint16_t levels, points;
     size_t count;
     struct node *nodes;
     size_t nroots;
@@ -33,6 +33,18 @@ struct file {
  */
 struct plan random_plan(uint16_t levels, size_t count, uint64_t seed);
 
+/*
+ * A plan as a site can have one: zones, with a level for each of their points. A zone counts where at least `asked` of its points are yes, and a
+ * round counts where at least `asked_zones` zones do. There is a root for each zone: of the first one that of a round, and of each other one what is
+ * least asked from there on.
+ */
+struct site {
+    size_t zones, points, asked_zones, asked;
+};
+
+size_t site_nodes(const struct site *s);
+struct plan site_plan(const struct site *s);
+
 /* Room for a diagram of so many lines and roots. */
 struct plan room_for_plan(uint16_t levels, size_t count, size_t nroots);
 
@@ -46,8 +58,9 @@ struct plan parity_plan(uint16_t levels);
 struct plan and_or_plan(uint16_t levels);
 
 /*
- * A diagram against the store's search: all nodes but some forty fall into one bucket, and their children are those forty, so that a search
- * has to pass the whole chain. The last `again` lines are like the oldest ones of that bucket: a search finds them at the chain's end.
+ * A diagram against the store's search: all nodes but a few fall into one bucket, and their children are those few, so that a search has to pass
+ * the whole chain. There are forty of them, and up to 190 where there are a million nodes. The last `again` lines are like the oldest ones of that
+ * bucket: a search finds them at the chain's end.
  */
 struct plan hostile_plan(size_t count, size_t again);
 

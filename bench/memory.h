@@ -1,0 +1,7 @@
+/* What memory a caller lends. */
+#ifndef MEMORY_H
+#define MEMORY_H
+
+void tell_memory(void);
+
+#endif

@@ -16,8 +16,8 @@ use header::DumpHeader;
 use header::Loaded;
 use joined::Op;
 use joins::Joined;
-use widening::OldEdge;
-use widening::OldIndex;
+use old_stores::OldEdge;
+use old_stores::OldIndex;
 use widening::Turned;
 
 // Loads a file into the store. `list` is the level list, one level of the store for each support variable. Beside the store are lent: the

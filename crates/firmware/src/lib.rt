@@ -11,8 +11,8 @@ use c_answers::WidenAnswer;
 use edges::Edge;
 use edges::Index;
 use joined::Op;
-use widening::OldEdge;
-use widening::OldIndex;
+use old_stores::OldEdge;
+use old_stores::OldIndex;
 
 // Loads a file into the store.
 #[no_mangle]

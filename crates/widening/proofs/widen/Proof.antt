@@ -1,6 +1,5 @@
 -- `widen` meets its contract: a straight line of steps, each of which does nothing more where something was refused before it.
 use mathlib.Core.Path.{ap, _∙_}
-use borrow.Author.Needs.{needs}
 use lib.ListN.{replicate}
 use Rattle.store.specs.Store.{Store, store}
 use Rattle.widened.specs.Widen.{NewLengths, answerBy}
@@ -9,13 +8,13 @@ use Rattle.widening.proofs.widen.Statement.{statement}
 use Rattle.widening.proofs.widen.Tie as tie
 
 parts-fault-requires : tie.Need-parts-fault-requires
-parts-fault-requires c κs = search needs
+parts-fault-requires c κs = tt
 
 unless-refused-requires : tie.Need-unless-refused-requires
-unless-refused-requires c κs = search needs
+unless-refused-requires c κs = tt
 
 unless-refused-requires-2 : tie.Need-unless-refused-requires-2
-unless-refused-requires-2 c κs = search needs
+unless-refused-requires-2 c κs = tt
 
 copy-store-requires : tie.Need-copy-store-requires
 copy-store-requires c κs =
@@ -23,37 +22,37 @@ copy-store-requires c κs =
     record { level-there = w .0 .0; then-there = w .0 .1; els-there = w .1 .0; next-there = w .1 .1 .0; heads-there = w .1 .1 .1 }
 
 index-unless-refused-requires : tie.Need-index-unless-refused-requires
-index-unless-refused-requires c κs = search needs
+index-unless-refused-requires c κs = tt
 
 copy-fault-requires : tie.Need-copy-fault-requires
-copy-fault-requires c κs = search needs
+copy-fault-requires c κs = tt
 
 clear-refused-requires : tie.Need-clear-refused-requires
-clear-refused-requires c κs = search needs
+clear-refused-requires c κs = tt
 
 index-unless-refused-requires-2 : tie.Need-index-unless-refused-requires-2
-index-unless-refused-requires-2 c κs = search needs
+index-unless-refused-requires-2 c κs = tt
 
 turned-of-requires : tie.Need-turned-of-requires
-turned-of-requires c κs = search needs
+turned-of-requires c κs = tt
 
 same-length : tie.Need-same-length
-same-length c = search needs
+same-length c = c .before .before .before .before .before .before .before .before .before .before .clear-refused .kept .1 .0 ∙ c .before .before .before .before .before .before .before .before .before .before .before .before .before .before .before .before .before .before .before .before .before .before .before .before .before .before .before .before .before .before .before .before .before .before .copy-store .kept .1 .1 .1 .1 .1 .1 .1 .0
 
 same-length-2 : tie.Need-same-length-2
-same-length-2 c = search needs
+same-length-2 c = c .before .before .before .before .before .before .before .before .before .before .clear-refused .kept .1 .1 .0 ∙ c .before .before .before .before .before .before .before .before .before .before .before .before .before .before .before .before .before .before .before .before .before .before .before .before .before .before .before .before .before .before .before .before .before .before .copy-store .kept .1 .1 .1 .1 .1 .1 .1 .1 .0
 
 same-length-3 : tie.Need-same-length-3
-same-length-3 c = search needs
+same-length-3 c = c .before .before .before .before .before .before .before .before .before .before .clear-refused .kept .1 .1 .1 .0 ∙ c .before .before .before .before .before .before .before .before .before .before .before .before .before .before .before .before .before .before .before .before .before .before .before .before .before .before .before .before .before .before .before .before .before .before .copy-store .kept .1 .1 .1 .1 .1 .1 .1 .1 .1 .0
 
 same-length-4 : tie.Need-same-length-4
-same-length-4 c = search needs
+same-length-4 c = c .before .before .before .before .before .before .before .before .before .before .clear-refused .kept .1 .1 .1 .1 .0 ∙ c .before .before .before .before .before .before .before .before .before .before .before .before .before .before .before .before .before .before .before .before .before .before .before .before .before .before .before .before .before .before .before .before .before .before .copy-store .kept .1 .1 .1 .1 .1 .1 .1 .1 .1 .1 .0
 
 same-length-5 : tie.Need-same-length-5
-same-length-5 c = search needs
+same-length-5 c = c .before .before .before .before .before .before .before .before .before .before .clear-refused .kept .1 .1 .1 .1 .1 .0 ∙ c .before .before .before .before .before .before .before .before .before .before .before .before .before .before .before .before .before .before .before .before .before .before .before .before .before .before .before .before .before .before .before .before .before .before .copy-store .kept .1 .1 .1 .1 .1 .1 .1 .1 .1 .1 .1 .0
 
 same-length-6 : tie.Need-same-length-6
-same-length-6 c = search needs
+same-length-6 c = c .before .before .before .before .before .before .before .before .before .before .before .before .before .before .before .before .before .before .copy-fault .kept .1 .1 .1 .1 .1 .1 .1 .1 .0
 
 returns : tie.Need-returns
 returns c =

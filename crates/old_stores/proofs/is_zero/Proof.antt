@@ -3,8 +3,8 @@ use native.Mathlib.Omega.{arith}
 use lib.IntN.{pos}
 use mir.Syntax.{w16}
 use Rattle.edges.proofs.Signed.{same-bits}
-use Rattle.widening.proofs.is_zero.Statement.{statement}
-use Rattle.widening.proofs.is_zero.Tie as tie
+use Rattle.old_stores.proofs.is_zero.Statement.{statement}
+use Rattle.old_stores.proofs.is_zero.Tie as tie
 
 returns : tie.Need-returns
 returns c = same-bits w16 (c .args .e) (pos 0) (c .fits .e) (record { sfits = omega arith })

@@ -1,8 +1,8 @@
 -- `sizes_kept` meets its contract: each return names the size that is wrong, and the last one has none.
 use native.Mathlib.Omega.{arith}
 use Rattle.store.specs.Keeps.{says-yes, says-no}
-use Rattle.widening.proofs.sizes_kept.Statement.{statement}
-use Rattle.widening.proofs.sizes_kept.Tie as tie
+use Rattle.old_stores.proofs.sizes_kept.Statement.{statement}
+use Rattle.old_stores.proofs.sizes_kept.Tie as tie
 
 returns : tie.Need-returns
 returns c = says-no (λ z. c .if1 .taken (z .then-long))

@@ -8,8 +8,8 @@ use mir.Val.{toZ, ofZ}
 use mir.ValLaws.{toZ-ofZ}
 use Rattle.edges.specs.Width.{edgeWidth}
 use Rattle.edges.proofs.Signed.{edge-fits, edge-back, abs-most}
-use Rattle.widening.proofs.wide_edge.Statement.{statement}
-use Rattle.widening.proofs.wide_edge.Tie as tie
+use Rattle.old_stores.proofs.wide_edge.Statement.{statement}
+use Rattle.old_stores.proofs.wide_edge.Tie as tie
 
 -- the number as it is read
 abbrev read : tie.Start → ℤ

@@ -5,8 +5,8 @@ use Prim.Native.Nat.{_-_}
 use native.Mathlib.Omega.{arith}
 use lib.ListN.{length}
 use Rattle.rules.proofs.Zeros.{Looked, look-start, look-first, look-more, look-bad, look-end}
-use Rattle.widening.proofs.zeros_kept.Statement.{statement}
-use Rattle.widening.proofs.zeros_kept.Tie as tie
+use Rattle.old_stores.proofs.zeros_kept.Statement.{statement}
+use Rattle.old_stores.proofs.zeros_kept.Tie as tie
 
 abbrev Inv-loop : tie.InvT-loop
 Inv-loop count level then els next all₀ used₀ all used = Looked count level then els next all used

@@ -3,9 +3,9 @@ use mathlib.Core.Path.{_∙_}
 use Prim.Native.Nat.{_-_}
 use borrow.Author.Needs.{needs}
 use lib.IntN.{pos}
-use Rattle.widening.proofs.Copying.{Copied, copied-start, copied-more, copied-end, edge-copied}
-use Rattle.widening.proofs.copy_edges.Statement.{statement}
-use Rattle.widening.proofs.copy_edges.Tie as tie
+use Rattle.old_stores.proofs.Copying.{Copied, copied-start, copied-more, copied-end, edge-copied}
+use Rattle.old_stores.proofs.copy_edges.Statement.{statement}
+use Rattle.old_stores.proofs.copy_edges.Tie as tie
 
 abbrev Inv-loop : tie.InvT-loop
 Inv-loop n from to₀ i₀ to i = Copied from to₀ to n i

@@ -2,9 +2,9 @@
 use mathlib.Core.Path.{sym, _∙_}
 use borrow.Author.Needs.{needs}
 use borrow.Author.Tests.{not-true, not-false}
-use Rattle.widening.proofs.Turning.{judged-short, judged-broken, judged-none, zeros-slots, slots-zeros}
-use Rattle.widening.proofs.parts_fault.Statement.{statement}
-use Rattle.widening.proofs.parts_fault.Tie as tie
+use Rattle.old_stores.proofs.Judging.{judged-short, judged-broken, judged-none, zeros-slots, slots-zeros}
+use Rattle.old_stores.proofs.parts_fault.Statement.{statement}
+use Rattle.old_stores.proofs.parts_fault.Tie as tie
 
 lists-take-requires : tie.Need-lists-take-requires
 lists-take-requires c κs = search needs

@@ -8,8 +8,8 @@ use mir.Syntax.{w16}
 use mir.ValLaws.{toZ-ofZ}
 use Rattle.edges.specs.Edge.{eqZ}
 use Rattle.rules.proofs.Zeros.{slot-decides}
-use Rattle.widening.proofs.slot_zero.Statement.{statement}
-use Rattle.widening.proofs.slot_zero.Tie as tie
+use Rattle.old_stores.proofs.slot_zero.Statement.{statement}
+use Rattle.old_stores.proofs.slot_zero.Tie as tie
 
 sub-i : tie.Need-sub-i
 sub-i c = search needs

@@ -2,9 +2,9 @@
 use mathlib.Core.Path.{refl, _∙_}
 use Prim.Native.Nat.{_-_}
 use borrow.Author.Needs.{needs}
-use Rattle.widening.proofs.Copying.{Copied, copied-start, copied-more, copied-end}
-use Rattle.widening.proofs.copy_levels.Statement.{statement}
-use Rattle.widening.proofs.copy_levels.Tie as tie
+use Rattle.old_stores.proofs.Copying.{Copied, copied-start, copied-more, copied-end}
+use Rattle.old_stores.proofs.copy_levels.Statement.{statement}
+use Rattle.old_stores.proofs.copy_levels.Tie as tie
 
 abbrev Inv-loop : tie.InvT-loop
 Inv-loop n from to₀ i₀ to i = Copied from to₀ to n i

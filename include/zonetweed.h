@@ -67,7 +67,7 @@
  *   it. Turns of one old store are independent as well. Work and cache are written by each call, so calls at the same time are lent different ones.
  *
  * Stack
- *   The library takes no memory but the stack's: about 16 KB for a load, 24 KB for an export, 7 KB for an evaluation or an example, 97 KB for a
+ *   The library takes no memory but the stack's: about 20 KB for a load, 36 KB for an export, 12 KB for an evaluation or an example, 177 KB for a
  *   join, whatever the parts hold and however long they are. These were measured on x86-64, and are not proved.
  */
 #ifndef ZONETWEED_H

@@ -7,27 +7,19 @@
 
 /* Work */
 
-/* Slots of a store up to which nodes are sought along their chains: they take seconds at ten times as many. */
-enum { MOST_IN_CHAINS = 100000 };
-
 size_t work_for(size_t nodes)
 {
     static size_t calls;
     size_t numbers = nodes + 1, lengths[7];
 
     lengths[0] = ZT_WORK_ENTRIES(nodes);
-    lengths[1] = 5 * numbers;
+    lengths[1] = 3 * numbers - 1;
     lengths[2] = 3 * numbers;
     lengths[3] = ZT_WORK_ENTRIES(nodes) - 1;
     lengths[4] = ZT_WORK_ENTRIES(nodes) + 1;
-    lengths[5] = 3 * numbers - 1;
-    lengths[6] = 1;
-    return lengths[calls++ % (nodes > MOST_IN_CHAINS ? 5 : 7)];
-}
-
-int without_work_too(const struct store *s)
-{
-    return s->level_len <= MOST_IN_CHAINS;
+    lengths[5] = 1;
+    lengths[6] = 5 * numbers;
+    return lengths[calls++ % 7];
 }
 
 size_t most_nodes(const struct store *s)
@@ -195,15 +187,21 @@ static void load_without_work(const struct load *c, const struct store *s)
     give_back(other.parts, LOAD_PARTS);
 }
 
+/* Very many nodes, each of which is sought along a long chain where there is no work, take too long. */
+static int many_lines(const struct load *c, const struct store *s)
+{
+    return c->file_len > 2000000 && s->level_len > 100000;
+}
+
 void call_load(struct load *c, struct store *s)
 {
-    c->lens[LOAD_WORK] = work_for(most_nodes(s));
+    c->lens[LOAD_WORK] = many_lines(c, s) ? ZT_WORK_ENTRIES(most_nodes(s)) : work_for(most_nodes(s));
     lend_parts(c, s);
     c->answer = load_with(c->parts, s->levels);
     holds(all_guards_hold(c->parts, LOAD_PARTS), "a load writes nothing beside its parts");
     holds(all_as_before(c->parts, LOAD_FILE, LOAD_LIST), "a load leaves the file and the level list as they were");
     holds(all_zeros(c->parts, LOAD_EDGES, LOAD_WORK), "scratch and work end as zeros");
-    if (without_work_too(s))
+    if (!many_lines(c, s))
         load_without_work(c, s);
     if (c->answer.refusal != 0)
         check_refused(c);
@@ -246,7 +244,7 @@ struct zt_evaluate_answer call_evaluate(const struct store *s, zt_edge root, con
     p[EVALUATE_SETTING] = lend(setting, setting_len, sizeof *setting);
     p[EVALUATE_WORK] = lend_room(work_for(nodes_there(s)), sizeof(zt_index));
     a = evaluate_with(s, root, p, &p[EVALUATE_WORK]);
-    other = without_work_too(s) ? evaluate_with(s, root, p, &none) : a;
+    other = evaluate_with(s, root, p, &none);
     holds(all_guards_hold(p, EVALUATE_PARTS) && guards_hold(&none), "an evaluation writes nothing beside its parts");
     holds(all_as_before(p, 0, EVALUATE_SETTING), "an evaluation leaves the store and the setting as they were");
     holds(all_zeros(p, EVALUATE_WORK, EVALUATE_WORK), "work ends as zeros");
@@ -350,8 +348,7 @@ void call_export(struct export *c, const struct store *s)
 
     lend_export(c, s, work_for(nodes_there(s)), p);
     c->answer = export_with(c, s, p);
-    if (without_work_too(s))
-        export_without_work(c, s, p);
+    export_without_work(c, s, p);
     holds(all_guards_hold(p, EXPORT_PARTS), "an export writes nothing beside its parts");
     holds(all_as_before(p, 0, EXPORT_ROOTLENS), "an export leaves what it reads as it was");
     holds(all_zeros(p, EXPORT_SLOTS, EXPORT_WORK), "marks and work end as zeros");

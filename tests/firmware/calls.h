@@ -2,7 +2,7 @@
  * The calls, each with all that holds of every call: guards stay, what is only read stays, scratch, marks, work and cache end as zeros, a
  * refusal leaves zeros in every output and the store as it was, an accepted load or join leaves a store that keeps the rules and has only
  * grown, and an example is answered as wanted. Each is made once without work and once with some, of a length that changes from call to call:
- * both give the same. A join is made with caches of several lengths likewise. Stores of very many slots are lent work always.
+ * both give the same. A join is made with caches of several lengths likewise. Only a load of very many lines is always lent enough work.
  */
 #ifndef CALLS_H
 #define CALLS_H
@@ -14,18 +14,13 @@
 #include "stores.h"
 #include "zonetweed.h"
 
-/*
- * The length of the work for a call, where the store may have so many nodes after it. It is around one that matters, from none to more than
- * enough, another one from call to call. For very many nodes it is never so short that they are sought along their chains, which takes too long.
- */
+/* The length of the work for a call, where the store may have so many nodes after it. It is around one that matters, from none to more than
+   enough, another one from call to call. */
 size_t work_for(size_t nodes);
 
 /* How many nodes a load or a join may leave in a store, and how many another call may find there, whatever the count says. */
 size_t most_nodes(const struct store *s);
 size_t nodes_there(const struct store *s);
-
-/* Is a store small enough for calls without work? */
-int without_work_too(const struct store *s);
 
 /* The lists of a store as parts. */
 enum store_part { STORE_LEVEL, STORE_THEN, STORE_ELS, STORE_NEXT, STORE_HEADS, STORE_PARTS };

@@ -76,8 +76,7 @@ void call_example(struct example *c, const struct store *s)
 
     lend_example(c, s, work_for(nodes_there(s)), p);
     c->answer = example_with(c, s, p);
-    if (without_work_too(s))
-        example_without_work(c, s, p);
+    example_without_work(c, s, p);
     holds(all_guards_hold(p, EXAMPLE_PARTS), "an example writes nothing beside its parts");
     holds(all_as_before(p, 0, STORE_HEADS), "an example leaves the store as it was");
     holds(all_zeros(p, EXAMPLE_WORK, EXAMPLE_WORK), "work ends as zeros");

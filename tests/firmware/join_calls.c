@@ -123,8 +123,7 @@ struct zt_join_answer call_join(struct store *s, enum operation op, zt_edge left
     c.left = left;
     c.right = right;
     join_with(&c, s, cache_in_turn(), work_for(most_nodes(s)));
-    if (without_work_too(s))
-        join_otherwise(&c, s, 0, 0);
+    join_otherwise(&c, s, 0, 0);
     for (i = 0; every_cache && i < CACHE_LENGTHS; i++)
         join_otherwise(&c, s, cache_lengths[i], work_for(most_nodes(s)));
     if (c.answer.refusal == 0)
@@ -152,7 +151,7 @@ struct zt_join_answer call_opposite(const struct store *s, zt_edge root)
     lend_store(p, s);
     p[OPPOSITE_WORK] = lend_room(work_for(nodes_there(s)), sizeof(zt_index));
     a = opposite_with(s, root, p, &p[OPPOSITE_WORK]);
-    other = without_work_too(s) ? opposite_with(s, root, p, &none) : a;
+    other = opposite_with(s, root, p, &none);
     holds(all_guards_hold(p, OPPOSITE_PARTS) && guards_hold(&none), "an opposite writes nothing beside its parts");
     holds(all_as_before(p, 0, STORE_HEADS), "an opposite leaves the store as it was");
     holds(all_zeros(p, OPPOSITE_WORK, OPPOSITE_WORK), "work ends as zeros");

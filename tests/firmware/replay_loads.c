@@ -54,13 +54,14 @@ static struct store store_with(struct bytes *answer, const struct store *before,
 /* The answers of the roots, if there are any, in the form of `load.tsv`. 16 numbers hold a root's in their bits, lowest first. */
 static char *answers_in(struct bytes *answer, size_t roots, size_t levels)
 {
-    size_t settings = (size_t)1 << levels, r, k;
+    size_t settings, r, k;
     char *text, *at;
 
     if (answer->len == 0)
         return NULL;
     if (levels > MOST_TABLE_LEVELS)
         stop("answers are stored for more levels than 8");
+    settings = (size_t)1 << levels;
     text = at = room(roots * (settings + 1) + 1);
     for (r = 0; r < roots; r++) {
         uint16_t *numbers = take_list(answer, TABLE_NUMBERS, TABLE_NUMBERS);

@@ -27,11 +27,11 @@ The files:
 
 All numbers are of 16 bits, lowest byte first. A case starts with 20 of them: the store's level count and count; the lengths of its lists
 level, then, else, next and of the bucket heads; the lengths of the level list, of the scratch lists edges and seats (65535 stands for
-1,000,000), of the variable lists, of the root lists; how many slots and how many heads are given; then the lengths of the file, of what is given and of the answer,
-two numbers each, lower first. The file follows; then what is given: the four slot lists as far as they are given, the heads, the level
-list. Then comes the answer: a refusal and its line; or 0, 0, how many roots there are, the store's count, the roots, the level, then and
-else of the slots up to the count, each list for itself, and, where they are known, 16 numbers for each root that hold its answers in
-their bits, lowest first.
+1,000,000), of the variable lists, of the root lists; how many slots and how many heads are given; then the lengths of the file, of what
+is given and of the answer, two numbers each, lower first. The file follows; then what is given: the four slot lists as far as they are
+given, the heads, the level list. Then comes the answer: a refusal and its line; or 0, 0, how many roots there are, the store's count,
+the roots, the level, then and else of the slots up to the count, each list for itself, and, where they are known, 16 numbers for each
+root that hold its answers in their bits, lowest first.
 """
 import os
 import random

@@ -732,11 +732,8 @@ static void tell_without(void)
 
     printf("\nWithout work, against the same with it\n  %-14s %-30s %11s %11s %8s\n", "file", "", "us", "with, us", "times");
     for (i = 0; i < SUBJECTS; i++) {
-        /* a load of the largest would take a minute */
-        if (subjects[i].nodes <= kinds[LARGER].nodes) {
-            load_without(&subjects[i], TEXT);
-            load_without(&subjects[i], BINARY);
-        }
+        load_without(&subjects[i], TEXT);
+        load_without(&subjects[i], BINARY);
         check_without(&subjects[i]);
     }
 }

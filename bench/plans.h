@@ -59,7 +59,7 @@ struct plan and_or_plan(uint16_t levels);
 
 /*
  * A diagram against the store's search: all nodes but a few fall into one bucket, and their children are those few, so that a search has to pass
- * the whole chain. There are forty of them, and up to 190 where there are a million nodes. The last `again` lines are like the oldest ones of that
+ * the whole chain. There are forty of them, and some 190 where there are a million nodes. The last `again` lines are like the oldest ones of that
  * bucket: a search finds them at the chain's end.
  */
 struct plan hostile_plan(size_t count, size_t again);

@@ -24,7 +24,7 @@ pub record Accepts (m : Limits) (c : Load) (σ : Store) : Type 0 where
   pub roots-long : Each (λ n. rootLimit ≤ n) (rootLists (c .lent))
   -- '3 the store breaks its rules'
   pub rules : Rules m σ
-  -- '19 for the input's length': 'input 16,777,216 bytes'
+  -- '19 for the input's length': 'input [the limit] bytes'
   pub short : length (c .file) ≤ m .input
   -- 'The file's writer, line by line': the input has `.nodes`, and each line before it has a known key and a sound value; what follows starts
   -- at a position, after so many lines

@@ -78,7 +78,7 @@ lentFault l = head.listsFault (variableLists l) (rootLists l)
 abbrev pub storeFault : Limits → Store → ℕ
 storeFault m σ = unless (keeps m σ) 3
 
--- '19 for the input's length': 'input 16,777,216 bytes (19, line 0, before all reading)'
+-- '19 for the input's length': 'input [the limit] bytes (19, line 0, before all reading)'
 abbrev pub inputFault : Limits → List ℕ → ℕ
 inputFault m f = head.lengthFault m (length f)
 

@@ -80,7 +80,7 @@ atLeast least (n ∷ l) = leb least n && atLeast least l
 unfoldable pub listsFault : List ℕ → List ℕ → ℕ
 listsFault vars roots = unless (atLeast varLimit vars && atLeast rootLimit roots) 1
 
--- 'input 16,777,216 bytes (19, line 0, before all reading)', by the input's length; 0 where it isn't too long
+-- 'input [the limit] bytes (19, line 0, before all reading)', by the input's length; 0 where it isn't too long
 unfoldable pub lengthFault : Limits → ℕ → ℕ
 lengthFault m n = when (ltb (m .input) n) 19
 

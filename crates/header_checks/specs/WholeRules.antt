@@ -29,7 +29,7 @@ nameBySupp f t i = getD (suppvarnamesIn f t) i emptyName
 pub record WholeRules (m : Limits) (f : List ℕ) (t : List Span) : Type 0 where
   -- '19 for `.nvars`': over its limit, '`.nvars` 4,096'
   pub few-vars : nvarsIn f t ≤ varLimit
-  -- 'then `.nnodes`': over its limit, '`.nnodes` 32,767'
+  -- 'then `.nnodes`': over its limit, '`.nnodes` [the limit]'
   pub few-nodes : nnodesIn f t ≤ m .nodes
   -- '20 `.nsuppvars` above `.nvars`'
   pub few-support : nsuppvarsIn f t ≤ nvarsIn f t

@@ -1,6 +1,6 @@
 -- Room for a file's node lines: they are all made exactly where the nodes that they need have a slot each, and are no more than the limit.
 -- They are made twice, in the store as it is and in a roomier one. While the first has room both find and make the same nodes. Document 01,
--- 'Whoever filled the store': '40° a line needs a new node and every slot lent, or 32,767, is used'.
+-- 'Whoever filled the store': '40° a line needs a new node and every slot lent, or [the limit], is used'.
 use mathlib.Core.Path.{_≡_, refl, sym, ap}
 use mathlib.Core.Logic.{_↔_}
 use mathlib.Core.List.{List, [], _∷_, _++_}

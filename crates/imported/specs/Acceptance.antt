@@ -23,7 +23,7 @@ pub record StoreRoom (m : Limits) (levels : List ℕ) (σ : Store) (ls : List Li
   pub slots : countNeeded levels σ ls ≤ length (σ .level)
   pub limit : countNeeded levels σ ls ≤ m .nodes
 
--- '40° a line needs a new node and every slot lent, or 32,767, is used'
+-- '40° a line needs a new node and every slot lent, or [the limit], is used'
 abbrev pub Crowded : Limits → List ℕ → Store → List Line → Type 0
 Crowded m levels σ ls = (length (σ .level) < countNeeded levels σ ls) ⊎ (m .nodes < countNeeded levels σ ls)
 

@@ -1,5 +1,5 @@
 -- Node lines made into the store, one after the other. Document 01, 'Store and meaning', and 'Whoever filled the store': '40° a line needs a
--- new node and every slot lent, or 32,767, is used'.
+-- new node and every slot lent, or [the limit], is used'.
 use Prim.Native.Nat.{ℕ, _+_, _-_, _≤_, _<_}
 use mathlib.Core.Path.{_≡_}
 use mathlib.Core.Bool.{true}

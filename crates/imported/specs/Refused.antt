@@ -14,7 +14,7 @@ use Rattle.imported.specs.Import.{Setup, linesIn, endsWell}
 use Rattle.imported.specs.Acceptance.{StoreRoom, Crowded}
 
 pub data NodesRefused (m : Limits) (u : Setup) (σ : Store) (f : List ℕ) (at : ℕ) : ℕ → ℕ → Type 0 where
-  -- '40° a line needs a new node and every slot lent, or 32,767, is used'
+  -- '40° a line needs a new node and every slot lent, or [the limit], is used'
   crowded : Crowded m (u .list) σ (linesIn u f at .lines) → NodesRefused m u σ f at 40 0
   -- '30° ends early', in text; in binary it is one of the numbers below
   early : {n : ℕ} → StoreRoom m (u .list) σ (linesIn u f at .lines) → u .ascii ≡ true → linesIn u f at .end ≡ stopped 30 n

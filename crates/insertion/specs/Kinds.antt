@@ -5,7 +5,7 @@ use Rattle.codes.specs.Answer.{Read, value, refused}
 use Rattle.insertion.specs.declared.Making.{Making}
 use Rattle.insertion.specs.declared.Making.the-variants as making
 
--- 'a line needs a new node and every slot lent, or 32,767, is used'
+-- 'a line needs a new node and every slot lent, or [the limit], is used'
 abbrev pub ofMaking : Making → Read ℤ
 ofMaking (making.Node a) = value a
 ofMaking making.Full = refused 40

@@ -1,4 +1,4 @@
--- How many nodes a join needs. Document 02, request 2: '40 only where those nodes don't fit'; document 01: '40 .. every slot lent, or 32,767, is
+-- How many nodes a join needs. Document 02, request 2: '40 only where those nodes don't fit'; document 01: '40 .. every slot lent, or [the limit], is
 -- used'.
 use Prim.Native.Nat.{ℕ, zero, suc, _+_, _≤_}
 use lib.ListN.{length}

@@ -28,7 +28,7 @@ ownLevels σ roots = supportOf σ (numbering σ roots)
 -- The file f is accepted, as header and as nodes, and gives back what was exported: into its store, at its own levels, with no new node, the
 -- same roots, signs included; of the header what `HeaderBack` says. The roots are read into a lent list of a length.
 pub record ReadsBack (m : Limits) (s : Settings) (σ : Store) (roots : List ℤ) (order : List ℕ) (p : Lent) (f : List ℕ) (lent : ℕ) : Type 0 where
-  -- '19 .. input 16,777,216 bytes' isn't met
+  -- '19 .. input [the limit] bytes' isn't met
   pub short : length f ≤ m .input
   pub header-back : HeaderBack m (headingOf s σ roots order p) f
   -- 'at its own levels': the levels of the support are a level list that nothing is refused of

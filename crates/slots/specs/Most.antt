@@ -4,6 +4,6 @@ use mathlib.Core.Bool.{cond}
 use lib.Dec.{ltb}
 use Rattle.codes.specs.Limits.{nodeLimit}
 
--- 'every slot lent, or 32,767': the smaller of the two
+-- 'every slot lent, or [the limit]': the smaller of the two
 abbrev pub mostNodes : ℕ → ℕ
 mostNodes len = cond (ltb len nodeLimit) len nodeLimit

@@ -24,7 +24,7 @@ use Rattle.store.proofs.Growth.{grows-refl, grow-depth, grow-answer}
 use Rattle.store.proofs.Find.{Holds, Absent, find-none, find-some, absent-find}
 use Rattle.store.proofs.Added.{added-grows, added-holds, added-count, added-length, added-rules}
 
--- is there room? '40 .. every slot lent, or 32,767, is used'
+-- is there room? '40 .. every slot lent, or [the limit], is used'
 pub room-true : (m : Limits) (σ : Store) → roomFor m σ ≡ true → (σ .count < length (σ .level)) × (σ .count < m .nodes)
 room-true m σ h =
     let p = both (ltb (σ .count) (length (σ .level))) (ltb (σ .count) (m .nodes)) h in
@@ -203,7 +203,7 @@ module _ (m : Limits) (σ : Store) (l : ℕ) (t e : ℤ) where
           (insert-gives m σ l (negℤ t) (negℤ e) R (opposite-fits K (eqZ-false t e p) q))
       go false p false q = insert-gives m σ l t e R (plain-fits K (eqZ-false t e p) q)
 
-  -- '40 .. a line needs a new node and every slot lent, or 32,767, is used'
+  -- '40 .. a line needs a new node and every slot lent, or [the limit], is used'
   pub record Unmade : Type 0 where
     pub differ : t ≢ e
     pub absent : Absent σ l (upright t t) (upright t e)

@@ -1,5 +1,5 @@
 -- Making nodes in a store, and in a roomier one beside it. While the first has room both find and make the same nodes; where it has none left the
--- other's count is past its slots or its limit. Document 01: '40 .. every slot lent, or 32,767, is used.'
+-- other's count is past its slots or its limit. Document 01: '40 .. every slot lent, or [the limit], is used.'
 use mathlib.Core.Path.{_≡_, refl, sym, ap, _∙_}
 use mathlib.Core.Logic.{_⊎_, inl, inr}
 use mathlib.Core.Bool.{Bool, true, false, cond}

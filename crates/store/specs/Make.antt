@@ -36,7 +36,7 @@ added σ l t e = record {
   heads = set (σ .heads) (bucketOf l t e) (σ .count + 1);
 }
 
--- the edge, or '40 .. a line needs a new node and every slot lent, or 32,767, is used', and the store afterwards
+-- the edge, or '40 .. a line needs a new node and every slot lent, or [the limit], is used', and the store afterwards
 pub record Made : Type 0 where
   pub answer : Read ℤ
   pub after : Store

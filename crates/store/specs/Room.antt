@@ -1,5 +1,5 @@
 -- A store with slots to spare, and limits to spare: what making nodes takes where nothing stands in its way. Document 01: '40 .. every slot lent, or
--- 32,767, is used.'
+-- [the limit], is used.'
 use Prim.Native.Nat.{ℕ, _+_}
 use mathlib.Core.List.{_++_}
 use lib.ListN.{replicate}

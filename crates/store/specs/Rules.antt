@@ -16,7 +16,7 @@ pub record Sizes (m : Limits) (σ : Store) : Type 0 where
   pub then-long : length (σ .then) ≡ length (σ .level)
   pub els-long : length (σ .els) ≡ length (σ .level)
   pub next-long : length (σ .next) ≡ length (σ .level)
-  -- 'the count lies from 1 to that length and 32,767'
+  -- 'the count lies from 1 to that length and [the limit]'
   pub count-some : 1 ≤ σ .count
   pub count-slots : σ .count ≤ length (σ .level)
   pub count-limit : σ .count ≤ m .nodes
@@ -58,7 +58,7 @@ pub record Nodes (σ : Store) : Type 0 where
   -- 'no two nodes alike'
   pub alone : (m n : ℕ) → 2 ≤ m → m ≤ σ .count → 2 ≤ n → n ≤ σ .count → AlikeNodes σ m n → m ≡ n
 
--- '256 buckets: level + 3 × then + 5 × else, where the sum wraps at 65,536, remainder by 256'
+-- '256 buckets: level + 3 × then + 5 × else, where the sum wraps [as `bucketOf` says], remainder by 256'
 unfoldable pub bucket : Store → ℕ → ℕ
 bucket σ n = bucketOf (levelAt σ n) (thenAt σ n) (elseAt σ n)
 

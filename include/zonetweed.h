@@ -67,8 +67,8 @@
  *   it. Turns of one old store are independent as well. Work and cache are written by each call, so calls at the same time are lent different ones.
  *
  * Stack
- *   The library takes no memory but the stack's: about 20 KB for a load, 36 KB for an export, 12 KB for an evaluation or an example, 177 KB for a
- *   join, whatever the parts hold and however long they are. These were measured on x86-64, and are not proved.
+ *   The library takes no memory but the stack's: about 20 KB for a load, 36 KB for an export, 12 KB for an evaluation, an example or a turn, 177 KB
+ *   for a join, whatever the parts hold and however long they are. These were measured on x86-64, and are not proved.
  */
 #ifndef ZONETWEED_H
 #define ZONETWEED_H
@@ -212,6 +212,12 @@ struct zt_example_answer {
     size_t line;     /* always 0 */
 };
 
+/* The answer of a turn: the new store itself lies in the parts that were lent for it. */
+struct zt_widen_answer {
+    uint8_t refusal; /* the number of the refusal, 0 for none */
+    size_t line;     /* always 0 */
+};
+
 /* The answer of an export. */
 struct zt_export_answer {
     uint8_t refusal; /* the number of the refusal, 0 for none */
@@ -224,12 +230,6 @@ struct zt_join_answer {
     uint8_t refusal; /* the number of the refusal, 0 for none */
     size_t line;     /* always 0 */
     zt_edge root;    /* the root; 0 on a refusal */
-};
-
-/* The answer of a turn: the new store itself lies in the parts that were lent for it. */
-struct zt_widen_answer {
-    uint8_t refusal; /* the number of the refusal, 0 for none */
-    size_t line;     /* always 0 */
 };
 
 /*

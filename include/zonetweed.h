@@ -123,7 +123,7 @@ extern "C" {
  * used; they are cleared all the same.
  */
 #define ZT_CACHE_ENTRIES(results) (4 * (size_t)(results))
-#define ZT_OWN_CACHE_ENTRIES 8192
+#define ZT_OWN_CACHE_ENTRIES 16384
 
 /* An edge, and the number of a node. */
 typedef int32_t zt_edge;

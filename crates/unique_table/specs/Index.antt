@@ -5,9 +5,9 @@ use Prim.Native.Nat.{ℕ, _+_, _-_, _*_, _/_, _%_, _^_, _≤_, _<_}
 use mathlib.Core.Path.{_≡_}
 use mathlib.Core.Bool.{true, cond}
 use mathlib.Core.List.{List}
-use lib.Dec.{ltb}
+use lib.Dec.{ltb, leb}
 use lib.ListN.{length, getD}
-use lib.IntN.{ℤ}
+use lib.IntN.{ℤ, natAbs}
 use Rattle.edges.specs.Width.{edgeBits}
 use Rattle.edges.specs.Edge.{bits}
 use Rattle.store.specs.Store.{Store, levelAt, thenAt, elseAt}
@@ -27,9 +27,14 @@ keyPart e = bits edgeBits e % 2 ^ 24
 unfoldable pub nodeKey : ℕ → ℤ → ℤ → ℕ
 nodeKey l t e = keyPart e + 2 ^ 24 * keyPart t + 2 ^ 48 * l
 
--- the head where a search for them starts: of a mix of the three the upper 30 bits of 32, scaled to the width
+-- a mix of the three, of which the upper 30 bits of 32 count
+unfoldable pub mixOf : ℕ → ℤ → ℤ → ℕ
+mixOf l t e = (l * 2654435769 + keyPart t * 1315298017 + keyPart e * 628009085) % 2 ^ 32 / 4
+
+-- the head where a search for them starts: the mix, scaled to the width; in a wide index near that of nodes with near children
 unfoldable pub headEntry : ℕ → ℕ → ℤ → ℤ → ℕ
-headEntry width l t e = (l * 2654435769 + keyPart t * 1315298017 + keyPart e * 628009085) % 2 ^ 32 / 4 * width / 2 ^ 30
+headEntry width l t e =
+    cond (leb width 65536) (mixOf l t e * width / 2 ^ 30) ((2 * (natAbs t + natAbs e) + mixOf l t e / 2 ^ 20) % width)
 
 -- the entry where a search with key k goes on from node n
 abbrev pub onFrom : ℕ → ℕ → ℕ → ℕ

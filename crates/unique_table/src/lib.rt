@@ -4,17 +4,21 @@
 ghost use mathlib.Core.Path.{_≡_};
 ghost use mathlib.Core.Bool.{true};
 ghost use Prim.Native.Nat.{_+_, _*_, _^_, _≤_, _<_};
+ghost use lib.IntN.{natAbs};
 ghost use lib.ListN.{length, replicate};
 ghost use Rattle.edges.specs.Width.{edgeLimit};
 ghost use Rattle.store.specs.Store.{slots};
 ghost use Rattle.store.specs.Keeps.{Decides};
 ghost use Rattle.store.specs.Make.{holds};
-ghost use Rattle.unique_table.specs.Index.{widthFor, keyPart, nodeKey, headEntry, Indexed, Sought, AllAlone};
+ghost use Rattle.unique_table.specs.Index.{widthFor, keyPart, nodeKey, mixOf, headEntry, Indexed, Sought, AllAlone};
 use edges::Edge;
 use edges::Index;
 
 // So many entries of work for each number from 0 to n are enough for the index of n nodes: with more it would not be faster.
 pub const ENTRIES: usize = 6;
+
+// An index with up to so many heads is narrow: it lies in the cache of the machine, and its heads are spread over it.
+const NARROW: usize = 65536;
 
 // How many heads the index of n nodes has in work of this length, beside two entries for each number from 0 to n: what is left, up to four for
 // each of them, or 0 where less than one for each is. With more heads fewer nodes meet at one.
@@ -45,15 +49,33 @@ fn key(l: u16, t: Edge, e: Edge) -> u64
     key_part(e) + 16777216 * key_part(t) + 281474976710656 * l as u64
 }
 
-// The head for them. The numbers that they are multiplied by are odd and have no pattern, and of the sum's lower 32 bits the upper 30 count, so
-// that nodes that differ little get heads far apart, small numbers too.
+// A mix of them, of 30 bits. The numbers that they are multiplied by are odd and have no pattern, and of the sum's lower 32 bits the upper 30 count,
+// so that nodes that differ little get mixes far apart, small numbers too.
+fn mix(l: u16, t: Edge, e: Edge) -> u64
+    ensures { λ r. ⌜ r ≡ mixOf l t e ⌝ }
+{
+    let mixed = l as u64 * 2654435769 + key_part(t) * 1315298017 + key_part(e) * 628009085;
+    mixed % 4294967296 / 4
+}
+
+// The numbers of both children, together.
+fn children(t: Edge, e: Edge) -> usize
+    ensures { λ r. ⌜ (r ≡ natAbs t + natAbs e) × (r ≤ 2 ^ 33) ⌝ }
+{
+    edges::magnitude(t) as usize + edges::magnitude(e) as usize
+}
+
+// The head for them. In a wide index nodes whose children are near have heads that are near, some thousand entries apart: nodes that are made one
+// after the other mostly are such, and a step to a head far off waits for the memory.
 fn head(width: usize, l: u16, t: Edge, e: Edge) -> usize
     requires { ⌜ (1 ≤ width) × (width ≤ 2 ^ 34) ⌝ }
     ensures { λ r. ⌜ r ≡ headEntry width l t e ⌝ }
 {
-    let mixed = l as u64 * 2654435769 + key_part(t) * 1315298017 + key_part(e) * 628009085;
-    let part = mixed % 4294967296 / 4;
-    (part * width as u64 / 1073741824) as usize
+    let part = mix(l, t, e);
+    if width <= NARROW {
+        return (part * width as u64 / 1073741824) as usize;
+    }
+    (2 * children(t, e) + (part / 1048576) as usize) % width
 }
 
 // Does node n have this level, then and else? That is a matter of three lists only.

@@ -1,6 +1,5 @@
 -- Calls under limits that allow more, in a store with the same nodes and other slots. Document 02, request 5: 'Roots taken before and after the turn
 -- compare as if read into the wide store from its start.'
-use Prim.Native.Nat.{ℕ}
 use mathlib.Core.Path.{_≡_}
 use mathlib.Core.List.{List, [], _∷_}
 use Rattle.codes.specs.Limits.{Limits}

@@ -1,5 +1,5 @@
 -- The limits of old stores, and of the calls on them. Document 02, request 5: 'judged by the old rules'.
-use Prim.Native.Nat.{ℕ, _≤_}
+use Prim.Native.Nat.{_≤_}
 use Rattle.codes.specs.Limits.{Limits, varLimit}
 
 -- document 01: '`.nnodes` 32,767', 'input 16,777,216 bytes'

@@ -27,7 +27,7 @@ static struct goal goals[GOALS] = {
     {"a join at least as fast as BuDDy's, the check of the store apart", 1, 1, 0, "", 0},
     {"eightfold work of a join in at most tenfold time", 10, 0, 0, "", 0},
     {"a join of plans of sixty levels with no cache lent in at most 10 ms", 10, 0, 0, "", 0},
-    {"a join on at most 160 KB of stack", 160, 0, 0, "", 0},
+    {"a join on at most 128 KB of stack", 128, 0, 0, "", 0},
     {"the walk of an example within twice the time of an evaluation's, per level", 2, 0, 0, "", 0},
     {"an example on at most 16 KB of stack", 16, 0, 0, "", 0},
     {"a turn on at most 16 KB", 16, 0, 0, "", 0},

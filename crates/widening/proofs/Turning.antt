@@ -13,10 +13,10 @@ use Rattle.codes.specs.Lent.{laid}
 use Rattle.codes.proofs.Lent.{length-laid}
 use Rattle.codes.specs.Limits.{limits}
 use Rattle.store.specs.Store.{Store, store}
-use Rattle.store.specs.Rules.{Sizes, Zero, Zeros, Rules}
-use Rattle.store.specs.Keeps.{keeps, keeps-true, keeps-false, is-keeps, says-no}
+use Rattle.store.specs.Rules.{Sizes, Zeros}
+use Rattle.store.specs.Keeps.{keeps, keeps-true, keeps-false, is-keeps}
 use Rattle.widened.specs.OldLimits.{oldLimits}
-use Rattle.widened.specs.Widen.{NewLengths, Takes, takes, widenFault, widened, zeroed, leftBy, widenOf}
+use Rattle.widened.specs.Widen.{NewLengths, takes, widenFault, widened, zeroed, leftBy, widenOf}
 use Rattle.old_stores.specs.Promises.{Judged}
 use Rattle.old_stores.proofs.Judging.{fault-broken}
 use Rattle.widening.specs.Course.{copyFault, keptUnless}

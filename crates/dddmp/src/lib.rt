@@ -284,7 +284,8 @@ pub fn widen(
     heads: &mut [Index],
     work: &mut [Index],
 ) -> Turned
-    ensures { λ r. ⌜ WidenPromise levels «old_count» «old_level» «old_then» «old_els» «old_next» «old_heads» count level then els next heads work r ⌝ }
+    ensures { λ r. ⌜ WidenPromise levels «old_count» «old_level» «old_then» «old_els» «old_next» «old_heads»
+        count level then els next heads work r ⌝ }
 {
     widening::widen(
         levels,

@@ -327,7 +327,8 @@ pub extern "C" fn zt2_widen(
     heads: &mut [Index],
     work: &mut [Index],
 ) -> WidenAnswer
-    ensures { λ r. ⌜ ZtWidenPromise levels «old_count» «old_level» «old_then» «old_els» «old_next» «old_heads» count level then els next heads work r ⌝ }
+    ensures { λ r. ⌜ ZtWidenPromise levels «old_count» «old_level» «old_then» «old_els» «old_next» «old_heads»
+        count level then els next heads work r ⌝ }
 {
     c_answers::widen_answer(dddmp::widen(
         levels,

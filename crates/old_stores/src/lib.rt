@@ -144,7 +144,8 @@ pub fn parts_fault(
     new_next: usize,
     new_heads: usize,
 ) -> u8
-    ensures { λ r. ⌜ Judged (lengths «new_level» «new_then» «new_els» «new_next» «new_heads») (oldStore levels count level then els next heads) r ⌝ }
+    ensures { λ r. ⌜ Judged (lengths «new_level» «new_then» «new_els» «new_next» «new_heads»)
+        (oldStore levels count level then els next heads) r ⌝ }
 {
     if !lists_take(
         count as usize,

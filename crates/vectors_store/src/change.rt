@@ -24,8 +24,8 @@ const ROOM: usize = 131500;
 // The length of work that is enough for the index of every store.
 const WORK: usize = 98304;
 
-// Zeros for all lists, for the edges or the indices of one, for work, and for the bytes of a stretch. The `ensures` give only the lengths: a function that has such an
-// array for a local of its own takes seconds to check.
+// Zeros for all lists, for the edges or the indices of one, for work, and for the bytes of a stretch. The `ensures` give only the lengths: a
+// function that has such an array for a local of its own takes seconds to check.
 pub fn no_lists() -> [u16; ROOM]
     ensures { λ r. ⌜ 131500 ≡ length r ⌝ }
 {

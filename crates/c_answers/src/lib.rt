@@ -1,4 +1,6 @@
 // What the calls for C answer, and the settings that they are lent: structs by value, each field by an equation with the core's answer.
+#![tactic(auto)]
+
 ghost use Rattle.std.specs.Prelude.{◌≡◌};
 ghost use Rattle.evaluation.specs.Evaluated.{of_evaluation};
 ghost use Rattle.example_walk.specs.Promises.{of_found};
@@ -25,7 +27,7 @@ use widening::Turned;
 
 // The answer of a load: the number of a refusal, 0 of none, and its line; then the numbers of the header, zeros on a refusal.
 #[repr(C)]
-#[derive(Drop)]
+#[derive(Clone, Copy)]
 pub struct LoadAnswer {
     pub refusal: u8,
     pub line: usize,
@@ -43,7 +45,7 @@ pub struct LoadAnswer {
 
 // The answer of an evaluation: 1 for yes, 0 for no or on a refusal. The line is always 0.
 #[repr(C)]
-#[derive(Drop)]
+#[derive(Clone, Copy)]
 pub struct EvaluateAnswer {
     pub refusal: u8,
     pub line: usize,
@@ -52,7 +54,7 @@ pub struct EvaluateAnswer {
 
 // The answer of an example: the setting lies in the part that was lent for it. The line is always 0.
 #[repr(C)]
-#[derive(Drop)]
+#[derive(Clone, Copy)]
 pub struct ExampleAnswer {
     pub refusal: u8,
     pub line: usize,
@@ -60,7 +62,7 @@ pub struct ExampleAnswer {
 
 // The answer of a tipping point: the level, 0 on a refusal. The line is always 0.
 #[repr(C)]
-#[derive(Drop)]
+#[derive(Clone, Copy)]
 pub struct TipAnswer {
     pub refusal: u8,
     pub line: usize,
@@ -69,7 +71,7 @@ pub struct TipAnswer {
 
 // The answer of a turn: the new store lies in the parts that were lent for it. The line is always 0.
 #[repr(C)]
-#[derive(Drop)]
+#[derive(Clone, Copy)]
 pub struct WidenAnswer {
     pub refusal: u8,
     pub line: usize,
@@ -77,7 +79,7 @@ pub struct WidenAnswer {
 
 // The answer of an export: the length of the file, 0 on a refusal. The line is always 0.
 #[repr(C)]
-#[derive(Drop)]
+#[derive(Clone, Copy)]
 pub struct ExportAnswer {
     pub refusal: u8,
     pub line: usize,
@@ -86,7 +88,7 @@ pub struct ExportAnswer {
 
 // The answer of a join: the root, 0 on a refusal. The line is always 0.
 #[repr(C)]
-#[derive(Drop)]
+#[derive(Clone, Copy)]
 pub struct JoinAnswer {
     pub refusal: u8,
     pub line: usize,

@@ -1,4 +1,6 @@
 // The chains of a store: a node is found along the chain of its bucket, with no index.
+#![tactic(auto)]
+
 ghost use Rattle.std.specs.Prelude.{◌≡◌, ℕ, ◌≤◌};
 ghost use Rattle.store.specs.Lent.{store_now, old_store};
 ghost use Rattle.codes.specs.Limits.{limits};

@@ -1,4 +1,6 @@
 // The codes of the DDDMP format, its classes of bytes, the limits and the numbers of the refusals: what every later layer shares.
+#![tactic(auto)]
+
 ghost use Rattle.std.specs.Prelude.{◌≡◌};
 ghost use Rattle.codes.specs.Bytes.{is_blank, is_digit, is_line_end, is_whitespace, is_control};
 ghost use Rattle.codes.specs.Codes.{code_of};
@@ -7,14 +9,14 @@ pub mod limits;
 pub mod refusal;
 
 // The versions of the format.
-#[derive(Drop)]
+#[derive(Clone, Copy)]
 pub enum DDDMPVersion {
     V2_0,
     V3_0,
 }
 
 // What the extra word of a text node line holds: the value of `.varinfo`.
-#[derive(Drop)]
+#[derive(Clone, Copy)]
 pub enum VarInfo {
     VariableID,
     PermutationID,
@@ -24,7 +26,7 @@ pub enum VarInfo {
 }
 
 // How a binary node line writes its variable and its children.
-#[derive(Drop)]
+#[derive(Clone, Copy)]
 pub enum Code {
     Terminal,
     AbsoluteID,

@@ -1,6 +1,8 @@
 // The public calls: load, evaluate, example, tip, export, join and opposite, on one store, and widen, which turns an old store into a new one. Each is
 // lent `work`, of any length: where it is long enough, nodes are found by an index in it, else along their chains. No answer depends on it, and it ends
 // as zeros.
+#![tactic(auto)]
+
 ghost use Rattle.example_walk.specs.Promises.{ExamplePromise};
 ghost use Rattle.exporter.specs.Promise.{ExportPromise};
 ghost use Rattle.joins.specs.Promises.{JoinPromise, OppositePromise};

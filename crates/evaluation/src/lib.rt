@@ -1,4 +1,6 @@
 // Evaluation: what an edge answers at a setting (in the field's words an assignment).
+#![tactic(auto)]
+
 ghost use Rattle.std.specs.Prelude.{◌≡◌, ◌&&◌, ◌<◌, leb, eqb, length, nat_abs};
 ghost use Rattle.std.specs.Bool.{xor};
 ghost use Rattle.store.specs.Store.{slots};
@@ -14,7 +16,7 @@ use codes::refusal;
 use edges::{Edge, Index};
 
 // An edge's answer, or a refusal.
-#[derive(Drop)]
+#[derive(Clone, Copy)]
 pub enum Evaluation {
     Answer(bool),
     Refused(u8),

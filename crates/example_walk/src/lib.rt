@@ -1,4 +1,6 @@
 // A walk that would count: the first setting at which a root answers as wanted, level 0 compared first and no before yes.
+#![tactic(auto)]
+
 ghost use Rattle.std.specs.Prelude.{◌≡◌};
 ghost use Rattle.example_walk.specs.Course.{never, example_fault, WalkAsks};
 ghost use Rattle.example_walk.specs.Promises.{WalkPromise, ExamplePromise};
@@ -9,7 +11,7 @@ use codes::refusal;
 use edges::{Edge, Index};
 
 // That a setting was found, or a refusal.
-#[derive(Drop)]
+#[derive(Clone, Copy)]
 pub enum Found {
     Setting,
     Refused(u8),

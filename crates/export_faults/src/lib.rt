@@ -1,4 +1,6 @@
 // What an export refuses, in document 01's order.
+#![tactic(auto)]
+
 ghost use Rattle.std.specs.Prelude.{◌≡◌, true, ◌&&◌, leb, replicate};
 ghost use Rattle.codes.specs.Limits.{var_limit};
 ghost use Rattle.codes.specs.Lent.{old};

@@ -1,4 +1,6 @@
 // The file of an export.
+#![tactic(auto)]
+
 ghost use Rattle.export_file.specs.Promise.{FileAsks, FilePromise};
 
 use codes::DDDMPVersion;

@@ -1,4 +1,6 @@
 // The header of an export.
+#![tactic(auto)]
+
 ghost use Rattle.std.specs.Prelude.{◌≡◌, true, [], ◌∷◌};
 ghost use Rattle.codes.specs.Lent.{old};
 ghost use Rattle.read_text.specs.Text.{place};

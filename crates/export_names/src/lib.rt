@@ -1,4 +1,6 @@
 // Names of variables and roots, and of the diagram, checked before an export.
+#![tactic(auto)]
+
 ghost use Rattle.std.specs.Prelude.{◌≡◌, true, length};
 ghost use Rattle.read_text.specs.Kinds.{of_utf8_next};
 ghost use Rattle.read_text.specs.Text.{place};

@@ -1,4 +1,6 @@
 // The node lines of an export, in their order.
+#![tactic(auto)]
+
 ghost use Rattle.std.specs.Prelude.{◌≡◌, ◌≤◌, [], nat_abs};
 ghost use Rattle.codes.specs.Limits.{node_limit};
 ghost use Rattle.store.specs.Store.{slots};

@@ -1,11 +1,13 @@
 // The export size: how long the output must be.
+#![tactic(auto)]
+
 ghost use Rattle.std.specs.Prelude.{◌≡◌, ◌*◌, ◌<◌, leb};
 ghost use Rattle.export_size.specs.Size.{sum, export_size, added_to, Held};
 
 use edges::Index;
 
 // What a sum has come to, or that it is over a limit.
-#[derive(Drop)]
+#[derive(Clone, Copy)]
 pub enum Sum {
     Within(usize),
     Over,

@@ -1,4 +1,6 @@
 // The support of an export: the levels that have a line.
+#![tactic(auto)]
+
 ghost use Rattle.std.specs.Prelude.{◌≡◌, [], ◌≤◌, length, replicate};
 ghost use Rattle.store.specs.Store.{store};
 ghost use Rattle.seats.specs.Seats.{Seats};

@@ -1,4 +1,6 @@
 // Exports of diagrams to DDDMP files.
+#![tactic(auto)]
+
 ghost use Rattle.std.specs.Prelude.{◌≡◌, true, false};
 ghost use Rattle.read_text.specs.Text.{place};
 ghost use Rattle.exported.specs.Settings.{settings, defaults};
@@ -11,7 +13,7 @@ use edges::{Edge, Index};
 use read_text::Place;
 
 // The length of a file that was written, or a refusal.
-#[derive(Drop)]
+#[derive(Clone, Copy)]
 pub enum Exported {
     Written(usize),
     Refused(u8),
@@ -19,7 +21,7 @@ pub enum Exported {
 
 // Settings for the DDDMP export: the version, text or binary, and the place of the diagram's name in the lent bytes. Strict is the one way
 // that there is: a name that can't be written as it is is refused.
-#[derive(Drop)]
+#[derive(Clone, Copy)]
 pub struct ExportSettings {
     version: DDDMPVersion,
     ascii: bool,

@@ -1,4 +1,6 @@
 // The roots of a file: their faults, and the edges that they are.
+#![tactic(auto)]
+
 ghost use Rattle.std.specs.Prelude.{◌≡◌, map, nat_abs};
 ghost use Rattle.codes.specs.Lent.{laid};
 ghost use Rattle.file_roots.specs.Roots.{roots_fault, edge_of};

@@ -1,5 +1,7 @@
 // The public calls for C: `include/zonetweed.h` declares and explains them. A slice is a pointer and then a length. The names have the version of
 // the interface, which rises with each change of a width or of a parameter: a program that was compiled for another version doesn't link.
+#![tactic(auto)]
+
 ghost use Rattle.firmware.specs.Promises.{ZtLoadPromise, ZtEvaluatePromise, ZtExamplePromise, ZtTipPromise, ZtExportPromise, ZtJoinPromise, ZtNotPromise, ZtWidenPromise};
 ghost use Rattle.joined.specs.declared.Op.TheVariants as op;
 

@@ -1,4 +1,6 @@
 // The lines of a header that hold names, written.
+#![tactic(auto)]
+
 ghost use Rattle.std.specs.Prelude.{[], ◌∷◌, ◌+◌, ◌≤◌, ◌<◌, length, get_or};
 ghost use Rattle.codes.specs.Lent.{old};
 ghost use Rattle.read_text.specs.Text.{place};

@@ -1,4 +1,6 @@
 // The lines of a header that hold numbers, written.
+#![tactic(auto)]
+
 ghost use Rattle.std.specs.Prelude.{◌≡◌, [], ◌∷◌, map, ◌<◌, length, get_or, nat_abs};
 ghost use Rattle.codes.specs.Lent.{old};
 ghost use Rattle.writers.specs.Decimal.{decimal, edge_text};

@@ -1,6 +1,8 @@
 // The header of a file: `DumpHeader::load`, in three phases. `header_lines` judges each line and keeps the place of each key's last value;
 // `header_checks` checks the header as a whole, for which it reads `.ids` and `.permids` into their lent lists; `header_lists` reads each
 // other list from its place into the lent one.
+#![tactic(auto)]
+
 ghost use Rattle.std.specs.Prelude.{◌≡◌, replicate};
 ghost use Rattle.codes.specs.Limits.{limits};
 ghost use Rattle.header_lines.specs.Sweep.{Table, keys};
@@ -19,7 +21,7 @@ use read_text::Place;
 
 // The numbers of a header: mode, varinfo, the place of the diagram's name, the counts, the position after `.nodes`' line and the number
 // of lines.
-#[derive(Drop)]
+#[derive(Clone, Copy)]
 pub struct DumpHeader {
     pub ascii: bool,
     pub varinfo: VarInfo,
@@ -33,7 +35,7 @@ pub struct DumpHeader {
 }
 
 // A header, or a refusal and its line.
-#[derive(Drop)]
+#[derive(Clone, Copy)]
 pub enum Loaded {
     Header(DumpHeader),
     Refused(u8, usize),

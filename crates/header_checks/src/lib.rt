@@ -1,4 +1,6 @@
 // The header as a whole: its checks in the order of document 01. Each answers the number of its refusal, 0 where there is none.
+#![tactic(auto)]
+
 ghost use Rattle.std.specs.Prelude.{◌≡◌, ◌≤◌, ◌∷◌, length};
 ghost use Rattle.codes.specs.Limits.{limits, var_limit};
 ghost use Rattle.header_lines.specs.Sweep.{Table};

@@ -1,8 +1,10 @@
 // The keys of a header.
+#![tactic(auto)]
+
 ghost use Rattle.std.specs.Prelude.{◌≡◌};
 ghost use Rattle.header_keys.specs.Keys.{key_of, lookup, list_keys, slot_of};
 
-#[derive(Drop)]
+#[derive(Clone, Copy)]
 pub enum Key {
     Ver,
     Mode,

@@ -1,5 +1,7 @@
 // The sweep over the lines of a header: each is judged, and the place of each key's last value is kept. No list is read yet, so a
 // key that is repeated a million times costs a million short lines and nothing to clear.
+#![tactic(auto)]
+
 ghost use Rattle.std.specs.Prelude.{◌≡◌, map, ◌+◌, ◌≤◌, ◌<◌, length, replicate};
 ghost use Rattle.codes.specs.Limits.{input_limit};
 ghost use Rattle.header_lines.specs.Kinds.{of_swept};
@@ -9,7 +11,7 @@ use codes::refusal;
 
 // What a line leads to: the entry of its key and the span of its value, or that the header's lines end here; each with the position of
 // the next line; or a refusal.
-#[derive(Drop)]
+#[derive(Clone, Copy)]
 pub enum Step {
     Value(usize, u32, u32, usize),
     Nodes(usize),
@@ -17,7 +19,7 @@ pub enum Step {
 }
 
 // How the lines of a header end: with `.nodes`, the position after its line and its number; or with a refusal and its line.
-#[derive(Drop)]
+#[derive(Clone, Copy)]
 pub enum Swept {
     Nodes(usize, usize),
     Refused(u8, usize),

@@ -1,5 +1,7 @@
 // The lists of a header, each read from the place of its key's last value into the lent one. The rest of a lent list is zeros; where the
 // table is of zeros, as on a refusal, all of it.
+#![tactic(auto)]
+
 ghost use Rattle.std.specs.Prelude.{◌≤◌, length};
 ghost use Rattle.header_keys.specs.declared.Key.TheVariants as Key;
 ghost use Rattle.header_lines.specs.Sweep.{Table};

@@ -1,5 +1,7 @@
 // What the last value of each key says. Each was judged by the sweep, so that the other arm of a reader's answer is met only where the
 // key is missing: a number is then 0, a list empty.
+#![tactic(auto)]
+
 ghost use Rattle.std.specs.Prelude.{◌≡◌, ◌^◌, ◌≤◌, length, replicate};
 ghost use Rattle.codes.specs.Limits.{root_limit};
 ghost use Rattle.header_lines.specs.Sweep.{Table};
@@ -14,7 +16,7 @@ use read_numbers::{Number32, Number64};
 use read_text::{Place, Str};
 
 // Where a value stands in the file.
-#[derive(Drop)]
+#[derive(Clone, Copy)]
 pub struct Span {
     pub start: usize,
     pub end: usize,

@@ -1,4 +1,6 @@
 // The nodes of a file, read into the store: the Rust's `import`.
+#![tactic(auto)]
+
 ghost use Rattle.import_lines.specs.Promises.{ImportAsks, ImportPromise};
 
 use edges::{Edge, Index};

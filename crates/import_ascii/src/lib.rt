@@ -1,4 +1,6 @@
 // Node lines of text.
+#![tactic(auto)]
+
 ghost use Rattle.std.specs.Prelude.{◌≡◌, ◌≤◌, ◌<◌, length, nat_abs};
 ghost use Rattle.codes.specs.Limits.{node_limit};
 ghost use Rattle.edges.specs.Width.{position_limit};
@@ -17,7 +19,7 @@ use read_edges::Children;
 use read_numbers::Number32;
 
 // A node line, or a refusal.
-#[derive(Drop)]
+#[derive(Clone, Copy)]
 pub enum Parsed {
     Terminal,
     Inner(u16, Edge, Edge),

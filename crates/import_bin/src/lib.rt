@@ -1,4 +1,6 @@
 // Node lines in binary.
+#![tactic(auto)]
+
 ghost use Rattle.std.specs.Prelude.{◌≡◌, ◌-◌, ◌≤◌, ◌<◌, length, get_or};
 ghost use Rattle.edges.specs.Width.{edge_limit, position_limit};
 ghost use Rattle.codes.specs.Answer.{then};

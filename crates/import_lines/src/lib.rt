@@ -1,4 +1,6 @@
 // The loop over the node lines of a file: each is read and made into the store.
+#![tactic(auto)]
+
 ghost use Rattle.std.specs.Prelude.{◌<◌};
 ghost use Rattle.import_lines.specs.Promises.{LinesAsks, LinesPromise, ImportAsks};
 

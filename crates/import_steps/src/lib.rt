@@ -1,4 +1,6 @@
 // The small steps of an import: a line of either mode, the edge of a child, the line of a refusal, the end of the file, the roots.
+#![tactic(auto)]
+
 ghost use Rattle.std.specs.Prelude.{◌≡◌, cond, ◌≤◌, ◌<◌, nat_abs, length, drop};
 ghost use Rattle.codes.specs.Limits.{node_limit};
 ghost use Rattle.edges.specs.Width.{position_limit};
@@ -12,14 +14,14 @@ use edges::{Edge, Index};
 use node_lines::Decoded;
 
 // The nodes are read, up to a position; or a refusal and its line.
-#[derive(Drop)]
+#[derive(Clone, Copy)]
 pub enum Imported {
     Nodes(usize),
     Refused(u8, usize),
 }
 
 // What the nodes are read by: mode A or not; whether lines have an extra word; how many lines there are; how many lines the header has.
-#[derive(Drop)]
+#[derive(Clone, Copy)]
 pub struct Setup {
     pub ascii: bool,
     pub extra: bool,

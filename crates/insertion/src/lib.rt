@@ -1,4 +1,6 @@
 // A node with a positive then, found or put into the next slot.
+#![tactic(auto)]
+
 ghost use Rattle.std.specs.Prelude.{◌≡◌, ◌≤◌, ◌<◌, length};
 ghost use Rattle.codes.specs.Lent.{old, new};
 ghost use Rattle.store.specs.Lent.{store_now};
@@ -10,14 +12,14 @@ ghost use Rattle.insertion.specs.Promises.{LookUpPromise, InsertPromise};
 use edges::{Edge, Index};
 
 // The edge to a node, or no slot for one.
-#[derive(Drop)]
+#[derive(Clone, Copy)]
 pub enum Making {
     Node(Edge),
     Full,
 }
 
 // A node, or 0 and the entry of the index where it belongs.
-#[derive(Drop)]
+#[derive(Clone, Copy)]
 pub struct Found {
     node: Index,
     at: usize,

@@ -1,4 +1,6 @@
 // One step of a join: the result where it needs no node, and otherwise the level of the upper of two edges and their sides there.
+#![tactic(auto)]
+
 ghost use Rattle.std.specs.Prelude.{◌≡◌, cond, [], ◌≤◌, ltb, length, nat_abs};
 ghost use Rattle.codes.specs.Lent.{old};
 ghost use Rattle.edges.specs.Edge.{IsEdge};
@@ -11,7 +13,7 @@ use edges::Edge;
 use joined::{Op, Pair};
 
 // The smaller of the levels of two edges, and their sides there, where it is yes and where it is no.
-#[derive(Drop)]
+#[derive(Clone, Copy)]
 pub struct Split {
     pub level: u16,
     pub then: Pair,
@@ -19,7 +21,7 @@ pub struct Split {
 }
 
 // The sides of one edge, where a level is yes and where it is no.
-#[derive(Drop)]
+#[derive(Clone, Copy)]
 pub struct Sides {
     then: Edge,
     els: Edge,

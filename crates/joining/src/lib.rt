@@ -1,5 +1,7 @@
 // Joining two edges of a store: down their levels, then sides first, and up again, making the nodes on the way. Pairs of edges wait in a list while
 // their sides are joined, one at each level at most, so that a join takes the same stack whatever the store is.
+#![tactic(auto)]
+
 ghost use Rattle.std.specs.Prelude.{◌≡◌, pos};
 ghost use Rattle.codes.specs.Lent.{old};
 ghost use Rattle.edges.specs.Edge.{IsEdge};

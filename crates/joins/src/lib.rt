@@ -1,4 +1,6 @@
 // Two roots of a store joined, and the opposite of one.
+#![tactic(auto)]
+
 ghost use Rattle.std.specs.Prelude.{◌≡◌, length, replicate, pos};
 ghost use Rattle.insertion.specs.Kinds.{of_making};
 ghost use Rattle.joins.specs.Kinds.{of_joined};
@@ -10,7 +12,7 @@ use insertion::Making;
 use joined::Op;
 
 // A root, or a refusal.
-#[derive(Drop)]
+#[derive(Clone, Copy)]
 pub enum Joined {
     Root(Edge),
     Refused(u8),

@@ -1,5 +1,7 @@
 // The last stages of a load: the nodes and the end of the file, and zeros where the load is refused. Each takes what was found so far and
 // hands a refusal on.
+#![tactic(auto)]
+
 ghost use Rattle.std.specs.Prelude.{◌≡◌, not, eqb, length};
 ghost use Rattle.store.specs.Lent.{store_now};
 ghost use Rattle.header_values.specs.Kinds.{of_var_info};

@@ -1,4 +1,6 @@
 // The level list of a load: one level for each support variable, strictly ascending.
+#![tactic(auto)]
+
 ghost use Rattle.std.specs.Prelude.{◌≡◌};
 ghost use Rattle.level_list.specs.List.{list_fits};
 

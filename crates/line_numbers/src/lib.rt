@@ -1,4 +1,6 @@
 // The numbers of a node line in binary: its variable's, and those of its children, read and checked.
+#![tactic(auto)]
+
 ghost use Rattle.std.specs.Prelude.{◌≡◌, ◌-◌, ◌<◌};
 ghost use Rattle.codes.specs.Answer.{then};
 ghost use Rattle.line_numbers.specs.Kinds.{of_read_number, ReadBelow};
@@ -9,7 +11,7 @@ use edges::Index;
 use read_binary::Number;
 
 // A number and the position after it, or a refusal.
-#[derive(Drop)]
+#[derive(Clone, Copy)]
 pub enum Read {
     Number(u64, usize),
     Refused(u8),

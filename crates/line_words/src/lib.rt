@@ -1,4 +1,6 @@
 // The words of a node line of text: its number, the extra word, the variable word.
+#![tactic(auto)]
+
 ghost use Rattle.std.specs.Prelude.{◌≡◌, ◌≤◌, ◌<◌, length};
 ghost use Rattle.line_words.specs.Kinds.{of_word, WordWithin};
 ghost use Rattle.line_words.specs.Words.{word_from, numbered, after_extra, variable_word};
@@ -9,7 +11,7 @@ use read_lines::Class;
 use read_numbers::First64;
 
 // Where a word starts and ends, or a refusal.
-#[derive(Drop)]
+#[derive(Clone, Copy)]
 pub enum Word {
     At(usize, usize),
     Refused(u8),

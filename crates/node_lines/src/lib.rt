@@ -1,11 +1,13 @@
 // A node line as data: what both modes of a file's nodes share.
+#![tactic(auto)]
+
 ghost use Rattle.std.specs.Prelude.{◌≡◌, ◌≤◌};
 ghost use Rattle.node_lines.specs.Line.{deeper};
 
 use edges::{Edge, Index};
 
 // A node line and the position after it, or a refusal. Children are numbers of lines, with a minus where a child is turned over.
-#[derive(Drop)]
+#[derive(Clone, Copy)]
 pub enum Decoded {
     Terminal(usize),
     Inner(u16, Edge, Edge, usize),

@@ -1,4 +1,6 @@
 // The rules of sizes and nodes: how long the lists are, and whether each node lies over lower nodes at deeper levels.
+#![tactic(auto)]
+
 ghost use Rattle.std.specs.Prelude.{[], ◌≤◌, ◌<◌, length};
 ghost use Rattle.edges.specs.Width.{edge_limit};
 ghost use Rattle.store.specs.Lent.{old_store};

@@ -1,4 +1,6 @@
 // Making nodes and taking them back: equal children give that child, a minus on then moves to the else and to the result.
+#![tactic(auto)]
+
 ghost use Rattle.std.specs.Prelude.{◌≡◌, cond, ◌<◌, neg_ℤ};
 ghost use Rattle.edges.specs.Edge.{IsEdge};
 ghost use Rattle.insertion.specs.Kinds.{of_making, Turns};

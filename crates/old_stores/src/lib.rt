@@ -1,4 +1,6 @@
 // An old store, whose edges have 16 bits: its sizes and zeros are judged, and its lists copied into those of a new one.
+#![tactic(auto)]
+
 ghost use Rattle.std.specs.Prelude.{◌≡◌, [], ◌≤◌, pos, length, take, replicate};
 ghost use Rattle.codes.specs.Lent.{old, new, laid};
 ghost use Rattle.edges.specs.Edge.{eq_z};

@@ -1,4 +1,6 @@
 // A walk from the roots over the nodes that they lead to.
+#![tactic(auto)]
+
 ghost use Rattle.std.specs.Prelude.{◌≡◌, [], ◌-◌, ◌≤◌, length, get_or, replicate, pos, nat_abs};
 ghost use Rattle.store.specs.Store.{store};
 ghost use Rattle.reached.specs.Meet.{Looks, Meets, Walks};

@@ -1,4 +1,6 @@
 // Escaped bytes and 7-bit numbers of binary node lines.
+#![tactic(auto)]
+
 ghost use Rattle.std.specs.Prelude.{◌≡◌};
 ghost use Rattle.read_binary.specs.Binary.{byte_at, number_at};
 ghost use Rattle.read_binary.specs.Kinds.{of_byte, of_number};
@@ -6,14 +8,14 @@ ghost use Rattle.read_binary.specs.Kinds.{of_byte, of_number};
 use codes::refusal;
 
 // A byte and the position after it, or a refusal.
-#[derive(Drop)]
+#[derive(Clone, Copy)]
 pub enum Byte {
     Value(u8, usize),
     Refused(u8),
 }
 
 // A number and the position after it, or a refusal.
-#[derive(Drop)]
+#[derive(Clone, Copy)]
 pub enum Number {
     Value(u64, usize),
     Refused(u8),

@@ -1,4 +1,6 @@
 // Edge lists: the roots of a file, and the children of a text node line.
+#![tactic(auto)]
+
 ghost use Rattle.std.specs.Prelude.{◌≡◌, ◌<◌, ◌^◌, length, set};
 ghost use Rattle.codes.specs.Lent.{laid};
 ghost use Rattle.read_edges.specs.Edges.{signed, magnitude_of, entry_bytes, edge_list, children};
@@ -11,14 +13,14 @@ use read_lists::Count;
 use read_numbers::{Number64, Role};
 
 // An entry, or a refusal.
-#[derive(Drop)]
+#[derive(Clone, Copy)]
 pub enum Entry {
     Value(i64),
     Refused(u8),
 }
 
 // The children of a line: how many there are, and the first two, 0 where there are fewer.
-#[derive(Drop)]
+#[derive(Clone, Copy)]
 pub enum Children {
     Read(usize, i64, i64),
     Refused(u8),

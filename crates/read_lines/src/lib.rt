@@ -1,9 +1,11 @@
 // Lines, and what stands in them, by positions of the file.
+#![tactic(auto)]
+
 ghost use Rattle.std.specs.Prelude.{◌≡◌, ◌-◌, ◌≤◌, length};
 ghost use Rattle.read_lines.specs.Line.{is_of, seek, trim, line_of, field_of, LineWithin, FieldWithin};
 
 // What a search looks for.
-#[derive(Drop)]
+#[derive(Clone, Copy)]
 pub enum Class {
     Feed,
     LineEnd,
@@ -12,14 +14,14 @@ pub enum Class {
 }
 
 // A line: where it ends, its line end not counted, and where the next one starts.
-#[derive(Drop)]
+#[derive(Clone, Copy)]
 pub struct Line {
     pub end: usize,
     pub next: usize,
 }
 
 // What a line of the header says: where its key ends, and where its value starts and ends.
-#[derive(Drop)]
+#[derive(Clone, Copy)]
 pub struct Field {
     pub key: usize,
     pub start: usize,

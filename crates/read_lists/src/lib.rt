@@ -1,4 +1,6 @@
 // Lists of unsigned numbers.
+#![tactic(auto)]
+
 ghost use Rattle.std.specs.Prelude.{◌≡◌, set};
 ghost use Rattle.codes.specs.Lent.{laid};
 ghost use Rattle.read_lists.specs.Kinds.{of_count};
@@ -9,7 +11,7 @@ use read_lines::Class;
 use read_numbers::{Number64, Role};
 
 // The number of a list's entries, or a refusal.
-#[derive(Drop)]
+#[derive(Clone, Copy)]
 pub enum Count {
     Entries(usize),
     Refused(u8),

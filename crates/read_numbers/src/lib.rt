@@ -1,4 +1,6 @@
 // Numbers in decimal digits.
+#![tactic(auto)]
+
 ghost use Rattle.std.specs.Prelude.{◌≡◌, ◌+◌, ◌^◌, ◌≤◌};
 ghost use Rattle.read_numbers.specs.Number.{foreign, number, single, first};
 ghost use Rattle.read_numbers.specs.Kinds.{of32, of64, of_first32, of_first64, Fits32};
@@ -7,7 +9,7 @@ use codes::refusal;
 use read_lines::Class;
 
 // What digits are in their line: a number by itself, an entry of a list, or what may stand after a minus in an entry.
-#[derive(Drop)]
+#[derive(Clone, Copy)]
 pub enum Role {
     Single,
     Entry,
@@ -15,27 +17,27 @@ pub enum Role {
 }
 
 // A number of 32 bits, or a refusal.
-#[derive(Drop)]
+#[derive(Clone, Copy)]
 pub enum Number32 {
     Value(u32),
     Refused(u8),
 }
 
 // A number of 64 bits, or a refusal.
-#[derive(Drop)]
+#[derive(Clone, Copy)]
 pub enum Number64 {
     Value(u64),
     Refused(u8),
 }
 
 // The first number of a line and the position after it, or a refusal.
-#[derive(Drop)]
+#[derive(Clone, Copy)]
 pub enum First32 {
     Value(u32, usize),
     Refused(u8),
 }
 
-#[derive(Drop)]
+#[derive(Clone, Copy)]
 pub enum First64 {
     Value(u64, usize),
     Refused(u8),

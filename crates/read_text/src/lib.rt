@@ -1,4 +1,6 @@
 // Names and texts: UTF-8, as places of the file.
+#![tactic(auto)]
+
 ghost use Rattle.std.specs.Prelude.{◌≡◌, map, ◌^◌, ◌+◌, ◌<◌, length};
 ghost use Rattle.read_text.specs.Text.{start_of, len_of, utf8_next, is_utf8, name_list, text_at_lem};
 ghost use Rattle.codes.specs.Lent.{laid};
@@ -11,27 +13,27 @@ use read_lines::Class;
 use read_lists::Count;
 
 // Where a text stands in the file; an empty one has start 0 and length 0.
-#[derive(Drop)]
+#[derive(Clone, Copy)]
 pub struct Place {
     pub start: u32,
     pub len: u32,
 }
 
 // Between two bytes of a text: no character is begun; or one is, and waits for a byte in a range and then for some further ones.
-#[derive(Drop)]
+#[derive(Clone, Copy)]
 pub enum Utf8 {
     Whole,
     Tail(u8, u8, u8),
 }
 
-#[derive(Drop)]
+#[derive(Clone, Copy)]
 pub enum Utf8Next {
     Go(Utf8),
     Bad,
 }
 
 // The place of a text, or a refusal.
-#[derive(Drop)]
+#[derive(Clone, Copy)]
 pub enum Str {
     Place(u32, u32),
     Refused(u8),

@@ -1,1 +1,3 @@
 // Exported files, read back: no code, theorems about the definitions of both sides.
+
+#![tactic(auto)]

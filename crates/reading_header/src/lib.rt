@@ -1,1 +1,3 @@
 // The header of an export, read back: no code, theorems about the definitions of both sides.
+
+#![tactic(auto)]

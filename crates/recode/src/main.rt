@@ -1,4 +1,6 @@
 // Reads a file from standard input and writes it to standard output again, as text of version 2.0; or writes one line, `refused N line M`.
+#![tactic(auto)]
+
 use recoding::Recoded;
 
 // One byte more than the longest input, so that a longer one is noticed.

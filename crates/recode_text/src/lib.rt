@@ -1,4 +1,6 @@
 // The line that tells a refusal.
+#![tactic(auto)]
+
 ghost use Rattle.std.specs.Prelude.{◌≡◌, length, replicate};
 ghost use Rattle.codes.specs.Lent.{laid};
 ghost use Rattle.recode_text.specs.Text.{refusal_text};

@@ -1,5 +1,7 @@
 // A file read and written again as text, version 2.0: what the program `recode` does.
 
+#![tactic(auto)]
+
 ghost use Rattle.std.specs.Prelude.{◌≡◌, cond, length};
 ghost use Rattle.codes.specs.Lent.{laid};
 ghost use Rattle.codes.specs.Limits.{limits};
@@ -14,14 +16,14 @@ use exporter::{ExportSettings, Exported};
 use header::{DumpHeader, Loaded};
 
 // The length of the file that is written; or a refusal and its line.
-#[derive(Drop)]
+#[derive(Clone, Copy)]
 pub enum Recoded {
     Written(usize),
     Refused(u8, usize),
 }
 
 // The level count and the length of the level list; or a refusal and its line.
-#[derive(Drop)]
+#[derive(Clone, Copy)]
 pub enum Plan {
     Levels(u16, usize),
     Refused(u8, usize),

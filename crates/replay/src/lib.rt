@@ -1,12 +1,14 @@
 // What the programs share that replay stored cases: the numbers of a case, reading it from a file, and counting. A file has its cases one
 // after the other, each a head of fixed length and what the head says that follows.
+#![tactic(auto)]
+
 ghost use Rattle.std.specs.Prelude.{◌+◌, ◌≤◌, ◌≡◌, length};
 ghost use Rattle.io.specs.Counts.{IsPrefixLen};
 ghost use Rattle.replay.specs.Numbers.{two_at, four_at, eight_at};
 ghost use Rattle.replay.specs.Counting.{one_more, of_comparison, no_cases, tallied};
 
 // What came of one case, or why there is none.
-#[derive(Drop)]
+#[derive(Clone, Copy)]
 pub enum Outcome {
     Same,
     Differs,
@@ -15,7 +17,7 @@ pub enum Outcome {
 }
 
 // How many cases a file has, how many differ, whether its end was met, and whether that comes with its last case.
-#[derive(Drop)]
+#[derive(Clone, Copy)]
 pub struct Tally {
     pub cases: u64,
     pub differ: u64,

@@ -1,4 +1,6 @@
 // The rules of a store, tested on any contents: no list is read outside its length and no link is followed that was not tested before.
+#![tactic(auto)]
+
 ghost use Rattle.std.specs.Prelude.{◌≡◌, [], ℕ, ◌≤◌, ◌<◌, length, get_or};
 ghost use Rattle.edges.specs.Width.{edge_limit};
 ghost use Rattle.store.specs.Lent.{store_now, old_store};

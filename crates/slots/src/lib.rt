@@ -1,4 +1,6 @@
 // The slots of a store: a node put into the next one, and the newest node taken out again.
+#![tactic(auto)]
+
 ghost use Rattle.std.specs.Prelude.{◌≡◌, [], ◌<◌, length, pos};
 ghost use Rattle.edges.specs.Edge.{IsEdge};
 ghost use Rattle.store.specs.Store.{store};

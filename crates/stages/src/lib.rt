@@ -1,6 +1,8 @@
 // The stages of a load before its nodes, in document 01's order: lists, store, length, header, scratch, level list. Each has a promise of its
 // own, takes what was found so far and hands a refusal on, so that a further check is a further stage. The header itself is
 // `DumpHeader::load` of `header`; the nodes, the end and the zeros follow in `last_stages`.
+#![tactic(auto)]
+
 ghost use Rattle.std.specs.Prelude.{◌≡◌, [], ◌∷◌};
 ghost use Rattle.codes.specs.Limits.{limits};
 ghost use Rattle.header.specs.Header.{lists_fault, at_least, length_after};

@@ -1,4 +1,6 @@
 // One stretch of a chain: its nodes copied into a little store, put into a small index, and every older node of the chain sought there.
+#![tactic(auto)]
+
 ghost use Rattle.std.specs.Prelude.{◌≡◌, ◌+◌, ◌*◌, ◌≤◌, length};
 ghost use Rattle.codes.specs.Lent.{old, new};
 ghost use Rattle.store.specs.Store.{slots};
@@ -12,7 +14,7 @@ use edges::{Edge, Index};
 pub const SLOTS: usize = 513;
 
 // The number of the little store's last node, and the node of the chain after it, or 0.
-#[derive(Drop)]
+#[derive(Clone, Copy)]
 pub struct Stretch {
     pub last: Index,
     pub rest: Index,

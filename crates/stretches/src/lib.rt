@@ -1,6 +1,8 @@
 // No two nodes alike, without a large index: two nodes that are alike lie in one chain, so each chain is judged by itself, in stretches. The
 // nodes of a stretch are copied into a little store and put into a small index, in which each older node of the chain is sought. So a chain
 // is gone through once for each 512 of its nodes.
+#![tactic(auto)]
+
 ghost use Rattle.std.specs.Prelude.{◌≡◌, ◌≤◌, ◌<◌, length};
 ghost use Rattle.edges.specs.Width.{edge_limit};
 ghost use Rattle.store.specs.Lent.{store_now};

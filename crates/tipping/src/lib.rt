@@ -1,4 +1,6 @@
 // The point that tips the round: the lowest level whose flip alone turns a root's answer over.
+#![tactic(auto)]
+
 ghost use Rattle.std.specs.Prelude.{◌≡◌, cond, ◌≤◌, length, nat_abs};
 ghost use Rattle.codes.specs.Lent.{old, new};
 ghost use Rattle.store.specs.Store.{slots};
@@ -13,7 +15,7 @@ use codes::refusal;
 use edges::{Edge, Index};
 
 // A level, or a refusal.
-#[derive(Drop)]
+#[derive(Clone, Copy)]
 pub enum Tipped {
     Level(u16),
     Refused(u8),

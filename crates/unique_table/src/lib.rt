@@ -1,6 +1,8 @@
 // An index of the nodes of a store (in the field's words a unique table): finding a node by its level, then and else takes a few steps,
 // whatever the nodes are. Under each head stands a tree whose nodes are those of the store; a search goes down by the bits of its key, of
 // which there are 64.
+#![tactic(auto)]
+
 ghost use Rattle.std.specs.Prelude.{◌≡◌, true, ◌+◌, ◌*◌, ◌^◌, ◌≤◌, ◌<◌, nat_abs, length, replicate};
 ghost use Rattle.edges.specs.Width.{edge_limit};
 ghost use Rattle.store.specs.Store.{slots};

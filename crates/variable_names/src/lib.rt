@@ -1,4 +1,6 @@
 // The names of variables: whether the lists agree, and which name each variable has.
+#![tactic(auto)]
+
 ghost use Rattle.std.specs.Prelude.{◌≡◌, map, ◌≤◌, length, get_or, take};
 ghost use Rattle.codes.specs.Limits.{var_limit};
 ghost use Rattle.codes.specs.Lent.{laid};

@@ -1,4 +1,6 @@
 // The variable order of an export: a permutation of the levels.
+#![tactic(auto)]
+
 ghost use Rattle.std.specs.Prelude.{◌≡◌, ◌≤◌, length, replicate};
 ghost use Rattle.variable_order.specs.Order.{is_order, SeatsIf};
 

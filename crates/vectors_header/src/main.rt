@@ -2,6 +2,8 @@
 // many of them the answer or a lent list differs from what is stored. tests/header/make_cases.py makes the files and says how. The
 // expected output has four lines: no case of `cases.bin` differs; every case of `falsified.bin`, of whose stored values one is
 // changed, does; `cut.bin` ends inside a case, and `missing.bin` isn't there, which must both be seen.
+#![tactic(auto)]
+
 mod answer;
 mod case;
 mod lists;

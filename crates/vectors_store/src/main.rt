@@ -2,6 +2,8 @@
 // file how many cases it has and how many of the answers differ from the stored ones. tests/store/make_cases.py makes the files and
 // says how. The expected output has four lines: no case of `cases.bin` differs; every case of `falsified.bin`, whose answers are
 // changed, does; `cut.bin` ends inside a case, and `missing.bin` isn't there, which must both be seen.
+#![tactic(auto)]
+
 mod case;
 mod change;
 

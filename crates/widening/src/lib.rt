@@ -1,5 +1,7 @@
 // The turn of an old store into a new one. The old store is only read: its nodes are copied, and the copy is judged. What the copy doesn't have, the
 // old lists' lengths and unused slots, is judged before.
+#![tactic(auto)]
+
 ghost use Rattle.std.specs.Prelude.{◌≡◌, cond, eqb};
 ghost use Rattle.widened.specs.Widen.{answer_by};
 ghost use Rattle.widening.specs.Course.{CopyFaultPromise, ClearPromise};
@@ -11,7 +13,7 @@ use node_rules::BUCKETS;
 use old_stores::{OldEdge, OldIndex};
 
 // That the store was turned, or a refusal.
-#[derive(Drop)]
+#[derive(Clone, Copy)]
 pub enum Turned {
     Done,
     Refused(u8),

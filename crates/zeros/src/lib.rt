@@ -1,4 +1,6 @@
 // Zeros: what a call leaves in a part that it doesn't use, and in every part on a refusal. One function for each kind of entry.
+#![tactic(auto)]
+
 ghost use Rattle.std.specs.Prelude.{◌≡◌, pos, length, replicate};
 
 use edges::{Edge, Index};

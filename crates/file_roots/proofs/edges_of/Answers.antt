@@ -1,0 +1,26 @@
+-- `edges_of` meets its contract. The invariant: the roots before i lie in the lent list, as edges. The measure is what is left of the length.
+use Prim.Native.Nat.{◌-◌}
+use native.Mathlib.Omega.{arith}
+use borrow.Author.Rules.{rules}
+use lib.ListN.{length, get_or}
+use mathlib.Core.Logic.{⊎_elim}
+use mir.Syntax.{w64}
+use Rattle.edges.specs.Width.{edge_width}
+use lib.IntN.{pos}
+use Rattle.file_roots.proofs.RootEdges.{Edged, edged-start, edged-more, edged-past, edged-length, edged-end, edge-read}
+use Rattle.file_roots.proofs.edges_of.Goals as goal
+
+pub loop-i-init : goal.loop-i-init
+loop-i-init c =
+    edged-start _ _
+
+pub loop-i-preserved : goal.loop-i-preserved
+loop-i-preserved c =
+    ⊎_elim
+    (λ w. rw w.3 (edged-more _ _ _ _ c.loop-i.invariant c.loop-i-test.true (edge-read w64 edge_width (get_or c.args.roots.now c.loop-i.i (pos 0)) (record { sfits = w.1.given }) (omega arith) w.2.ensures)))
+    (λ w. rw w.1 (edged-past _ _ _ _ c.loop-i.invariant c.loop-i-test.true w.0.left))
+    c.if-i-dst.branch
+
+pub returns : goal.returns
+returns c =
+    edged-end _ _ _ _ c.loop-i.invariant c.loop-i-test.false

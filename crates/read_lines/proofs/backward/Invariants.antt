@@ -1,0 +1,16 @@
+-- `backward` meets its contract: what is left to trim gives what the whole does.
+use mathlib.Core.Path.{◌≡◌, refl, sym, ◌∙◌}
+use Prim.Native.Nat.{◌-◌, ◌≤◌}
+use native.Mathlib.Omega.{arith}
+use borrow.Author.Rules.{rules}
+use Rattle.read_lines.specs.Line.{is_of, trim}
+use Rattle.read_lines.proofs.Searches.{trim-past, trim-found, trim_end}
+use Rattle.read_lines.proofs.backward.Given as goal
+
+abbrev pub invariant-loop-i : goal.invariant-loop-i
+invariant-loop-i l =
+    (l.from ≤ l.i) × ((l.i ≤ l.end) × (trim (is_of l.class) l.f l.from (l.end - l.from) ≡ trim (is_of l.class) l.f l.from (l.i - l.from)))
+
+abbrev pub decreases-loop-i : goal.decreases-loop-i
+decreases-loop-i l =
+    l.i

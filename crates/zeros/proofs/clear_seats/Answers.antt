@@ -1,0 +1,22 @@
+-- `clear_seats` meets its contract. The invariant: the entries before i are zeros. The measure is what is left of the length.
+use Prim.Native.Nat.{◌-◌}
+use borrow.Author.Rules.{rules}
+use lib.ListN.{length}
+use Rattle.zeros.proofs.Cleared.{Cleared, cleared-start, cleared_more, cleared-end}
+use Rattle.zeros.proofs.clear_seats.Goals as goal
+
+pub loop-i-init : goal.loop-i-init
+loop-i-init c =
+    cleared-start _ _
+
+pub loop-i-preserved : goal.loop-i-preserved
+loop-i-preserved c =
+    cleared_more c.loop-i.invariant
+
+pub shape_of-seats : goal.shape_of-seats
+shape_of-seats c =
+    c.loop-i.invariant.long
+
+pub returns : goal.returns
+returns c =
+    cleared-end c.loop-i.invariant c.loop-i-test.false

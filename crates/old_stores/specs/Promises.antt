@@ -16,7 +16,7 @@ pub record Judged (l : NewLengths) (σ : Store) (r : ℕ) : Type 0 where
 pub record CopyAsks (n buckets : ℕ) (old_level : Bor (List ℕ)) (old_then old_els : Bor (List ℤ)) (old_next old_heads level : Bor (List ℕ))
     (then els : Bor (List ℤ)) (next heads : Bor (List ℕ)) : Type 0 where
   pub level_there : (n ≤ length old_level.now) × (n ≤ length level.now)
-  pub then_there : (n ≤ length old_then.now) × (n ≤ length ((λ x. x.now) then))
+  pub then_there : (n ≤ length old_then.now) × (n ≤ length then.now)
   pub els_there : (n ≤ length old_els.now) × (n ≤ length els.now)
   pub next_there : (n ≤ length old_next.now) × (n ≤ length next.now)
   pub heads_there : (buckets ≤ length old_heads.now) × (buckets ≤ length heads.now)

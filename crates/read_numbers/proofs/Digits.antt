@@ -73,7 +73,7 @@ module _ (role : Role) (lim : ℕ) where
 
     -- The other way: every list of bytes has one of these answers, so each comes from such bytes and from no others.
     module _ (h : 0 < lim) where
-      stopped-answers : {v : ℕ} {r : Read ℕ} (p : List ℕ) (x : ℕ) (m : List ℕ) → s ≡ p ++ (x ∷ m) → Says lim p v → Stopped role lim v x r → DigitAnswers role lim s r
+      stopped-answers : {v : ℕ} (p : List ℕ) (x : ℕ) (m : List ℕ) {r : Read ℕ} → s ≡ p ++ (x ∷ m) → Says lim p v → Stopped role lim v x r → DigitAnswers role lim s r
       stopped-answers p x m k a (Number.over d q) =
           let e = decimal-last p x in
           over

@@ -3,7 +3,7 @@
 use Rattle.std.specs.Prelude.{◌≡◌, refl, Bool, true, false, ℕ, zero, suc, ◌≤◌, ◌<◌, ℤ, pos, nat_abs, length}
 use Rattle.std.proofs.Common.{sym, true≢false, arith}
 use mathlib.Core.List.{List-discrete}
-use Rattle.std.proofs.Math.Logic.{Dec·not}
+use Rattle.std.proofs.Math.Logic.Dec as dec
 use Rattle.std.proofs.Math.Decide.{map_dec, dec_lt, dec_le, ℕ_discrete}
 use Rattle.std.proofs.Math.IntN.{ℤ_discrete}
 use Rattle.store.specs.Store.{Store, level_at, then_at, else_at}
@@ -88,7 +88,7 @@ fits? σ n l t e = map_dec
       level_low = x.1.1.1.1.1.1.1.1;
     })
     (λ F. (F.positive, (F.differ, (F.then_some, (F.then_low, (F.then_deep, (F.else_some, (F.else_low, (F.else_deep, F.level_low)))))))))
-    (both (ℤ_discrete t (pos (nat_abs t))) (both (Dec·not (ℤ_discrete t e))
+    (both (ℤ_discrete t (pos (nat_abs t))) (both (dec.not (ℤ_discrete t e))
     (both (dec_le 1 (nat_abs t)) (both (dec_lt (nat_abs t) n) (both (dec_lt l (depth σ (nat_abs t)))
     (both (dec_le 1 (nat_abs e)) (both (dec_lt (nat_abs e) n) (both (dec_lt l (depth σ (nat_abs e))) (dec_lt l σ.levels)))))))))
 

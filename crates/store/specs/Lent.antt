@@ -5,7 +5,7 @@ use Rattle.codes.specs.Lent.{Part, old, new}
 use Rattle.store.specs.Store.{Store, store}
 
 abbrev pub store_now : ℕ → ℕ → Bor (List ℕ) → Bor (List ℤ) → Bor (List ℤ) → Bor (List ℕ) → Bor (List ℕ) → Store
-store_now levels count level then els next heads = store levels count level.now ((λ x. x.now) then) els.now next.now heads.now
+store_now levels count level then els next heads = store levels count level.now then.now els.now next.now heads.now
 
 abbrev pub old_store : ℕ → ℕ → Part (List ℕ) → Part (List ℤ) → Part (List ℤ) → Part (List ℕ) → Part (List ℕ) → Store
 old_store levels count level then els next heads = store levels count (old level) (old then) (old els) (old next) (old heads)

@@ -20,7 +20,7 @@ linked_slots count level then els next = store 0 count level then els next []
 
 -- the same in lent lists: at a `requires`, and as the call starts
 abbrev pub linked_now : ℕ → Bor (List ℕ) → Bor (List ℤ) → Bor (List ℤ) → Bor (List ℕ) → Store
-linked_now count level then els next = linked_slots count level.now ((λ x. x.now) then) els.now next.now
+linked_now count level then els next = linked_slots count level.now then.now els.now next.now
 
 abbrev pub linked_old : ℕ → Part (List ℕ) → Part (List ℤ) → Part (List ℤ) → Part (List ℕ) → Store
 linked_old count level then els next = linked_slots count (old level) (old then) (old els) (old next)

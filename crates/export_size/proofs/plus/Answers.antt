@@ -11,29 +11,29 @@ overflow_sub-max c =
 pub returns-then-max-s-clause-value : goal.returns-then-max-s-clause-value
 returns-then-max-s-clause-value c =
     let p = c.requires in
-    no-room-added _ _ _ _ c.in-Within.is p.0 p.1 c.if-max-s.true
+    no-room-added _ _ _ _ c.in-Within.is p.held p.times_nonzero c.if-max-s.true
 
 pub overflow_mul-result : goal.overflow_mul-result
 overflow_mul-result c =
     let p = c.requires in
-    omega (arith, has_room _ _ _ _ c.in-Within.is p.0 p.1 c.if-max-s.false)
+    omega (arith, has_room _ _ _ _ c.in-Within.is p.held p.times_nonzero c.if-max-s.false)
 
 pub overflow_add-result : goal.overflow_add-result
 overflow_add-result c =
     let p = c.requires in
-    omega (arith, has_room _ _ _ _ c.in-Within.is p.0 p.1 c.if-max-s.false)
+    omega (arith, has_room _ _ _ _ c.in-Within.is p.held p.times_nonzero c.if-max-s.false)
 
 pub returns-else-max-s-clause-value : goal.returns-else-max-s-clause-value
 returns-else-max-s-clause-value c =
     let e = c.in-Within.is in
     let p = c.requires in
-    room-added _ _ _ _ e p.0 p.1 c.if-max-s.false
+    room-added _ _ _ _ e p.held p.times_nonzero c.if-max-s.false
 
 pub returns-else-max-s-clause-held_2 : goal.returns-else-max-s-clause-held_2
 returns-else-max-s-clause-held_2 c =
     let e = c.in-Within.is in
     let p = c.requires in
-    has_room _ _ _ _ e p.0 p.1 c.if-max-s.false
+    has_room _ _ _ _ e p.held p.times_nonzero c.if-max-s.false
 
 pub returns-in-Over-clause-value : goal.returns-in-Over-clause-value
 returns-in-Over-clause-value c =

@@ -9,6 +9,7 @@ use Rattle.edges.specs.Width.{edge_width}
 use lib.IntN.{pos}
 use Rattle.file_roots.proofs.RootEdges.{Edged, edged-start, edged-more, edged-past, edged-length, edged-end, edge-read}
 use Rattle.file_roots.proofs.edges_of.Goals as goal
+use Rattle.file_roots.proofs.edges_of.Goals.{then-i-dst, else-i-dst}
 
 pub loop-i-init : goal.loop-i-init
 loop-i-init c =
@@ -16,10 +17,10 @@ loop-i-init c =
 
 pub loop-i-preserved : goal.loop-i-preserved
 loop-i-preserved c =
-    ⊎_elim
-    (λ w. rw w.3 (edged-more _ _ _ _ c.loop-i.invariant c.loop-i-test.true (edge-read w64 edge_width (get_or c.args.roots.now c.loop-i.i (pos 0)) (record { sfits = w.1.given }) (omega arith) w.2.ensures)))
-    (λ w. rw w.1 (edged-past _ _ _ _ c.loop-i.invariant c.loop-i-test.true w.0.left))
-    c.if-i-dst.branch
+    elim c.if-i-dst.branch [
+      then-i-dst w ↦ rw w.dst-is (edged-more _ _ _ _ c.loop-i.invariant c.loop-i-test.true (edge-read w64 edge_width (get_or c.args.roots.now c.loop-i.i (pos 0)) (record { sfits = w.edge_of-arg-1.given }) (omega arith) w.edge_of.ensures))
+    | else-i-dst w ↦ rw w.dst-is (edged-past _ _ _ _ c.loop-i.invariant c.loop-i-test.true w.if-i-dst.false)
+    ]
 
 pub returns : goal.returns
 returns c =

@@ -1,0 +1,62 @@
+-- `node_fits` meets its contract: each return names what is wrong, and the last child decides the rest.
+use borrow.Author.Rules.{rules}
+use borrow.Author.Tests.{not-true, not-false}
+use mathlib.Core.Path.{◌≡◌, sym, ◌∙◌}
+use native.Mathlib.Omega.{arith}
+use Rattle.edges.specs.Width.{edge_width}
+use mir.ValLaws.{to_z-of_z}
+use Rattle.edges.specs.Edge.{minus, eq_z}
+use Rattle.edges.proofs.Edge.{eq_z-true}
+use Rattle.store.specs.Keeps.{says-no}
+use Rattle.node_rules.proofs.Fit.{fits-minus, fits-then, fits_last}
+use Rattle.node_rules.proofs.node_fits.Goals as goal
+use Rattle.node_rules.proofs.node_fits.Lts as lts
+use Rattle.node_rules.proofs.node_fits.Tie as tie
+use Rattle.node_rules.proofs.node_fits.Reads as reads
+
+abbrev After-is_minus : Type 0
+After-is_minus = lts.After-is_minus tie.the-claims reads.Pre reads.Post
+
+abbrev After-same : Type 0
+After-same = lts.After-same tie.the-claims reads.Pre reads.Post
+
+abbrev Start : Type 0
+Start = lts.Start tie.the-claims reads.Pre reads.Post
+-- places of the course, each a few steps back from a later one
+abbrev at_same : goal.After-child_fits-2 → After-same
+at_same p = p.before.before.before.before
+
+abbrev at-start : After-same → Start
+at-start p = p.before.before.before.before.before
+
+sign : (c : After-is_minus) → minus c.args.t ≡ c.is_minus.result
+sign c = sym (rw (to_z-of_z edge_width c.args.t c.ranges.t) at c.is_minus.ensures)
+
+alike : (c : After-same) → eq_z c.args.t c.args.e ≡ c.same.result
+alike c =
+    sym (rw (to_z-of_z edge_width c.args.t c.ranges.t, to_z-of_z edge_width c.args.e c.ranges.e) at c.same.ensures)
+
+pub returns-then-levels-l : goal.returns-then-levels-l
+returns-then-levels-l c =
+    says-no (λ F. omega (arith, F.level_low))
+
+pub returns-then-is_minus : goal.returns-then-is_minus
+returns-then-is_minus c =
+    says-no (fits-minus _ _ _ _ _ (sign c.before ∙ c.if-is_minus.true))
+
+pub returns-then-same : goal.returns-then-same
+returns-then-same c =
+    says-no (λ F. F.differ (eq_z-true _ _ (alike c.before ∙ c.if-same.true)))
+
+pub returns-then-not-child_fits : goal.returns-then-not-child_fits
+returns-then-not-child_fits c =
+    says-no (λ F. (rw (to_z-of_z edge_width c.args.t c.ranges.t) at
+    c.child_fits.ensures).no (not-true _ c.if-not-child_fits.true) (fits-then _ _ _ _ _ F))
+
+pub returns : goal.returns
+returns c =
+    fits_last _ _ _ _ _ (omega arith) (sign c.before.before ∙ c.if-is_minus.false)
+    (alike (at_same c) ∙ c.if-same.false)
+    ((rw (to_z-of_z edge_width (at-start (at_same c)).args.t (at-start (at_same c)).ranges.t) at c.child_fits.ensures).yes
+    (not-false _ c.if-not-child_fits.false))
+    (rw (to_z-of_z edge_width (at-start (at_same c)).args.e (at-start (at_same c)).ranges.e) at c.child_fits-2.ensures)

@@ -1,6 +1,7 @@
 // The chains of a store: a node is found along the chain of its bucket, with no index.
 #![tactic(auto)]
 
+ghost use Rattle.codes.specs.Lent.{seen};
 ghost use Rattle.std.specs.Prelude.{◌≡◌, ℕ, ◌≤◌};
 ghost use Rattle.store.specs.Lent.{store_now, old_store};
 ghost use Rattle.codes.specs.Limits.{limits};
@@ -30,8 +31,8 @@ pub fn find(
     t: Edge,
     e: Edge,
 ) -> Index
-    requires { Rules limits (store_now levels count level then els next heads) }
-    ensures { result ≡ nodes.find (old_store levels count level then els next heads) l t e }
+    requires { Rules limits (store_now levels count level.now then.now els.now next.now heads.now) }
+    ensures { result ≡ nodes.find (old_store levels count (seen level) (seen then) (seen els) (seen next) (seen heads)) l t e }
 {
     let a = edges::magnitude(t);
     let b = edges::magnitude(e);

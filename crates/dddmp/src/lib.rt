@@ -3,6 +3,7 @@
 // as zeros.
 #![tactic(auto)]
 
+ghost use Rattle.codes.specs.Lent.{borrowed, seen};
 ghost use Rattle.example_walk.specs.Promises.{ExamplePromise};
 ghost use Rattle.exporter.specs.Promise.{ExportPromise};
 ghost use Rattle.joins.specs.Promises.{JoinPromise, OppositePromise};
@@ -47,8 +48,8 @@ pub fn load(
     seats: &mut [u16],
     work: &mut [Index],
 ) -> Loaded
-    ensures { LoadPromise f list levels count level then els next heads
-        ids order permids auxids names lens roots rootnames rootlens edges seats work result }
+    ensures { LoadPromise (seen f) (seen list) levels (borrowed count) (borrowed level) (borrowed then) (borrowed els) (borrowed next) (borrowed heads)
+        (borrowed ids) (borrowed order) (borrowed permids) (borrowed auxids) (borrowed names) (borrowed lens) (borrowed roots) (borrowed rootnames) (borrowed rootlens) (borrowed edges) (borrowed seats) (borrowed work) result }
 {
     let lists = stages::lists_fault(
         ids.len(),
@@ -90,7 +91,7 @@ pub fn evaluate(
     setting: &[u8],
     work: &mut [Index],
 ) -> Evaluation
-    ensures { EvaluatePromise levels count level then els next heads root setting work result }
+    ensures { EvaluatePromise levels count (seen level) (seen then) (seen els) (seen next) (seen heads) root (seen setting) (borrowed work) result }
 {
     evaluation::evaluate(
         levels, count, level, then, els, next, heads, root, setting, work,
@@ -111,7 +112,7 @@ pub fn example(
     setting: &mut [u8],
     work: &mut [Index],
 ) -> Found
-    ensures { ExamplePromise levels count level then els next heads root wanted setting work result }
+    ensures { ExamplePromise levels count (seen level) (seen then) (seen els) (seen next) (seen heads) root wanted (borrowed setting) (borrowed work) result }
 {
     example_walk::example(
         levels, count, level, then, els, next, heads, root, wanted, setting, work,
@@ -131,7 +132,7 @@ pub fn tip(
     setting: &[u8],
     work: &mut [Index],
 ) -> Tipped
-    ensures { TipPromise levels count level then els next heads root setting work result }
+    ensures { TipPromise levels count (seen level) (seen then) (seen els) (seen next) (seen heads) root (seen setting) (borrowed work) result }
 {
     tipping::tip(
         levels, count, level, then, els, next, heads, root, setting, work,
@@ -161,8 +162,8 @@ pub fn export(
     out: &mut [u8],
     work: &mut [Index],
 ) -> Exported
-    ensures { ExportPromise settings levels count level then els next heads
-        roots order bytes starts lens rootstarts rootlens slots numbers out work result }
+    ensures { ExportPromise settings levels count (seen level) (seen then) (seen els) (seen next) (seen heads)
+        (seen roots) (seen order) (seen bytes) (seen starts) (seen lens) (seen rootstarts) (seen rootlens) (borrowed slots) (borrowed numbers) (borrowed out) (borrowed work) result }
 {
     settings.export(
         levels, count, level, then, els, next, heads, roots, order, bytes, starts, lens,
@@ -186,7 +187,7 @@ pub fn join(
     cache: &mut [Edge],
     work: &mut [Index],
 ) -> Joined
-    ensures { JoinPromise levels count level then els next heads op left right cache work result }
+    ensures { JoinPromise levels (borrowed count) (borrowed level) (borrowed then) (borrowed els) (borrowed next) (borrowed heads) op left right (borrowed cache) (borrowed work) result }
 {
     joins::join(
         levels, count, level, then, els, next, heads, op, left, right, cache, work,
@@ -205,7 +206,7 @@ pub fn opposite(
     root: Edge,
     work: &mut [Index],
 ) -> Joined
-    ensures { OppositePromise levels count level then els next heads root work result }
+    ensures { OppositePromise levels count (seen level) (seen then) (seen els) (seen next) (seen heads) root (borrowed work) result }
 {
     joins::opposite(levels, count, level, then, els, next, heads, root, work)
 }
@@ -228,8 +229,8 @@ pub fn widen(
     heads: &mut [Index],
     work: &mut [Index],
 ) -> Turned
-    ensures { WidenPromise levels old_count old_level old_then old_els old_next old_heads
-        count level then els next heads work result }
+    ensures { WidenPromise levels old_count (seen old_level) (seen old_then) (seen old_els) (seen old_next) (seen old_heads)
+        (borrowed count) (borrowed level) (borrowed then) (borrowed els) (borrowed next) (borrowed heads) (borrowed work) result }
 {
     widening::widen(
         levels, old_count, old_level, old_then, old_els, old_next, old_heads, count, level, then,

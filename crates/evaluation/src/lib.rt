@@ -5,7 +5,7 @@ ghost use Rattle.std.specs.Prelude.{◌≡◌, ◌&&◌, ◌<◌, leb, eqb, leng
 ghost use Rattle.std.specs.Bool.{xor};
 ghost use Rattle.store.specs.Store.{slots};
 ghost use Rattle.store.specs.Meaning.{setting_of, node, answer};
-ghost use Rattle.codes.specs.Lent.{old};
+ghost use Rattle.codes.specs.Lent.{borrowed, seen};
 ghost use Rattle.codes.specs.Limits.{limits};
 ghost use Rattle.store.specs.Lent.{old_store};
 ghost use Rattle.evaluation.specs.Evaluation.{only_bits, evaluation_fault};
@@ -43,7 +43,7 @@ fn eval_edge(
     e: Edge,
 ) -> bool
     requires { Walks level.now.now then.now.now els.now.now setting.now.now (nat_abs e) }
-    ensures { result ≡ xor odd (answer (slots_behind level then els) (setting_behind setting) e) }
+    ensures { result ≡ xor odd (answer (slots_behind (seen level) (seen then) (seen els)) (setting_behind (seen setting)) e) }
 {
     let minus = edges::is_minus(e);
     eval_node(level, then, els, setting, odd != minus, edges::magnitude(e))
@@ -60,7 +60,7 @@ fn eval_node(
     n: Index,
 ) -> bool
     requires { Walks level.now.now then.now.now els.now.now setting.now.now n }
-    ensures { result ≡ xor odd (node (slots_behind level then els) (setting_behind setting) n) }
+    ensures { result ≡ xor odd (node (slots_behind (seen level) (seen then) (seen els)) (setting_behind (seen setting)) n) }
 {
     if n <= 1 {
         return !odd;
@@ -127,7 +127,7 @@ pub fn evaluation_fault(
     setting: &[u8],
     work: &mut [Index],
 ) -> u8
-    ensures { result ≡ evaluation_fault limits (old_store levels count level then els next heads) root (old setting) }
+    ensures { result ≡ evaluation_fault limits (old_store levels count (seen level) (seen then) (seen els) (seen next) (seen heads)) root setting.now }
 {
     if !rules::keeps_rules(levels, count, level, then, els, next, heads, count, work) {
         return refusal::BROKEN_STORE;
@@ -154,7 +154,7 @@ pub fn evaluate(
     setting: &[u8],
     work: &mut [Index],
 ) -> Evaluation
-    ensures { EvaluationPromise levels count level then els next heads root setting work result }
+    ensures { EvaluationPromise levels count (seen level) (seen then) (seen els) (seen next) (seen heads) root (seen setting) (borrowed work) result }
 {
     let fault = evaluation_fault(
         levels, count, level, then, els, next, heads, root, setting, work,

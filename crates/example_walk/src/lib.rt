@@ -1,6 +1,7 @@
 // A walk that would count: the first setting at which a root answers as wanted, level 0 compared first and no before yes.
 #![tactic(auto)]
 
+ghost use Rattle.codes.specs.Lent.{borrowed, seen};
 ghost use Rattle.std.specs.Prelude.{◌≡◌};
 ghost use Rattle.example_walk.specs.Course.{never, example_fault, WalkAsks};
 ghost use Rattle.example_walk.specs.Promises.{WalkPromise, ExamplePromise};
@@ -28,7 +29,7 @@ fn never_answers(e: Edge, wanted: bool) -> bool
 // it doesn't meet stay no.
 fn walk(level: &[u16], then: &[Edge], els: &[Edge], root: Edge, wanted: bool, setting: &mut [u8])
     requires { WalkAsks level.now then.now els.now root wanted setting.old }
-    ensures { WalkPromise level then els root wanted setting }
+    ensures { WalkPromise (seen level) (seen then) (seen els) root wanted (borrowed setting) }
 {
     let mut n = edges::magnitude(root);
     // What node n is to answer.
@@ -61,7 +62,7 @@ fn example_fault(
     long: usize,
     work: &mut [Index],
 ) -> u8
-    ensures { result ≡ example_fault limits (old_store levels count level then els next heads) root wanted long }
+    ensures { result ≡ example_fault limits (old_store levels count (seen level) (seen then) (seen els) (seen next) (seen heads)) root wanted long }
 {
     if long < levels as usize {
         return refusal::TOO_SHORT;
@@ -93,7 +94,7 @@ pub fn example(
     setting: &mut [u8],
     work: &mut [Index],
 ) -> Found
-    ensures { ExamplePromise levels count level then els next heads root wanted setting work result }
+    ensures { ExamplePromise levels count (seen level) (seen then) (seen els) (seen next) (seen heads) root wanted (borrowed setting) (borrowed work) result }
 {
     zeros::clear_bytes(setting);
     let fault = example_fault(

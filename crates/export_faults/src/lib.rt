@@ -3,7 +3,7 @@
 
 ghost use Rattle.std.specs.Prelude.{◌≡◌, true, ◌&&◌, leb, replicate};
 ghost use Rattle.codes.specs.Limits.{var_limit};
-ghost use Rattle.codes.specs.Lent.{old};
+ghost use Rattle.codes.specs.Lent.{borrowed, seen};
 ghost use Rattle.header_values.specs.Kinds.{of_place};
 ghost use Rattle.export_names.specs.Names.{fit_place, name_list_fits};
 ghost use Rattle.export_size.specs.Size.{export_size};
@@ -43,7 +43,7 @@ fn long_enough(
     numbers: usize,
     out: usize,
 ) -> bool
-    ensures { result ≡ leb count slots && leb count numbers && leb (export_size count levels roots (old lens) (old rootlens) dd.len) out }
+    ensures { result ≡ leb count slots && leb count numbers && leb (export_size count levels roots lens.now rootlens.now dd.len) out }
 {
     if slots < count as usize {
         return false;
@@ -65,8 +65,8 @@ fn names_fit(
     rootlens: &[u32],
     dd: Place,
 ) -> bool
-    ensures { result ≡ name_list_fits levels (old bytes) (old starts) (old lens)
-        && name_list_fits roots (old bytes) (old rootstarts) (old rootlens) && fit_place true (old bytes) (of_place dd) }
+    ensures { result ≡ name_list_fits levels bytes.now starts.now lens.now
+        && name_list_fits roots bytes.now rootstarts.now rootlens.now && fit_place true bytes.now (of_place dd) }
 {
     if !export_names::list_fits(levels as usize, bytes, starts, lens) {
         return false;
@@ -102,7 +102,7 @@ pub fn export_fault(
     work: &mut [Index],
 ) -> u8
     requires { vars.old ≡ replicate var_limit 0 }
-    ensures { FaultPromise levels count level then els next heads roots order bytes starts lens rootstarts rootlens dd slots numbers out vars result }
+    ensures { FaultPromise levels count (seen level) (seen then) (seen els) (seen next) (seen heads) (seen roots) (seen order) (seen bytes) (seen starts) (seen lens) (seen rootstarts) (seen rootlens) dd slots numbers out (borrowed vars) result }
 {
     if !long_enough(
         levels,

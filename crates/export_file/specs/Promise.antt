@@ -1,6 +1,5 @@
 -- What writing the file of an export asks and promises.
 use Rattle.std.specs.Prelude.{ℕ, ◌≤◌, ◌≡◌, Bool, List, length, replicate, ℤ}
-use Rattle.std.specs.Borrow.{Bor}
 use Rattle.codes.specs.Limits.{limits}
 use Rattle.codes.specs.Lent.{laid, Part, old, new}
 use Rattle.codes.specs.declared.DDDMPVersion.{DDDMPVersion}
@@ -14,16 +13,16 @@ use Rattle.exported.specs.Settings.{settings}
 use Rattle.exported.specs.Export.{export_fault, file_of}
 
 -- `file::write_file`: nothing is refused of the call, each level's variable is known, and the lists that it fills are zeros
-pub record FileAsks (dd : Place) (levels count : ℕ) (level : Bor (List ℕ)) (then els : Bor (List ℤ)) (next heads : Bor (List ℕ))
-    (roots : Bor (List ℤ)) (order vars bytes starts lens rootstarts rootlens slots numbers out : Bor (List ℕ)) : Type 0 where
-  pub taken : export_fault limits (store_now levels count level then els next heads) roots.now order.now
-      (lent bytes.now starts.now lens.now rootstarts.now rootlens.now (of_place dd)) (length slots.now) (length numbers.now) (length out.now)
+pub record FileAsks (dd : Place) (levels count : ℕ) (level : List ℕ) (then els : List ℤ) (next heads : List ℕ)
+    (roots : List ℤ) (order vars bytes starts lens rootstarts rootlens slots numbers out : List ℕ) : Type 0 where
+  pub taken : export_fault limits (store_now levels count level then els next heads) roots order
+      (lent bytes starts lens rootstarts rootlens (of_place dd)) (length slots) (length numbers) (length out)
       ≡ 0
-  pub seats : Seats order.now vars.now
-  pub vars_long : length order.now ≤ length vars.now
-  pub slots_clear : slots.now ≡ replicate (length slots.now) 0
-  pub numbers_clear : numbers.now ≡ replicate (length numbers.now) 0
-  pub out_clear : out.now ≡ replicate (length out.now) 0
+  pub seats : Seats order vars
+  pub vars_long : length order ≤ length vars
+  pub slots_clear : slots ≡ replicate (length slots) 0
+  pub numbers_clear : numbers ≡ replicate (length numbers) 0
+  pub out_clear : out ≡ replicate (length out) 0
 
 module _ (version : DDDMPVersion) (ascii : Bool) (dd : Place) (levels count : ℕ) (level : Part (List ℕ)) (then els : Part (List ℤ))
     (next heads : Part (List ℕ)) (roots : Part (List ℤ)) (order bytes starts lens rootstarts rootlens : Part (List ℕ)) where

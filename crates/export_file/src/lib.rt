@@ -1,6 +1,7 @@
 // The file of an export.
 #![tactic(auto)]
 
+ghost use Rattle.codes.specs.Lent.{borrowed, seen};
 ghost use Rattle.export_file.specs.Promise.{FileAsks, FilePromise};
 
 use codes::DDDMPVersion;
@@ -33,8 +34,8 @@ pub fn write_file(
     numbers: &mut [Index],
     out: &mut [u8],
 ) -> usize
-    requires { FileAsks dd levels count level then els next heads roots order vars bytes starts lens rootstarts rootlens slots numbers out }
-    ensures { FilePromise version ascii dd levels count level then els next heads roots order bytes starts lens rootstarts rootlens out result }
+    requires { FileAsks dd levels count level.now then.now els.now next.now heads.now roots.now order.now vars.now bytes.now starts.now lens.now rootstarts.now rootlens.now slots.old numbers.old out.old }
+    ensures { FilePromise version ascii dd levels count (seen level) (seen then) (seen els) (seen next) (seen heads) (seen roots) (seen order) (seen bytes) (seen starts) (seen lens) (seen rootstarts) (seen rootlens) (borrowed out) result }
 {
     let nnodes = numbering::number_nodes(levels, count, level, then, els, roots, slots, numbers);
     let mut seats = [0u16; VAR_LIMIT];

@@ -2,7 +2,7 @@
 #![tactic(auto)]
 
 ghost use Rattle.std.specs.Prelude.{◌≡◌, true, [], ◌∷◌};
-ghost use Rattle.codes.specs.Lent.{old};
+ghost use Rattle.codes.specs.Lent.{borrowed, seen};
 ghost use Rattle.read_text.specs.Text.{place};
 ghost use Rattle.header_keys.specs.declared.Key.TheVariants.{Ver, Mode};
 ghost use Rattle.export_names.specs.Names.{name_at, fit_place};
@@ -16,8 +16,8 @@ use edges::{Edge, Index};
 
 // Writes `.ver`.
 fn write_version(version: DDDMPVersion, out: &mut [u8], at: usize) -> usize
-    requires { FitsOut out at (line_text (line Ver (version_text version ∷ []))) }
-    ensures { Written out at (line_text (line Ver (version_text version ∷ []))) result }
+    requires { FitsOut out.old at (line_text (line Ver (version_text version ∷ []))) }
+    ensures { Written (borrowed out) at (line_text (line Ver (version_text version ∷ []))) result }
 {
     match version {
         DDDMPVersion::V2_0 => writers::text::put_bytes(out, at, b".ver DDDMP-2.0\n"),
@@ -27,8 +27,8 @@ fn write_version(version: DDDMPVersion, out: &mut [u8], at: usize) -> usize
 
 // Writes `.mode`.
 fn write_mode(ascii: bool, out: &mut [u8], at: usize) -> usize
-    requires { FitsOut out at (line_text (line Mode (mode_text ascii ∷ []))) }
-    ensures { Written out at (line_text (line Mode (mode_text ascii ∷ []))) result }
+    requires { FitsOut out.old at (line_text (line Mode (mode_text ascii ∷ []))) }
+    ensures { Written (borrowed out) at (line_text (line Mode (mode_text ascii ∷ []))) result }
 {
     if ascii {
         return writers::text::put_bytes(out, at, b".mode A\n");
@@ -38,8 +38,8 @@ fn write_mode(ascii: bool, out: &mut [u8], at: usize) -> usize
 
 // Writes `.dd`, where the diagram has a name.
 fn write_diagram(out: &mut [u8], at: usize, bytes: &[u8], start: u32, len: u32) -> usize
-    requires { DiagramAsks out at bytes start len }
-    ensures { DiagramPromise out at bytes start len result }
+    requires { DiagramAsks out.old at bytes.now start len }
+    ensures { DiagramPromise (borrowed out) at (seen bytes) start len result }
 {
     if len == 0 {
         return at;
@@ -60,8 +60,8 @@ fn write_intro(
     len: u32,
 ) -> usize
     requires len_value { fit_place true bytes.now (place start len) ≡ true }
-    requires fits_out { FitsOut out at (lines_text (intro_lines version ascii (name_at bytes.now (place start len)))) }
-    ensures { Written out at (lines_text (intro_lines version ascii (name_at (old bytes) (place start len)))) result }
+    requires fits_out { FitsOut out.old at (lines_text (intro_lines version ascii (name_at bytes.now (place start len)))) }
+    ensures { Written (borrowed out) at (lines_text (intro_lines version ascii (name_at bytes.now (place start len)))) result }
 {
     let mode_at = write_version(version, out, at);
     let varinfo_at = write_mode(ascii, out, mode_at);
@@ -79,8 +79,8 @@ fn write_roots(
     starts: &[u32],
     lens: &[u32],
 ) -> usize
-    requires { RootsAsks out at roots numbers bytes starts lens }
-    ensures { RootsPromise out at roots numbers bytes starts lens result }
+    requires { RootsAsks out.old at roots.now numbers.now bytes.now starts.now lens.now }
+    ensures { RootsPromise (borrowed out) at (seen roots) (seen numbers) (seen bytes) (seen starts) (seen lens) result }
 {
     let ids_key = head_numbers::write_count(out, at, b".nroots", roots.len());
     let ids_at = writers::text::put_bytes(out, ids_key, b".rootids");
@@ -111,10 +111,10 @@ pub fn write_header(
     roots: &[Edge],
     numbers: &[Index],
 ) -> usize
-    requires { HeaderAsks version ascii out at bytes starts lens rootstarts rootlens ddstart ddlen nnodes nsuppvars
-        order vars seats roots numbers }
-    ensures { HeaderPromise version ascii out at bytes starts lens rootstarts rootlens ddstart ddlen nnodes
-        order seats roots numbers result }
+    requires { HeaderAsks version ascii out.old at bytes.now starts.now lens.now rootstarts.now rootlens.now ddstart ddlen nnodes nsuppvars
+        order.now vars.now seats.now roots.now numbers.now }
+    ensures { HeaderPromise version ascii (borrowed out) at (seen bytes) (seen starts) (seen lens) (seen rootstarts) (seen rootlens) ddstart ddlen nnodes
+        (seen order) (seen seats) (seen roots) (seen numbers) result }
 {
     let counts_at = write_intro(version, ascii, out, at, bytes, ddstart, ddlen);
     let names_at = head_numbers::write_counts(

@@ -4,7 +4,7 @@
 ghost use Rattle.std.specs.Prelude.{◌≡◌, ◌≤◌, [], nat_abs};
 ghost use Rattle.codes.specs.Limits.{node_limit};
 ghost use Rattle.store.specs.Store.{slots};
-ghost use Rattle.codes.specs.Lent.{old};
+ghost use Rattle.codes.specs.Lent.{borrowed};
 ghost use Rattle.writers.specs.Written.{FitsOut, Written};
 ghost use Rattle.node_writers.specs.Encoded.{node_bytes};
 ghost use Rattle.export_nodes.specs.Tables.{line_number_of, Numbered, lines_by, seat_by, inner_by, node_line_by, Seated, Inner, Lined};
@@ -50,8 +50,8 @@ fn put_inner(
     node: Index,
 ) -> usize
     requires le_node { (2 ≤ node) × (n ≤ node_limit) × Inner (slots level.now then.now els.now) numbers.now seats.now n node }
-    requires fits_out { FitsOut out at (inner_by ascii (slots level.now then.now els.now) numbers.now seats.now n node) }
-    ensures { Written out at (inner_by ascii (slots (old level) (old then) (old els)) (old numbers) (old seats) n node) result }
+    requires fits_out { FitsOut out.old at (inner_by ascii (slots level.now then.now els.now) numbers.now seats.now n node) }
+    ensures { Written (borrowed out) at (inner_by ascii (slots level.now then.now els.now) numbers.now seats.now n node) result }
 {
     let i = node as usize - 1;
     let t = then[i];
@@ -80,8 +80,8 @@ fn put_node(
     node: Index,
 ) -> usize
     requires le_node { (1 ≤ node) × (n ≤ node_limit) × (2 ≤ node → Inner (slots level.now then.now els.now) numbers.now seats.now n node) }
-    requires fits_out { FitsOut out at (node_line_by ascii (slots level.now then.now els.now) numbers.now seats.now n node) }
-    ensures { Written out at (node_line_by ascii (slots (old level) (old then) (old els)) (old numbers) (old seats) n node) result }
+    requires fits_out { FitsOut out.old at (node_line_by ascii (slots level.now then.now els.now) numbers.now seats.now n node) }
+    ensures { Written (borrowed out) at (node_line_by ascii (slots level.now then.now els.now) numbers.now seats.now n node) result }
 {
     if node != 1 {
         return put_inner(ascii, level, then, els, numbers, seats, out, at, n, node);
@@ -105,8 +105,8 @@ pub fn write_nodes(
     at: usize,
 ) -> usize
     requires lined { Lined (slots level.now then.now els.now) nodes.now numbers.now seats.now }
-    requires fits_out { FitsOut out at (node_bytes ascii (lines_by (slots level.now then.now els.now) numbers.now seats.now nodes.now)) }
-    ensures { Written out at (node_bytes ascii (lines_by (slots (old level) (old then) (old els)) (old numbers) (old seats) (old nodes))) result }
+    requires fits_out { FitsOut out.old at (node_bytes ascii (lines_by (slots level.now then.now els.now) numbers.now seats.now nodes.now)) }
+    ensures { Written (borrowed out) at (node_bytes ascii (lines_by (slots level.now then.now els.now) numbers.now seats.now nodes.now)) result }
 {
     let mut next = at;
     let mut i: usize = 0;

@@ -1,6 +1,7 @@
 // Exports of diagrams to DDDMP files.
 #![tactic(auto)]
 
+ghost use Rattle.codes.specs.Lent.{borrowed, seen};
 ghost use Rattle.std.specs.Prelude.{◌≡◌, true, false};
 ghost use Rattle.read_text.specs.Text.{place};
 ghost use Rattle.exported.specs.Settings.{settings, defaults};
@@ -122,8 +123,8 @@ impl ExportSettings {
         out: &mut [u8],
         work: &mut [Index],
     ) -> Exported
-        ensures { ExportPromise self levels count level then els next heads roots order
-            bytes starts lens rootstarts rootlens slots numbers out work result }
+        ensures { ExportPromise self levels count (seen level) (seen then) (seen els) (seen next) (seen heads) (seen roots) (seen order)
+            (seen bytes) (seen starts) (seen lens) (seen rootstarts) (seen rootlens) (borrowed slots) (borrowed numbers) (borrowed out) (borrowed work) result }
     {
         let dd = self.dd;
         let version = self.version;

@@ -2,6 +2,7 @@
 // the interface, which rises with each change of a width or of a parameter: a program that was compiled for another version doesn't link.
 #![tactic(auto)]
 
+ghost use Rattle.codes.specs.Lent.{borrowed, seen};
 ghost use Rattle.firmware.specs.Promises.{ZtLoadPromise, ZtEvaluatePromise, ZtExamplePromise, ZtTipPromise, ZtExportPromise, ZtJoinPromise, ZtNotPromise, ZtWidenPromise};
 ghost use Rattle.joined.specs.declared.Op.TheVariants as op;
 
@@ -37,8 +38,8 @@ pub extern "C" fn zt2_load(
     seats: &mut [u16],
     work: &mut [Index],
 ) -> LoadAnswer
-    ensures { ZtLoadPromise file list levels count level then els next heads ids order permids auxids names lens roots rootnames rootlens
-        edges seats work result }
+    ensures { ZtLoadPromise (seen file) (seen list) levels (borrowed count) (borrowed level) (borrowed then) (borrowed els) (borrowed next) (borrowed heads) (borrowed ids) (borrowed order) (borrowed permids) (borrowed auxids) (borrowed names) (borrowed lens) (borrowed roots) (borrowed rootnames) (borrowed rootlens)
+        (borrowed edges) (borrowed seats) (borrowed work) result }
 {
     c_answers::load_answer(dddmp::load(
         file, list, levels, count, level, then, els, next, heads, ids, order, permids, auxids,
@@ -60,7 +61,7 @@ pub extern "C" fn zt2_evaluate(
     setting: &[u8],
     work: &mut [Index],
 ) -> EvaluateAnswer
-    ensures { ZtEvaluatePromise levels count level then els next heads root setting work result }
+    ensures { ZtEvaluatePromise levels count (seen level) (seen then) (seen els) (seen next) (seen heads) root (seen setting) (borrowed work) result }
 {
     c_answers::evaluate_answer(dddmp::evaluate(
         levels, count, level, then, els, next, heads, root, setting, work,
@@ -82,7 +83,7 @@ pub extern "C" fn zt2_example(
     setting: &mut [u8],
     work: &mut [Index],
 ) -> ExampleAnswer
-    ensures { ZtExamplePromise levels count level then els next heads root wanted setting work result }
+    ensures { ZtExamplePromise levels count (seen level) (seen then) (seen els) (seen next) (seen heads) root wanted (borrowed setting) (borrowed work) result }
 {
     c_answers::example_answer(dddmp::example(
         levels,
@@ -113,7 +114,7 @@ pub extern "C" fn zt2_tip(
     setting: &[u8],
     work: &mut [Index],
 ) -> TipAnswer
-    ensures { ZtTipPromise levels count level then els next heads root setting work result }
+    ensures { ZtTipPromise levels count (seen level) (seen then) (seen els) (seen next) (seen heads) root (seen setting) (borrowed work) result }
 {
     c_answers::tip_answer(dddmp::tip(
         levels, count, level, then, els, next, heads, root, setting, work,
@@ -146,8 +147,8 @@ pub extern "C" fn zt2_export(
     out: &mut [u8],
     work: &mut [Index],
 ) -> ExportAnswer
-    ensures { ZtExportPromise version text ddstart ddlen levels count level then els next heads roots order bytes starts lens rootstarts rootlens
-        slots numbers out work result }
+    ensures { ZtExportPromise version text ddstart ddlen levels count (seen level) (seen then) (seen els) (seen next) (seen heads) (seen roots) (seen order) (seen bytes) (seen starts) (seen lens) (seen rootstarts) (seen rootlens)
+        (borrowed slots) (borrowed numbers) (borrowed out) (borrowed work) result }
 {
     let settings = c_answers::settings_of(version, text, ddstart, ddlen);
     c_answers::export_answer(dddmp::export(
@@ -171,7 +172,7 @@ pub extern "C" fn zt2_and(
     cache: &mut [Edge],
     work: &mut [Index],
 ) -> JoinAnswer
-    ensures { ZtJoinPromise op.And levels count level then els next heads left right cache work result }
+    ensures { ZtJoinPromise op.And levels (borrowed count) (borrowed level) (borrowed then) (borrowed els) (borrowed next) (borrowed heads) left right (borrowed cache) (borrowed work) result }
 {
     c_answers::join_answer(dddmp::join(
         levels,
@@ -204,7 +205,7 @@ pub extern "C" fn zt2_or(
     cache: &mut [Edge],
     work: &mut [Index],
 ) -> JoinAnswer
-    ensures { ZtJoinPromise op.Or levels count level then els next heads left right cache work result }
+    ensures { ZtJoinPromise op.Or levels (borrowed count) (borrowed level) (borrowed then) (borrowed els) (borrowed next) (borrowed heads) left right (borrowed cache) (borrowed work) result }
 {
     c_answers::join_answer(dddmp::join(
         levels,
@@ -237,7 +238,7 @@ pub extern "C" fn zt2_xor(
     cache: &mut [Edge],
     work: &mut [Index],
 ) -> JoinAnswer
-    ensures { ZtJoinPromise op.Xor levels count level then els next heads left right cache work result }
+    ensures { ZtJoinPromise op.Xor levels (borrowed count) (borrowed level) (borrowed then) (borrowed els) (borrowed next) (borrowed heads) left right (borrowed cache) (borrowed work) result }
 {
     c_answers::join_answer(dddmp::join(
         levels,
@@ -268,7 +269,7 @@ pub extern "C" fn zt2_not(
     root: Edge,
     work: &mut [Index],
 ) -> JoinAnswer
-    ensures { ZtNotPromise levels count level then els next heads root work result }
+    ensures { ZtNotPromise levels count (seen level) (seen then) (seen els) (seen next) (seen heads) root (borrowed work) result }
 {
     c_answers::join_answer(dddmp::opposite(
         levels, count, level, then, els, next, heads, root, work,
@@ -293,8 +294,8 @@ pub extern "C" fn zt2_widen(
     heads: &mut [Index],
     work: &mut [Index],
 ) -> WidenAnswer
-    ensures { ZtWidenPromise levels old_count old_level old_then old_els old_next old_heads
-        count level then els next heads work result }
+    ensures { ZtWidenPromise levels old_count (seen old_level) (seen old_then) (seen old_els) (seen old_next) (seen old_heads)
+        (borrowed count) (borrowed level) (borrowed then) (borrowed els) (borrowed next) (borrowed heads) (borrowed work) result }
 {
     c_answers::widen_answer(dddmp::widen(
         levels, old_count, old_level, old_then, old_els, old_next, old_heads, count, level, then,

@@ -1,6 +1,5 @@
 -- What writing the names of a header asks and promises.
 use Rattle.std.specs.Prelude.{ℕ, ◌≤◌, ◌≡◌, true, List, length}
-use Rattle.std.specs.Borrow.{Bor}
 use Rattle.codes.specs.declared.DDDMPVersion.{DDDMPVersion}
 use Rattle.codes.specs.Lent.{Part, old}
 use Rattle.seats.specs.Seats.{Seats}
@@ -25,35 +24,35 @@ ordered_names names order = spaced (chosen_names (variables_from (length order) 
 abbrev rootnames : List (List ℕ) → List ℕ
 rootnames names = lines_text (unless_empty names (line Rootnames names))
 
-module _ (out : Bor (List ℕ)) (at : ℕ) (bytes starts lens : Bor (List ℕ)) where
+module _ (out : List ℕ) (at : ℕ) (bytes starts lens : List ℕ) where
   abbrev lent_names : List (List ℕ)
-  lent_names = names_at bytes.now starts.now lens.now
+  lent_names = names_at bytes starts lens
 
   -- a name inside the lent bytes for each variable, a seat for each level, and room
-  pub record SuppNamesAsks (order seats : Bor (List ℕ)) : Type 0 where
-    pub inside : Inside bytes.now starts.now lens.now
-    pub named : length lens.now ≡ length order.now
-    pub seatable : Seatable order.now seats.now
-    pub room : FitsOut out at (supp_names lent_names order.now seats.now)
+  pub record SuppNamesAsks (order seats : List ℕ) : Type 0 where
+    pub inside : Inside bytes starts lens
+    pub named : length lens ≡ length order
+    pub seatable : Seatable order seats
+    pub room : FitsOut out at (supp_names lent_names order seats)
 
   -- a name inside the lent bytes for each variable, an order, each level's variable, and room
-  pub record OrderedNamesAsks (order vars : Bor (List ℕ)) : Type 0 where
-    pub inside : Inside bytes.now starts.now lens.now
-    pub named : length lens.now ≡ length order.now
-    pub is_an_order : is_order (length order.now) order.now ≡ true
-    pub vars_there : Seats order.now vars.now
-    pub vars_long : length order.now ≤ length vars.now
-    pub room : FitsOut out at (ordered_names lent_names order.now)
+  pub record OrderedNamesAsks (order vars : List ℕ) : Type 0 where
+    pub inside : Inside bytes starts lens
+    pub named : length lens ≡ length order
+    pub is_an_order : is_order (length order) order ≡ true
+    pub vars_there : Seats order vars
+    pub vars_long : length order ≤ length vars
+    pub room : FitsOut out at (ordered_names lent_names order)
 
   -- 'Names are lent for all variables or none'; the tables of the levels, and room
-  pub record NamesAsks (version : DDDMPVersion) (order vars seats : Bor (List ℕ)) : Type 0 where
-    pub names_do_fit : name_list_fits (length order.now) bytes.now starts.now lens.now ≡ true
-    pub ordered : Ordered order.now vars.now seats.now
-    pub room : FitsOut out at (lines_text (named_lines version (seated_levels seats.now) order.now lent_names))
+  pub record NamesAsks (version : DDDMPVersion) (order vars seats : List ℕ) : Type 0 where
+    pub names_do_fit : name_list_fits (length order) bytes starts lens ≡ true
+    pub ordered : Ordered order vars seats
+    pub room : FitsOut out at (lines_text (named_lines version (seated_levels seats) order lent_names))
 
   -- each name lies inside the lent bytes, and there is room for their line
   pub record RootnamesAsks : Type 0 where
-    pub inside : Inside bytes.now starts.now lens.now
+    pub inside : Inside bytes starts lens
     pub room : FitsOut out at (rootnames lent_names)
 
 module _ (out : Part (List ℕ)) (at : ℕ) (bytes starts lens : Part (List ℕ)) where

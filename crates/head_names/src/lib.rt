@@ -2,7 +2,7 @@
 #![tactic(auto)]
 
 ghost use Rattle.std.specs.Prelude.{[], ◌∷◌, ◌+◌, ◌≤◌, ◌<◌, length, get_or};
-ghost use Rattle.codes.specs.Lent.{old};
+ghost use Rattle.codes.specs.Lent.{borrowed, seen};
 ghost use Rattle.read_text.specs.Text.{place};
 ghost use Rattle.export_names.specs.Names.{name_at, names_at};
 ghost use Rattle.writers.specs.Words.{spaced};
@@ -18,8 +18,8 @@ use codes::DDDMPVersion;
 // Writes the name at a place.
 pub fn put_place(out: &mut [u8], at: usize, bytes: &[u8], start: u32, len: u32) -> usize
     requires len_in_bounds { start + len ≤ length bytes.now }
-    requires fits_out { FitsOut out at (name_at bytes.now (place start len)) }
-    ensures { Written out at (name_at (old bytes) (place start len)) result }
+    requires fits_out { FitsOut out.old at (name_at bytes.now (place start len)) }
+    ensures { Written (borrowed out) at (name_at bytes.now (place start len)) result }
 {
     let first = start as usize;
     let end = first + len as usize;
@@ -36,8 +36,8 @@ fn put_name(
     i: usize,
 ) -> usize
     requires inside { Inside bytes.now starts.now lens.now × (i < length lens.now) }
-    requires fits_out { FitsOut out at (0x20 ∷ get_or (names_at bytes.now starts.now lens.now) i []) }
-    ensures { Written out at (0x20 ∷ get_or (names_at (old bytes) (old starts) (old lens)) i []) result }
+    requires fits_out { FitsOut out.old at (0x20 ∷ get_or (names_at bytes.now starts.now lens.now) i []) }
+    ensures { Written (borrowed out) at (0x20 ∷ get_or (names_at bytes.now starts.now lens.now) i []) result }
 {
     let next = writers::text::put_byte(out, at, b' ');
     put_place(out, next, bytes, starts[i], lens[i])
@@ -46,8 +46,8 @@ fn put_name(
 // Writes all names of a list, in its order.
 fn put_names(out: &mut [u8], at: usize, bytes: &[u8], starts: &[u32], lens: &[u32]) -> usize
     requires inside { Inside bytes.now starts.now lens.now }
-    requires fits_out { FitsOut out at (spaced (names_at bytes.now starts.now lens.now)) }
-    ensures { Written out at (spaced (names_at (old bytes) (old starts) (old lens))) result }
+    requires fits_out { FitsOut out.old at (spaced (names_at bytes.now starts.now lens.now)) }
+    ensures { Written (borrowed out) at (spaced (names_at bytes.now starts.now lens.now)) result }
 {
     let mut next = at;
     let mut i: usize = 0;
@@ -68,8 +68,8 @@ fn write_list(
     lens: &[u32],
 ) -> usize
     requires inside { Inside bytes.now starts.now lens.now }
-    requires fits_out { FitsOut out at (keyed_text key.now (names_at bytes.now starts.now lens.now)) }
-    ensures { Written out at (keyed_text (old key) (names_at (old bytes) (old starts) (old lens))) result }
+    requires fits_out { FitsOut out.old at (keyed_text key.now (names_at bytes.now starts.now lens.now)) }
+    ensures { Written (borrowed out) at (keyed_text key.now (names_at bytes.now starts.now lens.now)) result }
 {
     let names_at = writers::text::put_bytes(out, at, key);
     let end = put_names(out, names_at, bytes, starts, lens);
@@ -86,8 +86,8 @@ fn put_supp_names(
     order: &[u16],
     seats: &[u16],
 ) -> usize
-    requires { SuppNamesAsks out at bytes starts lens order seats }
-    ensures { SuppNamesPromise out at bytes starts lens order seats result }
+    requires { SuppNamesAsks out.old at bytes.now starts.now lens.now order.now seats.now }
+    ensures { SuppNamesPromise (borrowed out) at (seen bytes) (seen starts) (seen lens) (seen order) (seen seats) result }
 {
     let mut next = at;
     let mut v: usize = 0;
@@ -110,8 +110,8 @@ fn put_ordered_names(
     order: &[u16],
     vars: &[u16],
 ) -> usize
-    requires { OrderedNamesAsks out at bytes starts lens order vars }
-    ensures { OrderedNamesPromise out at bytes starts lens order result }
+    requires { OrderedNamesAsks out.old at bytes.now starts.now lens.now order.now vars.now }
+    ensures { OrderedNamesPromise (borrowed out) at (seen bytes) (seen starts) (seen lens) (seen order) result }
 {
     let mut next = at;
     let mut l: usize = 0;
@@ -133,8 +133,8 @@ fn write_varnames(
     lens: &[u32],
 ) -> usize
     requires inside { Inside bytes.now starts.now lens.now }
-    requires fits_out { FitsOut out at (lines_text (varname_lines version (names_at bytes.now starts.now lens.now))) }
-    ensures { Written out at (lines_text (varname_lines version (names_at (old bytes) (old starts) (old lens)))) result }
+    requires fits_out { FitsOut out.old at (lines_text (varname_lines version (names_at bytes.now starts.now lens.now))) }
+    ensures { Written (borrowed out) at (lines_text (varname_lines version (names_at bytes.now starts.now lens.now))) result }
 {
     match version {
         DDDMPVersion::V2_0 => at,
@@ -154,8 +154,8 @@ pub fn write_names(
     vars: &[u16],
     seats: &[u16],
 ) -> usize
-    requires { NamesAsks out at bytes starts lens version order vars seats }
-    ensures { NameLinesPromise out at bytes starts lens version order seats result }
+    requires { NamesAsks out.old at bytes.now starts.now lens.now version order.now vars.now seats.now }
+    ensures { NameLinesPromise (borrowed out) at (seen bytes) (seen starts) (seen lens) version (seen order) (seen seats) result }
 {
     // With no variables there are no names either, and their lines are written empty.
     if lens.len() != order.len() {
@@ -177,8 +177,8 @@ pub fn write_rootnames(
     starts: &[u32],
     lens: &[u32],
 ) -> usize
-    requires { RootnamesAsks out at bytes starts lens }
-    ensures { RootnamesPromise out at bytes starts lens result }
+    requires { RootnamesAsks out.old at bytes.now starts.now lens.now }
+    ensures { RootnamesPromise (borrowed out) at (seen bytes) (seen starts) (seen lens) result }
 {
     if lens.len() == 0 {
         return at;

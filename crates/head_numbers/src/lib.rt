@@ -2,7 +2,7 @@
 #![tactic(auto)]
 
 ghost use Rattle.std.specs.Prelude.{◌≡◌, [], ◌∷◌, map, ◌<◌, length, get_or, nat_abs};
-ghost use Rattle.codes.specs.Lent.{old};
+ghost use Rattle.codes.specs.Lent.{borrowed};
 ghost use Rattle.writers.specs.Decimal.{decimal, edge_text};
 ghost use Rattle.writers.specs.Words.{spaced};
 ghost use Rattle.writers.specs.Written.{FitsOut, Written};
@@ -16,8 +16,8 @@ use edges::{Edge, Index};
 
 // Writes a number with a space before it.
 fn put_spaced(out: &mut [u8], at: usize, n: u64) -> usize
-    requires { FitsOut out at (0x20 ∷ decimal n) }
-    ensures { Written out at (0x20 ∷ decimal n) result }
+    requires { FitsOut out.old at (0x20 ∷ decimal n) }
+    ensures { Written (borrowed out) at (0x20 ∷ decimal n) result }
 {
     let next = writers::text::put_byte(out, at, b' ');
     writers::text::put_decimal(out, next, n)
@@ -25,8 +25,8 @@ fn put_spaced(out: &mut [u8], at: usize, n: u64) -> usize
 
 // Writes a line of a key and a number.
 pub fn write_count(out: &mut [u8], at: usize, key: &[u8], n: usize) -> usize
-    requires { FitsOut out at (keyed_text key.now (decimal n ∷ [])) }
-    ensures { Written out at (keyed_text (old key) (decimal n ∷ [])) result }
+    requires { FitsOut out.old at (keyed_text key.now (decimal n ∷ [])) }
+    ensures { Written (borrowed out) at (keyed_text key.now (decimal n ∷ [])) result }
 {
     let n_at = writers::text::put_bytes(out, at, key);
     let end = put_spaced(out, n_at, n as u64);
@@ -41,8 +41,8 @@ pub fn write_counts(
     nvars: usize,
     nsuppvars: usize,
 ) -> usize
-    requires { FitsOut out at (lines_text (count_lines nnodes nvars nsuppvars)) }
-    ensures { Written out at (lines_text (count_lines nnodes nvars nsuppvars)) result }
+    requires { FitsOut out.old at (lines_text (count_lines nnodes nvars nsuppvars)) }
+    ensures { Written (borrowed out) at (lines_text (count_lines nnodes nvars nsuppvars)) result }
 {
     let nvars_at = write_count(out, at, b".nnodes", nnodes);
     let nsuppvars_at = write_count(out, nvars_at, b".nvars", nvars);
@@ -52,7 +52,7 @@ pub fn write_counts(
 // Is a variable in the support? Its level then has a seat.
 pub fn in_support(order: &[u16], seats: &[u16], v: usize) -> bool
     requires { Seatable order.now seats.now × (v < length order.now) }
-    ensures { result ≡ is_in (get_or (old order) v 0) (seated_levels (old seats)) }
+    ensures { result ≡ is_in (get_or order.now v 0) (seated_levels seats.now) }
 {
     seats[order[v] as usize] != 0
 }
@@ -60,8 +60,8 @@ pub fn in_support(order: &[u16], seats: &[u16], v: usize) -> bool
 // Writes the support variables.
 fn put_ids(out: &mut [u8], at: usize, order: &[u16], seats: &[u16]) -> usize
     requires seatable { Seatable order.now seats.now }
-    requires fits_out { FitsOut out at (spaced (map decimal (ids_from (seated_levels seats.now) 0 order.now))) }
-    ensures { Written out at (spaced (map decimal (ids_from (seated_levels (old seats)) 0 (old order)))) result }
+    requires fits_out { FitsOut out.old at (spaced (map decimal (ids_from (seated_levels seats.now) 0 order.now))) }
+    ensures { Written (borrowed out) at (spaced (map decimal (ids_from (seated_levels seats.now) 0 order.now))) result }
 {
     let mut next = at;
     let mut v: usize = 0;
@@ -77,8 +77,8 @@ fn put_ids(out: &mut [u8], at: usize, order: &[u16], seats: &[u16]) -> usize
 // Writes their levels, in the order of the variables.
 fn put_permids(out: &mut [u8], at: usize, order: &[u16], seats: &[u16]) -> usize
     requires seatable { Seatable order.now seats.now }
-    requires fits_out { FitsOut out at (spaced (map decimal (permids_of (seated_levels seats.now) order.now))) }
-    ensures { Written out at (spaced (map decimal (permids_of (seated_levels (old seats)) (old order)))) result }
+    requires fits_out { FitsOut out.old at (spaced (map decimal (permids_of (seated_levels seats.now) order.now))) }
+    ensures { Written (borrowed out) at (spaced (map decimal (permids_of (seated_levels seats.now) order.now))) result }
 {
     let mut next = at;
     let mut v: usize = 0;
@@ -94,8 +94,8 @@ fn put_permids(out: &mut [u8], at: usize, order: &[u16], seats: &[u16]) -> usize
 // Writes `.ids` and `.permids`. `vars` isn't read: it belongs to what `Ordered` says.
 pub fn write_ids(out: &mut [u8], at: usize, order: &[u16], vars: &[u16], seats: &[u16]) -> usize
     requires ordered { Ordered order.now vars.now seats.now }
-    requires fits_out { FitsOut out at (lines_text (id_lines (seated_levels seats.now) order.now)) }
-    ensures { Written out at (lines_text (id_lines (seated_levels (old seats)) (old order))) result }
+    requires fits_out { FitsOut out.old at (lines_text (id_lines (seated_levels seats.now) order.now)) }
+    ensures { Written (borrowed out) at (lines_text (id_lines (seated_levels seats.now) order.now)) result }
 {
     let ids_at = writers::text::put_bytes(out, at, b".ids");
     let permids_key = put_ids(out, ids_at, order, seats);
@@ -107,8 +107,8 @@ pub fn write_ids(out: &mut [u8], at: usize, order: &[u16], vars: &[u16], seats: 
 // Writes a root, as the number of its line, with a space before it.
 fn put_root(out: &mut [u8], at: usize, root: Edge, numbers: &[Index]) -> usize
     requires numbered { Numbered numbers.now (nat_abs root) }
-    requires fits_out { FitsOut out at (0x20 ∷ edge_text (line_number_of numbers.now root)) }
-    ensures { Written out at (0x20 ∷ edge_text (line_number_of (old numbers) root)) result }
+    requires fits_out { FitsOut out.old at (0x20 ∷ edge_text (line_number_of numbers.now root)) }
+    ensures { Written (borrowed out) at (0x20 ∷ edge_text (line_number_of numbers.now root)) result }
 {
     let next = writers::text::put_byte(out, at, b' ');
     writers::text::put_edge(out, next, export_nodes::number_of(numbers, root))
@@ -117,8 +117,8 @@ fn put_root(out: &mut [u8], at: usize, root: Edge, numbers: &[Index]) -> usize
 // Writes the roots, as numbers of lines.
 pub fn put_roots(out: &mut [u8], at: usize, roots: &[Edge], numbers: &[Index]) -> usize
     requires rooted { Rooted roots.now numbers.now }
-    requires fits_out { FitsOut out at (spaced (map edge_text (map (line_number_of numbers.now) roots.now))) }
-    ensures { Written out at (spaced (map edge_text (map (line_number_of (old numbers)) (old roots)))) result }
+    requires fits_out { FitsOut out.old at (spaced (map edge_text (map (line_number_of numbers.now) roots.now))) }
+    ensures { Written (borrowed out) at (spaced (map edge_text (map (line_number_of numbers.now) roots.now))) result }
 {
     let mut next = at;
     let mut i: usize = 0;

@@ -3,6 +3,7 @@
 // other list from its place into the lent one.
 #![tactic(auto)]
 
+ghost use Rattle.codes.specs.Lent.{borrowed, seen};
 ghost use Rattle.std.specs.Prelude.{◌≡◌, replicate};
 ghost use Rattle.codes.specs.Limits.{limits};
 ghost use Rattle.header_lines.specs.Sweep.{Table, keys};
@@ -64,7 +65,7 @@ fn swept_after(f: &[u8], found: u8, starts: &mut [u32], ends: &mut [u32]) -> Swe
     requires may_read { MayRead limits found f.now }
     requires starts_value { starts.old ≡ replicate keys 0 }
     requires ends_value { ends.old ≡ replicate keys 0 }
-    ensures { SweptPromise f found starts ends result }
+    ensures { SweptPromise (seen f) found (borrowed starts) (borrowed ends) result }
 {
     if found != 0 {
         return Swept::Refused(found, 0);
@@ -95,7 +96,7 @@ fn refused(swept: Swept) -> Loaded
 // The answer, by what the lines and then the header as a whole gave: 0 for nothing wrong. On a refusal the two lists are zeros again.
 fn settle(f: &[u8], swept: Swept, fault: u8, starts: &mut [u32], ends: &mut [u32]) -> Loaded
     requires { Table f.now starts.old ends.old }
-    ensures { SettlePromise f swept fault starts ends result }
+    ensures { SettlePromise (seen f) swept fault (borrowed starts) (borrowed ends) result }
 {
     let Swept::Nodes(next, lines) = swept else {
         zeros::clear_numbers(starts);
@@ -112,7 +113,7 @@ fn settle(f: &[u8], swept: Swept, fault: u8, starts: &mut [u32], ends: &mut [u32
 
 // On a refusal two lists are zeros again.
 fn keep(loaded: Loaded, ids: &mut [u32], permids: &mut [u32])
-    ensures { KeepPromise loaded ids permids }
+    ensures { KeepPromise loaded (borrowed ids) (borrowed permids) }
 {
     match loaded {
         Loaded::Header(h) => {}
@@ -142,7 +143,7 @@ impl DumpHeader {
     ) -> Loaded
         requires may_read { MayRead limits found f.now }
         requires long_after { LongAfter found ids.old permids.old order.old auxids.old names.old lens.old }
-        ensures { LoadHeaderPromise f found ids order permids auxids names lens roots rootnames rootlens result }
+        ensures { LoadHeaderPromise (seen f) found (borrowed ids) (borrowed order) (borrowed permids) (borrowed auxids) (borrowed names) (borrowed lens) (borrowed roots) (borrowed rootnames) (borrowed rootlens) result }
     {
         let mut starts = [0u32; header_keys::KEYS];
         let mut ends = [0u32; header_keys::KEYS];

@@ -1,6 +1,7 @@
 // The header as a whole: its checks in the order of document 01. Each answers the number of its refusal, 0 where there is none.
 #![tactic(auto)]
 
+ghost use Rattle.codes.specs.Lent.{borrowed, seen};
 ghost use Rattle.std.specs.Prelude.{◌≡◌, ◌≤◌, ◌∷◌, length};
 ghost use Rattle.codes.specs.Limits.{limits, var_limit};
 ghost use Rattle.header_lines.specs.Sweep.{Table};
@@ -86,7 +87,7 @@ fn support_fault(f: &[u8], starts: &[u32], ends: &[u32], ids: &mut [u32], permid
     requires table { Table f.now starts.now ends.now }
     requires ends_bound { nvars_in f.now (spans starts.now ends.now) ≤ var_limit }
     requires var_limit_in_bounds { (var_limit ≤ length ids.old) × (var_limit ≤ length permids.old) }
-    ensures { SupportPromise f starts ends ids permids result }
+    ensures { SupportPromise (seen f) (seen starts) (seen ends) (borrowed ids) (borrowed permids) result }
 {
     let n = header_values::u32s_in(f, starts, ends, Key::Ids, ids);
     let m = header_values::u32s_in(f, starts, ends, Key::Permids, permids);
@@ -171,7 +172,7 @@ pub fn whole_fault(
 ) -> u8
     requires table { Table f.now starts.now ends.now }
     requires long_after { LongAfter found ids.old permids.old order.old auxids.old names.old lens.old }
-    ensures { WholePromise f found starts ends ids permids result }
+    ensures { WholePromise (seen f) found (seen starts) (seen ends) (borrowed ids) (borrowed permids) result }
 {
     if found != 0 {
         return found;

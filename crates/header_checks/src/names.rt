@@ -1,4 +1,5 @@
 // Whether the lists of names agree about the support variables.
+ghost use Rattle.codes.specs.Lent.{seen};
 ghost use Rattle.std.specs.Prelude.{◌≡◌, length, [], ◌∷◌};
 ghost use Rattle.codes.specs.Faults.{first_fault, unless};
 ghost use Rattle.header_keys.specs.declared.Key.TheVariants as Key;
@@ -23,7 +24,7 @@ fn same_in_order(
 ) -> bool
     requires lens_len { length lens.now ≡ length starts.now }
     requires lens2_len { length lens2.now ≡ length starts2.now }
-    ensures { InOrderPromise f index starts lens starts2 lens2 result }
+    ensures { InOrderPromise (seen f) (seen index) (seen starts) (seen lens) (seen starts2) (seen lens2) result }
 {
     let mut i = 0;
     while i < index.len() {
@@ -55,7 +56,7 @@ fn agree(
     requires index2_len { length index2.now ≡ length index.now }
     requires lens_len { length lens.now ≡ length starts.now }
     requires lens2_len { length lens2.now ≡ length starts2.now }
-    ensures { AgreePromise f index starts lens index2 starts2 lens2 result }
+    ensures { AgreePromise (seen f) (seen index) (seen starts) (seen lens) (seen index2) (seen starts2) (seen lens2) result }
 {
     if starts.len() == 0 {
         return true;
@@ -77,7 +78,7 @@ fn supp_agrees(
 ) -> bool
     requires lens_len { length lens.now ≡ length starts.now }
     requires lens2_len { length lens2.now ≡ length starts2.now }
-    ensures { SuppAgreesPromise f index starts lens starts2 lens2 result }
+    ensures { SuppAgreesPromise (seen f) (seen index) (seen starts) (seen lens) (seen starts2) (seen lens2) result }
 {
     if starts.len() == 0 {
         return true;
@@ -103,7 +104,7 @@ fn given_names_fault(
     requires table { Table f.now starts.now ends.now }
     requires names_held { NamesHeld f.now (spans starts.now ends.now) Key.Orderedvarnames names.now lens.now }
     requires names_held_2 { NamesHeld f.now (spans starts.now ends.now) Key.Suppvarnames names2.now lens2.now }
-    ensures { GivenNamesPromise f starts ends permids result }
+    ensures { GivenNamesPromise (seen f) (seen starts) (seen ends) (seen permids) result }
 {
     let varnames = header_values::count_names(f, starts, ends, Key::Varnames, limits::VAR_LIMIT);
     let count = crate::name_count_fault(f, starts, ends, names.len(), names2.len(), varnames);
@@ -129,7 +130,7 @@ fn ordered_fault(
 ) -> u8
     requires table { Table f.now starts.now ends.now }
     requires long_names { LongNames names.old lens.old names2.old lens2.old }
-    ensures { GivenNamesPromise f starts ends permids result }
+    ensures { GivenNamesPromise (seen f) (seen starts) (seen ends) (seen permids) result }
 {
     let max = limits::VAR_LIMIT;
     let n = header_values::names_over(f, starts, ends, Key::Orderedvarnames, max, names, lens);
@@ -175,7 +176,7 @@ fn varnames_fault(
     requires table { Table f.now starts.now ends.now }
     requires permids_len { length permids.now ≡ length ids.now }
     requires long_names { LongNames names.old lens.old names2.old lens2.old }
-    ensures { VarnamesPromise f starts ends found ids permids result }
+    ensures { VarnamesPromise (seen f) (seen starts) (seen ends) found (seen ids) (seen permids) result }
 {
     if found != 0 {
         return found;
@@ -215,7 +216,7 @@ pub fn name_fault(
     requires table { Table f.now starts.now ends.now }
     requires ids_read { IdsRead f.now (spans starts.now ends.now) ids.now permids.now }
     requires long_names { LongNames names.old lens.old names2.old lens2.old }
-    ensures { NameFaultPromise f starts ends result }
+    ensures { NameFaultPromise (seen f) (seen starts) (seen ends) result }
 {
     let found = ordered_fault(f, starts, ends, permids, names, lens, names2, lens2);
     varnames_fault(

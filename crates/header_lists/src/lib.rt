@@ -2,6 +2,7 @@
 // table is of zeros, as on a refusal, all of it.
 #![tactic(auto)]
 
+ghost use Rattle.codes.specs.Lent.{borrowed, seen};
 ghost use Rattle.std.specs.Prelude.{◌≤◌, length};
 ghost use Rattle.header_keys.specs.declared.Key.TheVariants as Key;
 ghost use Rattle.header_lines.specs.Sweep.{Table};
@@ -28,7 +29,7 @@ fn fill_order(
     requires table { Table f.now starts.now ends.now }
     requires ids_listed { IdsListed f.now (spans starts.now ends.now) ids.now permids.now }
     requires ends_in_bounds { nvars_in f.now (spans starts.now ends.now) ≤ length seats.old }
-    ensures { FillOrderPromise f starts ends dst }
+    ensures { FillOrderPromise (seen f) (seen starts) (seen ends) (borrowed dst) }
 {
     let n = header_values::u32_in(f, starts, ends, Key::Nvars) as usize;
     zeros::clear_numbers(dst);
@@ -51,7 +52,7 @@ fn seat_names(
     requires ids_listed { IdsListed f.now (spans starts.now ends.now) ids.now permids.now }
     requires ends_in_bounds { nvars_in f.now (spans starts.now ends.now) ≤ length seats.old }
     requires ends_in_bounds_2 { nvars_in f.now (spans starts.now ends.now) ≤ length free.old }
-    ensures { SeatNamesPromise f starts ends dst result }
+    ensures { SeatNamesPromise (seen f) (seen starts) (seen ends) (borrowed dst) result }
 {
     let n = header_values::u32_in(f, starts, ends, Key::Nvars) as usize;
     if header_values::count_names(f, starts, ends, Key::Orderedvarnames, VAR_LIMIT) != 0 {
@@ -78,7 +79,7 @@ fn gather_names(
     requires table { Table f.now starts.now ends.now × KnownKey key }
     requires names_room { NamesRoom f.now (spans starts.now ends.now) key from.old sizes.old }
     requires count_in_bounds { count ≤ length lens.old }
-    ensures { GatherPromise f starts ends key count names lens }
+    ensures { GatherPromise (seen f) (seen starts) (seen ends) key count (borrowed names) (borrowed lens) }
 {
     let n = header_values::names_over(f, starts, ends, key, VAR_LIMIT, from, sizes);
     variable_names::gather(&lens[..count], &from[..n], names);
@@ -100,7 +101,7 @@ fn fill_names(
     requires table { Table f.now starts.now ends.now × Settled f.now (spans starts.now ends.now) }
     requires ids_listed { IdsListed f.now (spans starts.now ends.now) ids.now permids.now }
     requires lists_room { ListsRoom f.now (spans starts.now ends.now) from.old sizes.old lens.old }
-    ensures { FillNamesPromise f starts ends names lens }
+    ensures { FillNamesPromise (seen f) (seen starts) (seen ends) (borrowed names) (borrowed lens) }
 {
     if header_values::names_in(f, starts, ends, Key::Varnames, VAR_LIMIT, names, lens) != 0 {
         return;
@@ -126,7 +127,7 @@ pub fn fill_lists(
     requires held_list { HeldList f.now (spans starts.now ends.now) Key.Ids ids.now }
     requires held_list_2 { HeldList f.now (spans starts.now ends.now) Key.Permids permids.now }
     requires lists_room { ListsRoom f.now (spans starts.now ends.now) order.old auxids.old lens.old }
-    ensures { FillListsPromise f starts ends order auxids names lens }
+    ensures { FillListsPromise (seen f) (seen starts) (seen ends) (borrowed order) (borrowed auxids) (borrowed names) (borrowed lens) }
 {
     let n = header_values::u32_in(f, starts, ends, Key::Nsuppvars) as usize;
     fill_names(
@@ -147,7 +148,7 @@ pub fn fill_lists(
 // The roots as edges.
 pub fn fill_roots(f: &[u8], starts: &[u32], ends: &[u32], dst: &mut [Edge])
     requires { Table f.now starts.now ends.now }
-    ensures { FillRootsPromise f starts ends dst }
+    ensures { FillRootsPromise (seen f) (seen starts) (seen ends) (borrowed dst) }
 {
     let mut roots = [0i64; ROOT_LIMIT];
     let n = header_values::roots_in(f, starts, ends, &mut roots);

@@ -2,6 +2,7 @@
 // key is missing: a number is then 0, a list empty.
 #![tactic(auto)]
 
+ghost use Rattle.codes.specs.Lent.{borrowed, seen};
 ghost use Rattle.std.specs.Prelude.{◌≡◌, ◌^◌, ◌≤◌, length, replicate};
 ghost use Rattle.codes.specs.Limits.{root_limit};
 ghost use Rattle.header_lines.specs.Sweep.{Table};
@@ -116,7 +117,7 @@ pub fn dd_in(f: &[u8], starts: &[u32], ends: &[u32]) -> Place
 pub fn read_u32s(f: &[u8], starts: &[u32], ends: &[u32], key: Key, dst: &mut [u32]) -> usize
     requires table { Table f.now starts.now ends.now × KnownKey key }
     requires dst_value { dst.old ≡ replicate (length dst.old) 0 }
-    ensures { U32sPromise f starts ends key dst result }
+    ensures { U32sPromise (seen f) (seen starts) (seen ends) key (borrowed dst) result }
 {
     let span = span_in(f, starts, ends, key);
     let start = span.start;
@@ -132,7 +133,7 @@ pub fn read_u32s(f: &[u8], starts: &[u32], ends: &[u32], key: Key, dst: &mut [u3
 // Reads a list of numbers into a list that may hold anything, and answers how many there are. The rest of the lent list is zeros.
 pub fn u32s_in(f: &[u8], starts: &[u32], ends: &[u32], key: Key, dst: &mut [u32]) -> usize
     requires { Table f.now starts.now ends.now × KnownKey key }
-    ensures { U32sPromise f starts ends key dst result }
+    ensures { U32sPromise (seen f) (seen starts) (seen ends) key (borrowed dst) result }
 {
     zeros::clear_numbers(dst);
     read_u32s(f, starts, ends, key, dst)
@@ -152,7 +153,7 @@ pub fn read_names(
     requires table { Table f.now starts.now ends.now × KnownKey key }
     requires names_value { names.old ≡ replicate (length names.old) 0 }
     requires lens_value { lens.old ≡ replicate (length lens.old) 0 }
-    ensures { NamesPromise f starts ends key max names lens result }
+    ensures { NamesPromise (seen f) (seen starts) (seen ends) key max (borrowed names) (borrowed lens) result }
 {
     let span = span_in(f, starts, ends, key);
     let start = span.start;
@@ -185,7 +186,7 @@ pub fn names_over(
     requires table { Table f.now starts.now ends.now × KnownKey key }
     requires key_in_bounds { length (names_in max f.now (spans starts.now ends.now) key) ≤ length names.old }
     requires key_in_bounds_2 { length (names_in max f.now (spans starts.now ends.now) key) ≤ length lens.old }
-    ensures { NamesOverPromise f starts ends key max names lens result }
+    ensures { NamesOverPromise (seen f) (seen starts) (seen ends) key max (borrowed names) (borrowed lens) result }
 {
     let span = span_in(f, starts, ends, key);
     let start = span.start;
@@ -214,7 +215,7 @@ pub fn names_in(
     lens: &mut [u32],
 ) -> usize
     requires { Table f.now starts.now ends.now × KnownKey key }
-    ensures { NamesPromise f starts ends key max names lens result }
+    ensures { NamesPromise (seen f) (seen starts) (seen ends) key max (borrowed names) (borrowed lens) result }
 {
     zeros::clear_numbers(names);
     zeros::clear_numbers(lens);
@@ -224,7 +225,7 @@ pub fn names_in(
 // Reads the roots over the front of a list, and answers how many there are.
 pub fn roots_in(f: &[u8], starts: &[u32], ends: &[u32], dst: &mut [i64]) -> usize
     requires { Table f.now starts.now ends.now × (root_limit ≤ length dst.old) }
-    ensures { RootsInPromise f starts ends dst result }
+    ensures { RootsInPromise (seen f) (seen starts) (seen ends) (borrowed dst) result }
 {
     let span = span_in(f, starts, ends, Key::Rootids);
     let start = span.start;

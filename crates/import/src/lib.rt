@@ -1,6 +1,7 @@
 // The nodes of a file, read into the store: the Rust's `import`.
 #![tactic(auto)]
 
+ghost use Rattle.codes.specs.Lent.{borrowed, seen};
 ghost use Rattle.import_lines.specs.Promises.{ImportAsks, ImportPromise};
 
 use edges::{Edge, Index};
@@ -25,8 +26,8 @@ pub fn import(
     roots: &mut [Edge],
     work: &mut [Index],
 ) -> Imported
-    requires { ImportAsks setup list levels count level then els next heads edges seats work }
-    ensures { ImportPromise f from setup list levels count level then els next heads edges seats roots work result }
+    requires { ImportAsks setup list.now levels count.old level.old then.old els.old next.old heads.old edges.old seats.old work.old }
+    ensures { ImportPromise (seen f) from setup (seen list) levels (borrowed count) (borrowed level) (borrowed then) (borrowed els) (borrowed next) (borrowed heads) (borrowed edges) (borrowed seats) (borrowed roots) (borrowed work) result }
 {
     let before = *count;
     let read = import_lines::import_lines(

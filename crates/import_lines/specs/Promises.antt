@@ -1,6 +1,5 @@
 -- What reading the nodes of a file asks and promises.
 use Rattle.std.specs.Prelude.{ℕ, ◌≡◌, List, length, replicate, ℤ, pos}
-use Rattle.std.specs.Borrow.{Bor}
 use Rattle.store.specs.Store.{Store}
 use Rattle.codes.specs.Limits.{limits}
 use Rattle.store.specs.Rules.{Rules}
@@ -16,24 +15,24 @@ use Rattle.imported.specs.Build.{LevelsOf}
 use Rattle.imported.specs.Import as meant
 use Rattle.imported.specs.Import.{built_from, lines_answer, import_of, Laid, Bounded}
 
-module _ (setup : Setup) (list : Bor (List ℕ)) (levels : ℕ) (count : Bor ℕ) (level : Bor (List ℕ))
-    (then els : Bor (List ℤ)) (next heads : Bor (List ℕ)) (edges : Bor (List ℤ)) (seats : Bor (List ℕ)) where
+module _ (setup : Setup) (list : List ℕ) (levels : ℕ) (count : ℕ) (level : List ℕ)
+    (then els : List ℤ) (next heads : List ℕ) (edges : List ℤ) (seats : List ℕ) where
   abbrev σ : Store
-  σ = store_now levels count.now level then els next heads
+  σ = store_now levels count level then els next heads
 
   -- a store that keeps its rules, levels of it, limits that were judged before, and work that finds the store's nodes
-  pub record ImportAsks (work : Bor (List ℕ)) : Type 0 where
+  pub record ImportAsks (work : List ℕ) : Type 0 where
     pub rules : Rules limits σ
-    pub levels_fit : LevelsOf σ list.now
-    pub bounds : Bounded (of_setup setup list.now levels) (length edges.now) (length seats.now)
-    pub finds : Finds (width_for (most_nodes (length level.now)) (length work.now)) σ count.now work.now
+    pub levels_fit : LevelsOf σ list
+    pub bounds : Bounded (of_setup setup list levels) (length edges) (length seats)
+    pub finds : Finds (width_for (most_nodes (length level)) (length work)) σ count work
 
   -- the same with an index that knows the store's nodes and has room for more
-  pub record LinesAsks (index : Bor (List ℕ)) (width : ℕ) : Type 0 where
+  pub record LinesAsks (index : List ℕ) (width : ℕ) : Type 0 where
     pub rules : Rules limits σ
-    pub levels_fit : LevelsOf σ list.now
-    pub bounds : Bounded (of_setup setup list.now levels) (length edges.now) (length seats.now)
-    pub known : KnownNodes width σ index.now
+    pub levels_fit : LevelsOf σ list
+    pub bounds : Bounded (of_setup setup list levels) (length edges) (length seats)
+    pub known : KnownNodes width σ index
 
 module _ (f : Part (List ℕ)) (from : ℕ) (setup : Setup) (list : Part (List ℕ)) (levels : ℕ) (count : Part ℕ)
     (level : Part (List ℕ)) (then els : Part (List ℤ)) (next heads : Part (List ℕ)) (edges : Part (List ℤ)) where

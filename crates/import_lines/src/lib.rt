@@ -1,6 +1,7 @@
 // The loop over the node lines of a file: each is read and made into the store.
 #![tactic(auto)]
 
+ghost use Rattle.codes.specs.Lent.{borrowed, seen};
 ghost use Rattle.std.specs.Prelude.{◌<◌};
 ghost use Rattle.import_lines.specs.Promises.{LinesAsks, LinesPromise, ImportAsks};
 
@@ -29,8 +30,8 @@ fn read_lines(
     index: &mut [Index],
     width: usize,
 ) -> Imported
-    requires { LinesAsks setup list levels count level then els next heads edges seats index width }
-    ensures { LinesPromise f from setup list levels count level then els next heads edges result }
+    requires { LinesAsks setup list.now levels count.old level.old then.old els.old next.old heads.old edges.old seats.old index.old width }
+    ensures { LinesPromise (seen f) from setup (seen list) levels (borrowed count) (borrowed level) (borrowed then) (borrowed els) (borrowed next) (borrowed heads) (borrowed edges) result }
 {
     let mut n: Index = 0;
     let mut at = from;
@@ -99,8 +100,8 @@ pub fn import_lines(
     seats: &mut [u16],
     work: &mut [Index],
 ) -> Imported
-    requires { ImportAsks setup list levels count level then els next heads edges seats work }
-    ensures { LinesPromise f from setup list levels count level then els next heads edges result }
+    requires { ImportAsks setup list.now levels count.old level.old then.old els.old next.old heads.old edges.old seats.old work.old }
+    ensures { LinesPromise (seen f) from setup (seen list) levels (borrowed count) (borrowed level) (borrowed then) (borrowed els) (borrowed next) (borrowed heads) (borrowed edges) result }
 {
     let width = unique_table::width_for(slots::most_nodes(level.len()), work.len());
     read_lines(

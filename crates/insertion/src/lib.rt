@@ -2,7 +2,7 @@
 #![tactic(auto)]
 
 ghost use Rattle.std.specs.Prelude.{◌≡◌, ◌≤◌, ◌<◌, length};
-ghost use Rattle.codes.specs.Lent.{old, new};
+ghost use Rattle.codes.specs.Lent.{new, borrowed, seen};
 ghost use Rattle.store.specs.Lent.{store_now};
 ghost use Rattle.codes.specs.Limits.{limits};
 ghost use Rattle.store.specs.Rules.{Rules};
@@ -40,9 +40,9 @@ fn look_up(
     t: Edge,
     e: Edge,
 ) -> Found
-    requires rules { Rules limits (store_now levels count level then els next heads) }
-    requires known_nodes { KnownNodes width (store_now levels count level then els next heads) index.now }
-    ensures { LookUpPromise levels count level then els next heads index width l t e result }
+    requires rules { Rules limits (store_now levels count level.now then.now els.now next.now heads.now) }
+    requires known_nodes { KnownNodes width (store_now levels count level.now then.now els.now next.now heads.now) index.now }
+    ensures { LookUpPromise levels count (seen level) (seen then) (seen els) (seen next) (seen heads) (seen index) width l t e result }
 {
     if width == 0 {
         return Found {
@@ -60,7 +60,7 @@ fn look_up(
 // A new node in the index, where there is one.
 fn enter(index: &mut [Index], width: usize, at: usize, n: Index)
     requires { 1 ≤ width → at < length index.old }
-    ensures { new index ≡ entered width (old index) at n }
+    ensures { index.new ≡ entered width index.old at n }
 {
     if width != 0 {
         index[at] = n;
@@ -82,9 +82,9 @@ pub fn insert(
     t: Edge,
     e: Edge,
 ) -> Making
-    requires rules { Rules limits (store_now levels count.old level then els next heads) }
-    requires known_nodes { KnownNodes width (store_now levels count.old level then els next heads) index.old }
-    ensures { InsertPromise levels count level then els next heads index width l t e result }
+    requires rules { Rules limits (store_now levels count.old level.old then.old els.old next.old heads.old) }
+    requires known_nodes { KnownNodes width (store_now levels count.old level.old then.old els.old next.old heads.old) index.old }
+    ensures { InsertPromise levels (borrowed count) (borrowed level) (borrowed then) (borrowed els) (borrowed next) (borrowed heads) (borrowed index) width l t e result }
 {
     let c = *count;
     let found = look_up(

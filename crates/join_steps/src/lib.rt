@@ -2,7 +2,6 @@
 #![tactic(auto)]
 
 ghost use Rattle.std.specs.Prelude.{◌≡◌, cond, [], ◌≤◌, ltb, length, nat_abs};
-ghost use Rattle.codes.specs.Lent.{old};
 ghost use Rattle.edges.specs.Edge.{IsEdge};
 ghost use Rattle.store.specs.Store.{slots, level_at};
 ghost use Rattle.joined.specs.Join as joins;
@@ -96,7 +95,7 @@ pub fn shortcut(op: Op, a: Edge, b: Edge) -> Edge
 // Where the node of an edge lies, other than node 1.
 fn level_of(level: &[u16], a: Edge) -> u16
     requires { (1 ≤ nat_abs a) × (nat_abs a ≤ length level.now) }
-    ensures { result ≡ level_at (slots (old level) [] []) (nat_abs a) }
+    ensures { result ≡ level_at (slots level.now [] []) (nat_abs a) }
 {
     let i = (edges::magnitude(a) - 1) as usize;
     level[i]
@@ -120,7 +119,7 @@ fn side(here: bool, x: Edge, a: Edge) -> Edge
 // and taking one of two values costs less than going one of two ways.
 fn sides_of(then: &[Edge], els: &[Edge], here: bool, a: Edge) -> Sides
     requires { Slots then.now els.now a }
-    ensures { BothSides (old then) (old els) here a result }
+    ensures { BothSides then.now els.now here a result }
 {
     let i = (edges::magnitude(a) - 1) as usize;
     let t = then[i];
@@ -136,7 +135,7 @@ fn sides_of(then: &[Edge], els: &[Edge], here: bool, a: Edge) -> Sides
 // The level where two edges are to be joined, and their sides there.
 pub fn split_pair(level: &[u16], then: &[Edge], els: &[Edge], a: Edge, b: Edge) -> Split
     requires { SplitAsks (slots level.now then.now els.now) a b }
-    ensures { SplitPromise (slots (old level) (old then) (old els)) a b result }
+    ensures { SplitPromise (slots level.now then.now els.now) a b result }
 {
     let x = level_of(level, a);
     let y = level_of(level, b);

@@ -1,6 +1,5 @@
 -- What joining two edges asks, and what it promises.
 use Rattle.std.specs.Prelude.{ℕ, ◌≡◌, ◌≢◌, List, ℤ, pos}
-use Rattle.std.specs.Borrow.{Bor}
 use Rattle.codes.specs.Limits.{limits}
 use Rattle.codes.specs.Lent.{Part, old, new}
 use Rattle.store.specs.Store.{Store}
@@ -21,11 +20,11 @@ pub record Known (c : List ℤ) (o : Op) (a b x : ℤ) : Type 0 where
   pub none : (σ : Store) → Rules limits σ → EdgeOf σ a → EdgeOf σ b → x ≡ pos 0 → Apart a b
 
 -- two edges of a store that keeps its rules, an index that knows its nodes, and a cache whose lines are right in it
-pub record JoiningAsks (levels : ℕ) (count : Bor ℕ) (level : Bor (List ℕ)) (then els : Bor (List ℤ)) (next heads index : Bor (List ℕ)) (width : ℕ)
-    (cache : Bor (List ℤ)) (a b : ℤ) : Type 0 where
-  pub ready : Ready limits (store_now levels count.now level then els next heads) a b
-  pub known : KnownNodes width (store_now levels count.now level then els next heads) index.now
-  pub cached : Cached (store_now levels count.now level then els next heads) cache.now
+pub record JoiningAsks (levels : ℕ) (count : ℕ) (level : List ℕ) (then els : List ℤ) (next heads index : List ℕ) (width : ℕ)
+    (cache : List ℤ) (a b : ℤ) : Type 0 where
+  pub ready : Ready limits (store_now levels count level then els next heads) a b
+  pub known : KnownNodes width (store_now levels count level then els next heads) index
+  pub cached : Cached (store_now levels count level then els next heads) cache
 
 module _ (levels : ℕ) (count : Part ℕ) (level : Part (List ℕ)) (then els : Part (List ℤ)) (next heads : Part (List ℕ)) where
   -- the store as the call starts, and as it ends

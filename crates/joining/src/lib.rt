@@ -3,7 +3,7 @@
 #![tactic(auto)]
 
 ghost use Rattle.std.specs.Prelude.{◌≡◌, pos};
-ghost use Rattle.codes.specs.Lent.{old};
+ghost use Rattle.codes.specs.Lent.{borrowed};
 ghost use Rattle.edges.specs.Edge.{IsEdge};
 ghost use Rattle.join_cache.specs.Cache.{Turnable};
 ghost use Rattle.join_course.specs.Pairs as pairs;
@@ -23,7 +23,7 @@ const LEVELS: usize = 4096;
 fn known(cache: &[Edge], op: Op, a: Edge, b: Edge) -> Found
     requires edge { IsEdge a × IsEdge b }
     requires turnable { Turnable cache.now }
-    ensures { Known (old cache) op a b result.result }
+    ensures { Known cache.now op a b result.result }
 {
     let short = join_steps::shortcut(op, a, b);
     if !edges::same(short, 0) {
@@ -82,8 +82,8 @@ pub fn join(
     a: Edge,
     b: Edge,
 ) -> Making
-    requires { JoiningAsks levels count level then els next heads index width cache a b }
-    ensures { JoiningPromise levels count level then els next heads index width cache op a b result }
+    requires { JoiningAsks levels count.old level.old then.old els.old next.old heads.old index.old width cache.old a b }
+    ensures { JoiningPromise levels (borrowed count) (borrowed level) (borrowed then) (borrowed els) (borrowed next) (borrowed heads) (borrowed index) width (borrowed cache) op a b result }
 {
     let mut waiting: [Waiting; LEVELS] = [Waiting {
         left: 0,

@@ -1,6 +1,5 @@
 -- What the calls that join two roots and give the opposite of one promise.
 use Rattle.std.specs.Prelude.{ℕ, ◌≡◌, cond, ◌&&◌, List, length, replicate, ℤ, pos}
-use Rattle.std.specs.Borrow.{Bor}
 use Rattle.codes.specs.Limits.{Limits, limits}
 use Rattle.codes.specs.Lent.{Part, old, new}
 use Rattle.store.specs.Store.{Store}
@@ -30,10 +29,10 @@ pub record JoinFaultPromise (levels count : ℕ) (level : Part (List ℕ)) (then
       → Finds (width_for (most_nodes (length (old level))) (length (old work))) (old_store levels count level then els next heads) count (new work)
 
 -- two edges of a store that keeps its rules, and work that finds its nodes
-pub record SettleAsks (levels : ℕ) (count : Bor ℕ) (level : Bor (List ℕ)) (then els : Bor (List ℤ)) (next heads work : Bor (List ℕ)) (a b : ℤ) :
+pub record SettleAsks (levels : ℕ) (count : ℕ) (level : List ℕ) (then els : List ℤ) (next heads work : List ℕ) (a b : ℤ) :
     Type 0 where
-  pub ready : Ready limits (store_now levels count.now level then els next heads) a b
-  pub finds : Finds (width_for (most_nodes (length level.now)) (length work.now)) (store_now levels count.now level then els next heads) count.now work.now
+  pub ready : Ready limits (store_now levels count level then els next heads) a b
+  pub finds : Finds (width_for (most_nodes (length level)) (length work)) (store_now levels count level then els next heads) count work
 
 module _ (levels : ℕ) (count : Part ℕ) (level : Part (List ℕ)) (then els : Part (List ℤ)) (next heads : Part (List ℕ)) (op : Op) (left right : ℤ) where
   -- the join, with its nodes taken back where there is no room for all

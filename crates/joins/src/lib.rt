@@ -1,6 +1,7 @@
 // Two roots of a store joined, and the opposite of one.
 #![tactic(auto)]
 
+ghost use Rattle.codes.specs.Lent.{borrowed, seen};
 ghost use Rattle.std.specs.Prelude.{◌≡◌, length, replicate, pos};
 ghost use Rattle.insertion.specs.Kinds.{of_making};
 ghost use Rattle.joins.specs.Kinds.{of_joined};
@@ -35,7 +36,7 @@ fn join_fault(
     b: Edge,
     work: &mut [Index],
 ) -> u8
-    ensures { JoinFaultPromise levels count level then els next heads a b work result }
+    ensures { JoinFaultPromise levels count (seen level) (seen then) (seen els) (seen next) (seen heads) a b (borrowed work) result }
 {
     let most = slots::most_nodes(level.len());
     if !rules::keeps_rules(levels, count, level, then, els, next, heads, most, work) {
@@ -65,9 +66,9 @@ fn join_or_back(
     a: Edge,
     b: Edge,
 ) -> Making
-    requires settle_asks { SettleAsks levels count level then els next heads work a b }
+    requires settle_asks { SettleAsks levels count.old level.old then.old els.old next.old heads.old work.old a b }
     requires cache_value { cache.old ≡ replicate (length cache.old) (pos 0) }
-    ensures { SettlePromise levels count level then els next heads op a b result }
+    ensures { SettlePromise levels (borrowed count) (borrowed level) (borrowed then) (borrowed els) (borrowed next) (borrowed heads) op a b result }
 {
     let before = *count;
     let width = unique_table::width_for(slots::most_nodes(level.len()), work.len());
@@ -94,9 +95,9 @@ fn join_by(
     a: Edge,
     b: Edge,
 ) -> Making
-    requires settle_asks { SettleAsks levels count level then els next heads work a b }
+    requires settle_asks { SettleAsks levels count.old level.old then.old els.old next.old heads.old work.old a b }
     requires cache_value { cache.old ≡ replicate (length cache.old) (pos 0) }
-    ensures { SettlePromise levels count level then els next heads op a b result }
+    ensures { SettlePromise levels (borrowed count) (borrowed level) (borrowed then) (borrowed els) (borrowed next) (borrowed heads) op a b result }
 {
     if OWN_CACHE <= cache.len() {
         return join_or_back(
@@ -134,7 +135,7 @@ pub fn join(
     cache: &mut [Edge],
     work: &mut [Index],
 ) -> Joined
-    ensures { JoinPromise levels count level then els next heads op a b cache work result }
+    ensures { JoinPromise levels (borrowed count) (borrowed level) (borrowed then) (borrowed els) (borrowed next) (borrowed heads) op a b (borrowed cache) (borrowed work) result }
 {
     zeros::clear_edges(cache);
     let found = join_fault(levels, *count, level, then, els, next, heads, a, b, work);
@@ -162,7 +163,7 @@ pub fn opposite(
     root: Edge,
     work: &mut [Index],
 ) -> Joined
-    ensures { OppositePromise levels count level then els next heads root work result }
+    ensures { OppositePromise levels count (seen level) (seen then) (seen els) (seen next) (seen heads) root (borrowed work) result }
 {
     let kept = rules::keeps_rules(levels, count, level, then, els, next, heads, count, work);
     zeros::clear_marks(work);

@@ -2,6 +2,7 @@
 // hands a refusal on.
 #![tactic(auto)]
 
+ghost use Rattle.codes.specs.Lent.{borrowed, seen};
 ghost use Rattle.std.specs.Prelude.{◌≡◌, not, eqb, length};
 ghost use Rattle.store.specs.Lent.{store_now};
 ghost use Rattle.header_values.specs.Kinds.{of_var_info};
@@ -55,9 +56,9 @@ pub fn load_nodes(
     seats: &mut [u16],
     work: &mut [Index],
 ) -> Loaded
-    requires readable { Readable (of_loaded ready) (store_now levels count.old level then els next heads) list.now (length edges.old) (length seats.old) }
-    requires searchable { Searchable (of_loaded ready) (store_now levels count.old level then els next heads) work.old }
-    ensures { LoadNodesPromise ready f levels list count level then els next heads roots edges seats work result }
+    requires readable { Readable (of_loaded ready) (store_now levels count.old level.old then.old els.old next.old heads.old) list.now (length edges.old) (length seats.old) }
+    requires searchable { Searchable (of_loaded ready) (store_now levels count.old level.old then.old els.old next.old heads.old) work.old }
+    ensures { LoadNodesPromise ready (seen f) levels (seen list) (borrowed count) (borrowed level) (borrowed then) (borrowed els) (borrowed next) (borrowed heads) (borrowed roots) (borrowed edges) (borrowed seats) (borrowed work) result }
 {
     match ready {
         Loaded::Header(h) => {
@@ -114,7 +115,7 @@ pub fn finish(
     rootnames: &mut [u32],
     rootlens: &mut [u32],
 )
-    ensures { FinishPromise answer ids order permids auxids names lens rootnames rootlens }
+    ensures { FinishPromise answer (borrowed ids) (borrowed order) (borrowed permids) (borrowed auxids) (borrowed names) (borrowed lens) (borrowed rootnames) (borrowed rootlens) }
 {
     let refused = is_refusal(answer);
     clear_if(refused, ids);

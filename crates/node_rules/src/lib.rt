@@ -1,6 +1,7 @@
 // The rules of sizes and nodes: how long the lists are, and whether each node lies over lower nodes at deeper levels.
 #![tactic(auto)]
 
+ghost use Rattle.codes.specs.Lent.{seen};
 ghost use Rattle.std.specs.Prelude.{[], ◌≤◌, ◌<◌, length};
 ghost use Rattle.edges.specs.Width.{edge_limit};
 ghost use Rattle.store.specs.Lent.{old_store};
@@ -26,7 +27,7 @@ pub fn sizes_kept(
     next: &[Index],
     heads: &[Index],
 ) -> bool
-    ensures { Decides result (Sizes limits (old_store levels count level then els next heads)) }
+    ensures { Decides result (Sizes limits (old_store levels count (seen level) (seen then) (seen els) (seen next) (seen heads))) }
 {
     if then.len() != level.len() {
         return false;

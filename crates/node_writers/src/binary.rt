@@ -1,4 +1,5 @@
 // A node line in binary.
+ghost use Rattle.codes.specs.Lent.{borrowed};
 ghost use Rattle.std.specs.Prelude.{◌≡◌, false, ◌-◌, ◌<◌, nat_abs};
 ghost use Rattle.codes.specs.declared.Code.TheVariants.{Terminal};
 ghost use Rattle.writers.specs.Binary.{escaped};
@@ -86,8 +87,8 @@ fn variable_code(p: u16, seat: u16) -> Code
 
 // Writes the number that follows a code.
 fn put_number(out: &mut [u8], at: usize, code: Code, absolute: u64, distance: u64) -> usize
-    requires { FitsOut out at (number_for code absolute distance) }
-    ensures { Written out at (number_for code absolute distance) result }
+    requires { FitsOut out.old at (number_for code absolute distance) }
+    ensures { Written (borrowed out) at (number_for code absolute distance) result }
 {
     match code {
         Code::Terminal => at,
@@ -99,8 +100,8 @@ fn put_number(out: &mut [u8], at: usize, code: Code, absolute: u64, distance: u6
 
 // Writes the terminal's line.
 pub fn put_terminal(out: &mut [u8], at: usize) -> usize
-    requires { FitsOut out at (escaped (code_byte Terminal Terminal false Terminal)) }
-    ensures { Written out at (escaped (code_byte Terminal Terminal false Terminal)) result }
+    requires { FitsOut out.old at (escaped (code_byte Terminal Terminal false Terminal)) }
+    ensures { Written (borrowed out) at (escaped (code_byte Terminal Terminal false Terminal)) result }
 {
     let code = node_code(Code::Terminal, Code::Terminal, false, Code::Terminal);
     writers::binary::write_escaped(out, at, code)
@@ -109,8 +110,8 @@ pub fn put_terminal(out: &mut [u8], at: usize) -> usize
 // Writes a line of a support position and two children, by the seat that its variable may count down from.
 pub fn put_inner(out: &mut [u8], at: usize, n: Index, p: u16, t: Edge, e: Edge, seat: u16) -> usize
     requires t_bound { (nat_abs t < n) × (nat_abs e < n) }
-    requires fits_out { FitsOut out at (inner_bytes n p t e seat) }
-    ensures { Written out at (inner_bytes n p t e seat) result }
+    requires fits_out { FitsOut out.old at (inner_bytes n p t e seat) }
+    ensures { Written (borrowed out) at (inner_bytes n p t e seat) result }
 {
     let then = edges::magnitude(t);
     let els = edges::magnitude(e);

@@ -1,6 +1,5 @@
 -- What making a node and taking nodes back ask, and what they promise.
 use Rattle.std.specs.Prelude.{ℕ, ◌-◌, ◌≤◌, ◌≡◌, List, ℤ}
-use Rattle.std.specs.Borrow.{Bor}
 use Rattle.store.specs.Store.{Store}
 use Rattle.codes.specs.Answer.{Read, value, refused}
 use Rattle.codes.specs.Limits.{limits}
@@ -17,21 +16,21 @@ abbrev pub stays : Read ℤ → ℕ → ℕ → ℕ
 stays (value x) before count = count
 stays (refused n) before count = before
 
-module _ (levels : ℕ) (count : Bor ℕ) (level : Bor (List ℕ)) (then els : Bor (List ℤ)) (next heads : Bor (List ℕ)) where
+module _ (levels : ℕ) (count : ℕ) (level : List ℕ) (then els : List ℤ) (next heads : List ℕ) where
   abbrev σ : Store
-  σ = store_now levels count.now level then els next heads
+  σ = store_now levels count level then els next heads
 
   -- a store that keeps its rules, children of it that lie deeper, and an index that knows its nodes
-  pub record MakeAsks (index : Bor (List ℕ)) (width l : ℕ) (t e : ℤ) : Type 0 where
+  pub record MakeAsks (index : List ℕ) (width l : ℕ) (t e : ℤ) : Type 0 where
     pub rules : Rules limits σ
     pub children : nodes.Makes σ l t e
-    pub known : KnownNodes width σ index.now
+    pub known : KnownNodes width σ index
 
   -- a store that keeps its rules, and one of its nodes
   pub record TakeBackAsks (to : ℕ) : Type 0 where
     pub rules : Rules limits σ
     pub some : 1 ≤ to
-    pub there : to ≤ count.now
+    pub there : to ≤ count
 
 module _ (levels : ℕ) (count : Part ℕ) (level : Part (List ℕ)) (then els : Part (List ℤ)) (next heads : Part (List ℕ)) where
   -- the store as the call starts, and as it ends

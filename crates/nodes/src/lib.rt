@@ -1,6 +1,7 @@
 // Making nodes and taking them back: equal children give that child, a minus on then moves to the else and to the result.
 #![tactic(auto)]
 
+ghost use Rattle.codes.specs.Lent.{borrowed};
 ghost use Rattle.std.specs.Prelude.{◌≡◌, cond, ◌<◌, neg_ℤ};
 ghost use Rattle.edges.specs.Edge.{IsEdge};
 ghost use Rattle.insertion.specs.Kinds.{of_making, Turns};
@@ -44,8 +45,8 @@ pub fn make(
     t: Edge,
     e: Edge,
 ) -> Making
-    requires { MakeAsks levels count level then els next heads index width l t e }
-    ensures { MakePromise levels count level then els next heads index width l t e result }
+    requires { MakeAsks levels count.old level.old then.old els.old next.old heads.old index.old width l t e }
+    ensures { MakePromise levels (borrowed count) (borrowed level) (borrowed then) (borrowed els) (borrowed next) (borrowed heads) (borrowed index) width l t e result }
 {
     if edges::same(t, e) {
         return Making::Node(t);
@@ -80,8 +81,8 @@ pub fn take_back(
     heads: &mut [Index],
     to: Index,
 )
-    requires { TakeBackAsks levels count level then els next heads to }
-    ensures { TakeBackPromise levels count level then els next heads to }
+    requires { TakeBackAsks levels count.old level.old then.old els.old next.old heads.old to }
+    ensures { TakeBackPromise levels (borrowed count) (borrowed level) (borrowed then) (borrowed els) (borrowed next) (borrowed heads) to }
 {
     while to < *count {
         slots::drop_node(levels, count, level, then, els, next, heads);

@@ -1,6 +1,5 @@
 -- What is judged of an old store before a node is looked at, and what is copied of it.
 use Rattle.std.specs.Prelude.{ℕ, ◌≤◌, ◌≡◌, true, List, length, take, replicate, ℤ, pos}
-use Rattle.std.specs.Borrow.{Bor}
 use Rattle.codes.specs.Lent.{Part, old, new, laid}
 use Rattle.store.specs.Store.{Store}
 use Rattle.store.specs.Rules.{Sizes, Zeros}
@@ -13,13 +12,13 @@ pub record Judged (l : NewLengths) (σ : Store) (r : ℕ) : Type 0 where
   pub found : 1 ≤ r → widen_fault l σ ≡ r
 
 -- the first n slots, and so many heads, are there on both sides
-pub record CopyAsks (n buckets : ℕ) (old_level : Bor (List ℕ)) (old_then old_els : Bor (List ℤ)) (old_next old_heads level : Bor (List ℕ))
-    (then els : Bor (List ℤ)) (next heads : Bor (List ℕ)) : Type 0 where
-  pub level_there : (n ≤ length old_level.now) × (n ≤ length level.now)
-  pub then_there : (n ≤ length old_then.now) × (n ≤ length then.now)
-  pub els_there : (n ≤ length old_els.now) × (n ≤ length els.now)
-  pub next_there : (n ≤ length old_next.now) × (n ≤ length next.now)
-  pub heads_there : (buckets ≤ length old_heads.now) × (buckets ≤ length heads.now)
+pub record CopyAsks (n buckets : ℕ) (old_level : List ℕ) (old_then old_els : List ℤ) (old_next old_heads level : List ℕ)
+    (then els : List ℤ) (next heads : List ℕ) : Type 0 where
+  pub level_there : (n ≤ length old_level) × (n ≤ length level)
+  pub then_there : (n ≤ length old_then) × (n ≤ length then)
+  pub els_there : (n ≤ length old_els) × (n ≤ length els)
+  pub next_there : (n ≤ length old_next) × (n ≤ length next)
+  pub heads_there : (buckets ≤ length old_heads) × (buckets ≤ length heads)
 
 pub record CopyPromise (n buckets : ℕ) (old_level : Part (List ℕ)) (old_then old_els : Part (List ℤ)) (old_next old_heads level : Part (List ℕ))
     (then els : Part (List ℤ)) (next heads : Part (List ℕ)) : Type 0 where

@@ -2,7 +2,7 @@
 #![tactic(auto)]
 
 ghost use Rattle.std.specs.Prelude.{◌≡◌, [], ◌≤◌, pos, length, take, replicate};
-ghost use Rattle.codes.specs.Lent.{old, new, laid};
+ghost use Rattle.codes.specs.Lent.{old, new, laid, borrowed, seen};
 ghost use Rattle.edges.specs.Edge.{eq_z};
 ghost use Rattle.store.specs.Lent.{old_store};
 ghost use Rattle.store.specs.Store.{store};
@@ -48,7 +48,7 @@ fn sizes_kept(
     next: &[OldIndex],
     heads: &[OldIndex],
 ) -> bool
-    ensures { Decides result (Sizes old_limits (old_store levels count level then els next heads)) }
+    ensures { Decides result (Sizes old_limits (old_store levels count (seen level) (seen then) (seen els) (seen next) (seen heads))) }
 {
     if then.len() != level.len() {
         return false;
@@ -142,7 +142,7 @@ pub fn parts_fault(
     new_heads: usize,
 ) -> u8
     ensures { Judged (lengths new_level new_then new_els new_next new_heads)
-        (old_store levels count level then els next heads) result }
+        (old_store levels count (seen level) (seen then) (seen els) (seen next) (seen heads)) result }
 {
     if !lists_take(
         count as usize,
@@ -179,7 +179,7 @@ fn wide_index(n: OldIndex) -> Index
 // The first n entries of a list, and zeros after them: of levels, of edges, of node numbers.
 fn copy_levels(n: usize, from: &[u16], to: &mut [u16])
     requires { (n ≤ length from.now) × (n ≤ length to.old) }
-    ensures { new to ≡ laid (take n (old from)) (replicate (length (old to)) 0) }
+    ensures { to.new ≡ laid (take n from.now) (replicate (length to.old) 0) }
 {
     zeros::clear_seats(to);
     let mut i = 0;
@@ -191,7 +191,7 @@ fn copy_levels(n: usize, from: &[u16], to: &mut [u16])
 
 fn copy_edges(n: usize, from: &[OldEdge], to: &mut [Edge])
     requires { (n ≤ length from.now) × (n ≤ length to.old) }
-    ensures { new to ≡ laid (take n (old from)) (replicate (length (old to)) (pos 0)) }
+    ensures { to.new ≡ laid (take n from.now) (replicate (length to.old) (pos 0)) }
 {
     zeros::clear_edges(to);
     let mut i = 0;
@@ -204,7 +204,7 @@ fn copy_edges(n: usize, from: &[OldEdge], to: &mut [Edge])
 
 fn copy_indices(n: usize, from: &[OldIndex], to: &mut [Index])
     requires { (n ≤ length from.now) × (n ≤ length to.old) }
-    ensures { new to ≡ laid (take n (old from)) (replicate (length (old to)) 0) }
+    ensures { to.new ≡ laid (take n from.now) (replicate (length to.old) 0) }
 {
     zeros::clear_marks(to);
     let mut i = 0;
@@ -229,8 +229,8 @@ pub fn copy_store(
     next: &mut [Index],
     heads: &mut [Index],
 )
-    requires { CopyAsks n buckets old_level old_then old_els old_next old_heads level then els next heads }
-    ensures { CopyPromise n buckets old_level old_then old_els old_next old_heads level then els next heads }
+    requires { CopyAsks n buckets old_level.now old_then.now old_els.now old_next.now old_heads.now level.old then.old els.old next.old heads.old }
+    ensures { CopyPromise n buckets (seen old_level) (seen old_then) (seen old_els) (seen old_next) (seen old_heads) (borrowed level) (borrowed then) (borrowed els) (borrowed next) (borrowed heads) }
 {
     copy_levels(n, old_level, level);
     copy_edges(n, old_then, then);

@@ -1,6 +1,7 @@
 // A walk from the roots over the nodes that they lead to.
 #![tactic(auto)]
 
+ghost use Rattle.codes.specs.Lent.{borrowed, seen};
 ghost use Rattle.std.specs.Prelude.{◌≡◌, [], ◌-◌, ◌≤◌, length, get_or, replicate, pos, nat_abs};
 ghost use Rattle.store.specs.Store.{store};
 ghost use Rattle.reached.specs.Meet.{Looks, Meets, Walks};
@@ -19,7 +20,7 @@ fn under(links: &[Edge], n: Index) -> Index
 // The first child of a node that isn't marked, 0 for none: the terminal has no children.
 fn next_child(then: &[Edge], els: &[Edge], marks: &[Index], n: Index) -> Index
     requires { Looks (store 0 0 [] then.now els.now [] []) (length marks.now) n }
-    ensures { NextChildPromise then els marks n result }
+    ensures { NextChildPromise (seen then) (seen els) (seen marks) n result }
 {
     if n == 1 {
         return 0;
@@ -46,7 +47,7 @@ fn meet(
     at: usize,
 ) -> usize
     requires { Meets (store 0 0 [] then.now els.now [] []) met.old marks.old at first }
-    ensures { MeetPromise then els first met marks at result }
+    ensures { MeetPromise (seen then) (seen els) first (borrowed met) (borrowed marks) at result }
 {
     if marks[first as usize - 1] != 0 {
         return at;
@@ -82,7 +83,7 @@ pub fn meet_all(
 ) -> usize
     requires walks { Walks (store 0 0 [] then.now els.now [] []) roots.now (length met.old) (length marks.old) }
     requires met_value { (met.old ≡ replicate (length met.old) 0) × (marks.old ≡ replicate (length marks.old) 0) }
-    ensures { MeetAllPromise then els roots met marks result }
+    ensures { MeetAllPromise (seen then) (seen els) (seen roots) (borrowed met) (borrowed marks) result }
 {
     let mut at: usize = 0;
     let mut i: usize = 0;

@@ -3,7 +3,7 @@
 #![tactic(auto)]
 
 ghost use Rattle.std.specs.Prelude.{◌≡◌, cond, length};
-ghost use Rattle.codes.specs.Lent.{laid};
+ghost use Rattle.codes.specs.Lent.{laid, borrowed, seen};
 ghost use Rattle.codes.specs.Limits.{limits};
 ghost use Rattle.recode_levels.specs.Levels.{JudgedLevels};
 ghost use Rattle.recoding.specs.Recode.{head_read, all_there, recode_of};
@@ -121,7 +121,7 @@ fn write_back(
 ) -> Recoded
     requires judged_levels { JudgedLevels h.nvars ids.now permids.now }
     requires names_len { (length names.now ≡ length lens.now) × (length rootnames.now ≡ length rootlens.now) }
-    ensures { WriteBackPromise f h levels count level then els next heads roots ids permids names lens rootnames rootlens out result }
+    ensures { WriteBackPromise (seen f) h levels count (seen level) (seen then) (seen els) (seen next) (seen heads) (seen roots) (seen ids) (seen permids) (seen names) (seen lens) (seen rootnames) (seen rootlens) (borrowed out) result }
 {
     let dd = h.dd;
     let settings = ExportSettings::default()
@@ -163,7 +163,7 @@ fn write_back(
 
 // Loads a file at some levels of an empty store and exports it again.
 fn reload(f: &[u8], list: &[u16], levels: u16, out: &mut [u8]) -> Recoded
-    ensures { ReloadPromise f list levels out result }
+    ensures { ReloadPromise (seen f) (seen list) levels (borrowed out) result }
 {
     let mut count: Index = 1;
     let mut level = [0u16; SLOTS];

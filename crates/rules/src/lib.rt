@@ -1,6 +1,7 @@
 // The rules of a store, tested on any contents: no list is read outside its length and no link is followed that was not tested before.
 #![tactic(auto)]
 
+ghost use Rattle.codes.specs.Lent.{borrowed, seen};
 ghost use Rattle.std.specs.Prelude.{◌≡◌, [], ℕ, ◌≤◌, ◌<◌, length, get_or};
 ghost use Rattle.edges.specs.Width.{edge_limit};
 ghost use Rattle.store.specs.Lent.{store_now, old_store};
@@ -42,7 +43,7 @@ pub fn chains_hold(
     requires le_count { (1 ≤ count) × (count < edge_limit) }
     requires count_in_bounds { (count ≤ length level.now) × ((count ≤ length then.now) × ((count ≤ length els.now) × (count ≤ length next.now))) }
     requires heads_len { length heads.now ≡ 256 }
-    ensures { Decides result (Chains (old_store 0 count level then els next heads)) }
+    ensures { Decides result (Chains (old_store 0 count (seen level) (seen then) (seen els) (seen next) (seen heads))) }
 {
     let mut newest: [Index; BUCKETS] = [0; BUCKETS];
     let mut n: Index = 2;
@@ -78,8 +79,8 @@ pub fn all_alone(
     requires le_count { (1 ≤ count) × (count < edge_limit) }
     requires count_in_bounds { (count ≤ length level.now) × ((count ≤ length then.now) × ((count ≤ length els.now) × (count ≤ length next.now))) }
     requires heads_len { length heads.now ≡ 256 }
-    requires chains { Chains (store_now 0 count level then els next heads) }
-    ensures { AlonePromise count level then els most work result }
+    requires chains { Chains (store_now 0 count level.now then.now els.now next.now heads.now) }
+    ensures { AlonePromise count (seen level) (seen then) (seen els) most (borrowed work) result }
 {
     let width = unique_table::width_for(most, work.len());
     if width != 0 && count <= most {
@@ -135,7 +136,7 @@ pub fn keeps_rules(
     most: Index,
     work: &mut [Index],
 ) -> bool
-    ensures { KeepsPromise levels count level then els next heads most work result }
+    ensures { KeepsPromise levels count (seen level) (seen then) (seen els) (seen next) (seen heads) most (borrowed work) result }
 {
     if !node_rules::sizes_kept(levels, count, level, then, els, next, heads) {
         return false;

@@ -4,7 +4,7 @@
 ghost use Rattle.std.specs.Prelude.{◌≡◌, [], ◌<◌, length, pos};
 ghost use Rattle.edges.specs.Edge.{IsEdge};
 ghost use Rattle.store.specs.Store.{store};
-ghost use Rattle.codes.specs.Lent.{old, new};
+ghost use Rattle.codes.specs.Lent.{borrowed};
 ghost use Rattle.store.specs.Lent.{store_now, old_store, new_store};
 ghost use Rattle.codes.specs.Limits.{limits};
 ghost use Rattle.store.specs.Rules.{Sizes};
@@ -59,10 +59,10 @@ pub fn put_node(
     t: Edge,
     e: Edge,
 )
-    requires sizes { Sizes limits (store_now levels count.old level then els next heads) }
+    requires sizes { Sizes limits (store_now levels count.old level.old then.old els.old next.old heads.old) }
     requires count_in_bounds { count.old < length level.old }
-    ensures { new_store levels (new count) level then els next heads
-        ≡ nodes.added (old_store levels (old count) level then els next heads) l t e }
+    ensures { new_store levels count.new (borrowed level) (borrowed then) (borrowed els) (borrowed next) (borrowed heads)
+        ≡ nodes.added (old_store levels count.old (borrowed level) (borrowed then) (borrowed els) (borrowed next) (borrowed heads)) l t e }
 {
     let b = edges::bucket(l, t, e);
     let c = *count;
@@ -86,8 +86,8 @@ pub fn drop_node(
     next: &mut [Index],
     heads: &mut [Index],
 )
-    requires { Sizes limits (store_now levels count.old level then els next heads) }
-    ensures { new_store levels (new count) level then els next heads ≡ nodes.dropped (old_store levels (old count) level then els next heads) }
+    requires { Sizes limits (store_now levels count.old level.old then.old els.old next.old heads.old) }
+    ensures { new_store levels count.new (borrowed level) (borrowed then) (borrowed els) (borrowed next) (borrowed heads) ≡ nodes.dropped (old_store levels count.old (borrowed level) (borrowed then) (borrowed els) (borrowed next) (borrowed heads)) }
 {
     let n = *count;
     let c = n - 1;

@@ -3,6 +3,7 @@
 // `DumpHeader::load` of `header`; the nodes, the end and the zeros follow in `last_stages`.
 #![tactic(auto)]
 
+ghost use Rattle.codes.specs.Lent.{borrowed, seen};
 ghost use Rattle.std.specs.Prelude.{◌≡◌, [], ◌∷◌};
 ghost use Rattle.codes.specs.Limits.{limits};
 ghost use Rattle.header.specs.Header.{lists_fault, at_least, length_after};
@@ -47,7 +48,7 @@ pub fn store_fault(
     heads: &[Index],
     work: &mut [Index],
 ) -> u8
-    ensures { StoreFaultPromise found levels count level then els next heads work result }
+    ensures { StoreFaultPromise found levels count (seen level) (seen then) (seen els) (seen next) (seen heads) (borrowed work) result }
 {
     if found != 0 {
         return found;

@@ -1,7 +1,6 @@
 -- The chains of a store, node by node, and a stretch of one. Document 01, 'Store and meaning': 'each chain holds just its bucket, newest
 -- first', 'no two nodes alike'.
 use Rattle.std.specs.Prelude.{ℕ, zero, suc, ◌+◌, ◌-◌, ◌≤◌, ◌<◌, ◌≡◌, List, [], length, ℤ}
-use Rattle.std.specs.Borrow.{Bor}
 use Rattle.codes.specs.Lent.{Part, old}
 use Rattle.store.specs.Store.{Store, store, level_at, then_at, else_at, next_at}
 use Rattle.store.specs.Rules.{AlikeNodes, bucket}
@@ -19,8 +18,8 @@ abbrev pub linked_slots : ℕ → List ℕ → List ℤ → List ℤ → List �
 linked_slots count level then els next = store 0 count level then els next []
 
 -- the same in lent lists: at a `requires`, and as the call starts
-abbrev pub linked_now : ℕ → Bor (List ℕ) → Bor (List ℤ) → Bor (List ℤ) → Bor (List ℕ) → Store
-linked_now count level then els next = linked_slots count level.now then.now els.now next.now
+abbrev pub linked_now : ℕ → List ℕ → List ℤ → List ℤ → List ℕ → Store
+linked_now count level then els next = linked_slots count level then els next
 
 abbrev pub linked_old : ℕ → Part (List ℕ) → Part (List ℤ) → Part (List ℤ) → Part (List ℕ) → Store
 linked_old count level then els next = linked_slots count (old level) (old then) (old els) (old next)

@@ -2,7 +2,7 @@
 #![tactic(auto)]
 
 ghost use Rattle.std.specs.Prelude.{◌≡◌, ◌+◌, ◌*◌, ◌≤◌, length};
-ghost use Rattle.codes.specs.Lent.{old, new};
+ghost use Rattle.codes.specs.Lent.{seen};
 ghost use Rattle.store.specs.Store.{slots};
 ghost use Rattle.store.specs.Keeps.{Decides};
 ghost use Rattle.unique_table.specs.Index.{Indexed, AllAlone};
@@ -33,9 +33,9 @@ pub fn copy_stretch(
     elses: &mut [Edge],
 ) -> Stretch
     requires levels_len { (length levels.old ≡ stretch_slots) × (length thens.old ≡ stretch_slots) × (length elses.old ≡ stretch_slots) }
-    requires chained { Chained (linked_now count level then els next) n × (1 ≤ n) }
+    requires chained { Chained (linked_now count level.now then.now els.now next.now) n × (1 ≤ n) }
     ensures le_last { (2 ≤ result.last) × (result.last ≤ stretch_slots) }
-    ensures copied { Copied (linked_old count level then els next) n (slots (new levels) (new thens) (new elses)) result.last result.rest }
+    ensures copied { Copied (linked_old count (seen level) (seen then) (seen els) (seen next)) n (slots levels.new thens.new elses.new) result.last result.rest }
 {
     let mut c: usize = 1;
     let mut at = n;
@@ -71,8 +71,8 @@ fn none_like(
 ) -> bool
     requires indexed { Indexed width (slots levels.now thens.now elses.now) last index.now }
     requires last_in_bounds { (last ≤ length levels.now) × ((last ≤ length thens.now) × (last ≤ length elses.now)) }
-    requires chained { Chained (linked_now count level then els next) n }
-    ensures { Decides result (NoneLike (linked_old count level then els next) n (slots (old levels) (old thens) (old elses)) last) }
+    requires chained { Chained (linked_now count level.now then.now els.now next.now) n }
+    ensures { Decides result (NoneLike (linked_old count (seen level) (seen then) (seen els) (seen next)) n (slots levels.now thens.now elses.now) last) }
 {
     let mut at = n;
     while at != 0 {
@@ -106,9 +106,9 @@ pub fn stretch_alone(
 ) -> bool
     requires le_last { (2 ≤ last) × (last ≤ stretch_slots) × (length index.old ≡ 3 * last + 2) }
     requires last_in_bounds { (last ≤ length levels.now) × ((last ≤ length thens.now) × (last ≤ length elses.now)) }
-    requires chained { Chained (linked_now count level then els next) rest }
-    ensures { Decides result (AllAlone (slots (old levels) (old thens) (old elses)) last
-        × NoneLike (linked_old count level then els next) rest (slots (old levels) (old thens) (old elses)) last) }
+    requires chained { Chained (linked_now count level.now then.now els.now next.now) rest }
+    ensures { Decides result (AllAlone (slots levels.now thens.now elses.now) last
+        × NoneLike (linked_old count (seen level) (seen then) (seen els) (seen next)) rest (slots levels.now thens.now elses.now) last) }
 {
     if last == 2 && rest == 0 {
         return true;

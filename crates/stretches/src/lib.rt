@@ -3,6 +3,7 @@
 // is gone through once for each 512 of its nodes.
 #![tactic(auto)]
 
+ghost use Rattle.codes.specs.Lent.{seen};
 ghost use Rattle.std.specs.Prelude.{◌≡◌, ◌≤◌, ◌<◌, length};
 ghost use Rattle.edges.specs.Width.{edge_limit};
 ghost use Rattle.store.specs.Lent.{store_now};
@@ -31,8 +32,8 @@ fn chain_alone(
     elses: &mut [Edge; SLOTS],
     index: &mut [Index],
 ) -> bool
-    requires { Chained (linked_now count level then els next) n × (length index.old ≡ stretch_entries) }
-    ensures { Decides result (ChainAlone (linked_old count level then els next) n) }
+    requires { Chained (linked_now count level.now then.now els.now next.now) n × (length index.old ≡ stretch_entries) }
+    ensures { Decides result (ChainAlone (linked_old count (seen level) (seen then) (seen els) (seen next)) n) }
 {
     let mut at = n;
     while at != 0 {
@@ -63,7 +64,7 @@ pub fn distinct(
     requires le_count { (1 ≤ count) × (count < edge_limit) }
     requires count_in_bounds { (count ≤ length level.now) × ((count ≤ length then.now) × ((count ≤ length els.now) × (count ≤ length next.now))) }
     requires heads_len { length heads.now ≡ 256 }
-    requires chains { Chains (store_now 0 count level then els next heads) }
+    requires chains { Chains (store_now 0 count level.now then.now els.now next.now heads.now) }
     ensures { Decides result (AllAlone (slots level.now then.now els.now) count) }
 {
     let mut levels = [0u16; SLOTS];

@@ -2,7 +2,7 @@
 #![tactic(auto)]
 
 ghost use Rattle.std.specs.Prelude.{◌≡◌, cond, ◌≤◌, length, nat_abs};
-ghost use Rattle.codes.specs.Lent.{old, new};
+ghost use Rattle.codes.specs.Lent.{borrowed, seen};
 ghost use Rattle.store.specs.Store.{slots};
 ghost use Rattle.store.specs.Meaning.{setting_of, answer};
 ghost use Rattle.evaluation.specs.Evaluated.{Walks};
@@ -28,7 +28,7 @@ const YES: Index = 2;
 
 // What is remembered of a node's answer. Node 1 is yes.
 fn recall(marks: &[Index], n: Index) -> Index
-    ensures { result ≡ recall_of (old marks) n }
+    ensures { result ≡ recall_of marks.now n }
 {
     if n <= 1 {
         return YES;
@@ -42,7 +42,7 @@ fn recall(marks: &[Index], n: Index) -> Index
 
 // Can a node's answer be remembered that isn't yet?
 fn is_open(marks: &[Index], n: Index) -> bool
-    ensures { result ≡ open_at (old marks) n }
+    ensures { result ≡ open_at marks.now n }
 {
     if n <= 1 {
         return false;
@@ -71,7 +71,7 @@ fn choose(yes: bool, t: Edge, e: Edge) -> Edge
 // The edge that the way at a setting takes from a node.
 fn taken(level: &[u16], then: &[Edge], els: &[Edge], setting: &[u8], n: Index) -> Edge
     requires { (2 ≤ n) × Walks level.now then.now els.now setting.now n }
-    ensures { result ≡ taken_at (slots (old level) (old then) (old els)) (setting_of (old setting)) n }
+    ensures { result ≡ taken_at (slots level.now then.now els.now) (setting_of setting.now) n }
 {
     let i = n as usize - 1;
     let l = level[i] as usize;
@@ -83,7 +83,7 @@ fn taken(level: &[u16], then: &[Edge], els: &[Edge], setting: &[u8], n: Index) -
 // The other one.
 fn other(level: &[u16], then: &[Edge], els: &[Edge], setting: &[u8], n: Index) -> Edge
     requires { (2 ≤ n) × Walks level.now then.now els.now setting.now n }
-    ensures { result ≡ other_at (slots (old level) (old then) (old els)) (setting_of (old setting)) n }
+    ensures { result ≡ other_at (slots level.now then.now els.now) (setting_of setting.now) n }
 {
     let i = n as usize - 1;
     let l = level[i] as usize;
@@ -95,7 +95,7 @@ fn other(level: &[u16], then: &[Edge], els: &[Edge], setting: &[u8], n: Index) -
 // What an edge answers at the setting: down its way to a node whose answer is remembered.
 fn ask(level: &[u16], then: &[Edge], els: &[Edge], setting: &[u8], marks: &[Index], e: Edge) -> bool
     requires { WayAsks level.now then.now els.now setting.now marks.now e }
-    ensures { result ≡ answer (slots (old level) (old then) (old els)) (setting_of (old setting)) e }
+    ensures { result ≡ answer (slots level.now then.now els.now) (setting_of setting.now) e }
 {
     let mut n = edges::magnitude(e);
     // Is the answer of node n turned over on the way back?
@@ -122,7 +122,7 @@ fn remember(
 )
     requires way_asks { WayAsks level.now then.now els.now setting.now marks.old e }
     requires says_value { says ≡ answer (slots level.now then.now els.now) (setting_of setting.now) e }
-    ensures { Marked (slots (old level) (old then) (old els)) (setting_of (old setting)) (new marks) }
+    ensures { Marked (slots level.now then.now els.now) (setting_of setting.now) marks.new }
 {
     let mut n = edges::magnitude(e);
     // What node n answers.
@@ -147,7 +147,7 @@ fn lowest(
     marks: &mut [Index],
 ) -> Tipped
     requires { (1 ≤ nat_abs root) × Walks level.now then.now els.now setting.now (nat_abs root) }
-    ensures { of_tipped result ≡ lowest_from (tips (slots (old level) (old then) (old els)) root (setting_of (old setting))) 0 (length (old setting)) }
+    ensures { of_tipped result ≡ lowest_from (tips (slots level.now then.now els.now) root (setting_of setting.now)) 0 (length setting.now) }
 {
     zeros::clear_marks(marks);
     let says = ask(level, then, els, setting, marks, root);
@@ -191,7 +191,7 @@ pub fn tip(
     setting: &[u8],
     work: &mut [Index],
 ) -> Tipped
-    ensures { TipPromise levels count level then els next heads root setting work result }
+    ensures { TipPromise levels count (seen level) (seen then) (seen els) (seen next) (seen heads) root (seen setting) (borrowed work) result }
 {
     let fault = evaluation::evaluation_fault(
         levels, count, level, then, els, next, heads, root, setting, work,

@@ -3,7 +3,7 @@
 
 ghost use Rattle.std.specs.Prelude.{◌≡◌, map, ◌≤◌, length, get_or, take};
 ghost use Rattle.codes.specs.Limits.{var_limit};
-ghost use Rattle.codes.specs.Lent.{laid};
+ghost use Rattle.codes.specs.Lent.{laid, borrowed, seen};
 ghost use Rattle.read_text.specs.Text.{place};
 ghost use Rattle.seats.specs.Seats.{Below};
 ghost use Rattle.variable_names.specs.Names.{are_same_bytes, same_name, entry_at};
@@ -58,7 +58,7 @@ pub fn same_names(
     requires index2_len { length index2.now ≡ length index.now }
     requires lens_len { length lens.now ≡ length starts.now }
     requires lens2_len { length lens2.now ≡ length starts2.now }
-    ensures { SameNamesPromise f index starts lens index2 starts2 lens2 result }
+    ensures { SameNamesPromise (seen f) (seen index) (seen starts) (seen lens) (seen index2) (seen starts2) (seen lens2) result }
 {
     let mut i = 0;
     while i < index.len() {
@@ -81,7 +81,7 @@ pub fn same_names(
 // The positions that are no permids, counted from 1, over the front of a list. `seats` is scratch, an entry for each variable.
 fn free_seats(permids: &[u32], seats: &mut [u32], dst: &mut [u32])
     requires { (length seats.old ≤ var_limit) × (length permids.now ≤ var_limit) }
-    ensures { FreePromise permids seats dst }
+    ensures { FreePromise (seen permids) (borrowed seats) (borrowed dst) }
 {
     zeros::clear_numbers(seats);
     seats::seats(permids, seats);
@@ -107,7 +107,7 @@ pub fn ordered_seats(
 )
     requires seats_len_bound { (length seats.old ≤ var_limit) × (length ids.now ≤ var_limit) × (length permids.now ≤ var_limit) }
     requires below { Below var_limit permids.now × (length free.old ≡ length seats.old) }
-    ensures { OrderedSeatsPromise ids permids seats dst }
+    ensures { OrderedSeatsPromise (seen ids) (seen permids) (borrowed seats) (borrowed dst) }
 {
     zeros::clear_numbers(free);
     free_seats(permids, seats, free);
@@ -130,7 +130,7 @@ pub fn ordered_seats(
 // scratch, an entry for each variable.
 pub fn supp_seats(ids: &[u32], seats: &mut [u32], dst: &mut [u32])
     requires { (length seats.old ≤ var_limit) × (length ids.now ≤ var_limit) }
-    ensures { SuppSeatsPromise ids seats dst }
+    ensures { SuppSeatsPromise (seen ids) (borrowed seats) (borrowed dst) }
 {
     zeros::clear_numbers(seats);
     seats::seats(ids, seats);

@@ -2,6 +2,7 @@
 // old lists' lengths and unused slots, is judged before.
 #![tactic(auto)]
 
+ghost use Rattle.codes.specs.Lent.{borrowed, seen};
 ghost use Rattle.std.specs.Prelude.{◌≡◌, cond, eqb};
 ghost use Rattle.widened.specs.Widen.{answer_by};
 ghost use Rattle.widening.specs.Course.{CopyFaultPromise, ClearPromise};
@@ -31,7 +32,7 @@ fn copy_fault(
     heads: &[Index],
     work: &mut [Index],
 ) -> u8
-    ensures { CopyFaultPromise fault levels count level then els next heads work result }
+    ensures { CopyFaultPromise fault levels count (seen level) (seen then) (seen els) (seen next) (seen heads) (borrowed work) result }
 {
     let kept = rules::keeps_rules(levels, count, level, then, els, next, heads, count, work);
     zeros::clear_marks(work);
@@ -53,7 +54,7 @@ fn clear_refused(
     next: &mut [Index],
     heads: &mut [Index],
 )
-    ensures { ClearPromise fault level then els next heads }
+    ensures { ClearPromise fault (borrowed level) (borrowed then) (borrowed els) (borrowed next) (borrowed heads) }
 {
     if fault == 0 {
         return;
@@ -105,8 +106,8 @@ pub fn widen(
     heads: &mut [Index],
     work: &mut [Index],
 ) -> Turned
-    ensures { WidenPromise levels old_count old_level old_then old_els old_next old_heads
-        count level then els next heads work result }
+    ensures { WidenPromise levels old_count (seen old_level) (seen old_then) (seen old_els) (seen old_next) (seen old_heads)
+        (borrowed count) (borrowed level) (borrowed then) (borrowed els) (borrowed next) (borrowed heads) (borrowed work) result }
 {
     let found = old_stores::parts_fault(
         levels,

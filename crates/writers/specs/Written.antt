@@ -1,12 +1,11 @@
 -- What a writer asks and promises: bytes are written into a lent part from a position on, and the answer is the position after them.
 use Rattle.std.specs.Prelude.{ℕ, ◌+◌, ◌≤◌, ◌≡◌, List, length}
 use Rattle.std.proofs.lemmas.List.Edits.{sets}
-use Rattle.std.specs.Borrow.{Bor}
 use Rattle.codes.specs.Lent.{Part, old, new}
 
 -- there is room for the bytes w
-abbrev pub FitsOut : Bor (List ℕ) → ℕ → List ℕ → Type 0
-FitsOut out at w = at + length w ≤ length out.now
+abbrev pub FitsOut : List ℕ → ℕ → List ℕ → Type 0
+FitsOut out at w = at + length w ≤ length out
 
 -- the bytes w stand in `after` from `at` on, and all else is as in `before`; `end` is the position after them
 pub record Wrote (before : List ℕ) (at : ℕ) (w : List ℕ) (end : ℕ) (after : List ℕ) : Type 0 where

@@ -1,12 +1,13 @@
 // Escaped bytes and 7-bit numbers.
+ghost use Rattle.codes.specs.Lent.{borrowed};
 ghost use Rattle.std.specs.Prelude.{◌≡◌, ◌+◌, ◌*◌, ◌<◌};
 ghost use Rattle.writers.specs.Binary.{escaped, escaped_all, groups_by, seven_bit};
 ghost use Rattle.writers.specs.Written.{FitsOut, Written};
 
 // Writes a byte, escaped where it must be.
 pub fn write_escaped(out: &mut [u8], at: usize, b: u8) -> usize
-    requires { FitsOut out at (escaped b) }
-    ensures { Written out at (escaped b) result }
+    requires { FitsOut out.old at (escaped b) }
+    ensures { Written (borrowed out) at (escaped b) result }
 {
     let code = match b {
         0x00 => 0x00,
@@ -33,8 +34,8 @@ fn group(bits: u64, more: u8) -> u8
 
 // Writes a number in 7-bit groups, highest first: each but the last says that more follow, and the last says what `more` does.
 fn put_groups(out: &mut [u8], at: usize, more: u8, n: u64) -> usize
-    requires { (more < 2) × FitsOut out at (escaped_all (groups_by 9 more n)) }
-    ensures { Written out at (escaped_all (groups_by 9 more n)) result }
+    requires { (more < 2) × FitsOut out.old at (escaped_all (groups_by 9 more n)) }
+    ensures { Written (borrowed out) at (escaped_all (groups_by 9 more n)) result }
 {
     if n < 128 {
         return write_escaped(out, at, group(n, more));
@@ -45,8 +46,8 @@ fn put_groups(out: &mut [u8], at: usize, more: u8, n: u64) -> usize
 
 // Encodes a number in 7-bit groups and writes it, escaped.
 pub fn encode_7bit(out: &mut [u8], at: usize, n: u64) -> usize
-    requires { FitsOut out at (seven_bit n) }
-    ensures { Written out at (seven_bit n) result }
+    requires { FitsOut out.old at (seven_bit n) }
+    ensures { Written (borrowed out) at (seven_bit n) result }
 {
     put_groups(out, at, 0, n)
 }

@@ -1,6 +1,6 @@
 // Bytes and decimal numbers.
 ghost use Rattle.std.specs.Prelude.{◌≡◌, ◌+◌, ◌<◌, [], ◌∷◌, length};
-ghost use Rattle.codes.specs.Lent.{old};
+ghost use Rattle.codes.specs.Lent.{borrowed};
 ghost use Rattle.writers.specs.Decimal.{decimal, edge_text};
 ghost use Rattle.writers.specs.Written.{FitsOut, Written};
 
@@ -9,7 +9,7 @@ use edges::Edge;
 // Writes one byte.
 pub fn put_byte(out: &mut [u8], at: usize, b: u8) -> usize
     requires { at < length out.old }
-    ensures { Written out at (b ∷ []) result }
+    ensures { Written (borrowed out) at (b ∷ []) result }
 {
     out[at] = b;
     at + 1
@@ -17,8 +17,8 @@ pub fn put_byte(out: &mut [u8], at: usize, b: u8) -> usize
 
 // Writes bytes as they are.
 pub fn put_bytes(out: &mut [u8], at: usize, bytes: &[u8]) -> usize
-    requires { FitsOut out at bytes.now }
-    ensures { Written out at (old bytes) result }
+    requires { FitsOut out.old at bytes.now }
+    ensures { Written (borrowed out) at bytes.now result }
 {
     let mut i: usize = 0;
     while i < bytes.len() {
@@ -38,8 +38,8 @@ fn digit(n: u64) -> u8
 
 // Writes a number in decimal digits.
 pub fn put_decimal(out: &mut [u8], at: usize, n: u64) -> usize
-    requires { FitsOut out at (decimal n) }
-    ensures { Written out at (decimal n) result }
+    requires { FitsOut out.old at (decimal n) }
+    ensures { Written (borrowed out) at (decimal n) result }
 {
     if n < 10 {
         out[at] = digit(n);
@@ -52,8 +52,8 @@ pub fn put_decimal(out: &mut [u8], at: usize, n: u64) -> usize
 
 // Writes an edge: a minus, where it has one, and its node's number.
 pub fn put_edge(out: &mut [u8], at: usize, e: Edge) -> usize
-    requires { FitsOut out at (edge_text e) }
-    ensures { Written out at (edge_text e) result }
+    requires { FitsOut out.old at (edge_text e) }
+    ensures { Written (borrowed out) at (edge_text e) result }
 {
     let n = edges::magnitude(e) as u64;
     if edges::is_minus(e) {

@@ -10,33 +10,21 @@ use Rattle.store.specs.Store.{store}
 use Rattle.store.specs.Keeps.{says-no}
 use Rattle.node_rules.proofs.Fit.{depth-top, depth-node, child-deep}
 use Rattle.node_rules.proofs.child_fits.Goals as goal
-use Rattle.node_rules.proofs.child_fits.Lts as lts
-use Rattle.node_rules.proofs.child_fits.Tie as tie
-use Rattle.node_rules.proofs.child_fits.Reads as reads
-
-abbrev After-magnitude-m : Type 0
-After-magnitude-m = lts.After-magnitude tie.the-claims reads.Pre reads.Post
--- places of the course, each a few steps back from a later one
-abbrev at-magnitude : goal.After-shared_slice_known-2-1 → After-magnitude-m
-at-magnitude p = p.before.before.before.before
-
-child : (c : After-magnitude-m) → c.magnitude-m.result ≡ nat_abs c.args.e
-child c = c.magnitude-m.ensures ∙ abs-back edge_width c.args.e c.ranges.e
 
 pub returns-then-m-eq0 : goal.returns-then-m-eq0
 returns-then-m-eq0 c =
-    says-no (λ w. omega (arith, w.some, child c.before))
+    says-no (λ w. omega (arith, w.some, (let h : c.magnitude-m.result ≡ nat_abs c.args.e = c.magnitude-m.ensures ∙ abs-back edge_width c.args.e c.ranges.e in h)))
 
 pub returns-then-n-m : goal.returns-then-n-m
 returns-then-n-m c =
-    says-no (λ w. omega (arith, w.low, child c.before.before))
+    says-no (λ w. omega (arith, w.low, (let h : c.magnitude-m.result ≡ nat_abs c.args.e = c.magnitude-m.ensures ∙ abs-back edge_width c.args.e c.ranges.e in h)))
 
 pub returns-then-m-eq1 : goal.returns-then-m-eq1
 returns-then-m-eq1 c =
-    child-deep _ _ _ _ _ _ (child c.before.before.before) (omega arith) (omega arith) (depth-top _ _ c.if-m-eq1.true)
+    child-deep (store c.args.levels 0 c.args.level.now [] [] [] []) _ _ _ _ _ (let h : c.magnitude-m.result ≡ nat_abs c.args.e = c.magnitude-m.ensures ∙ abs-back edge_width c.args.e c.ranges.e in h) (omega arith) (omega arith) (depth-top _ _ c.if-m-eq1.true)
 
 pub returns : goal.returns
 returns c =
-    child-deep _ _ _ _ _ _ (child (at-magnitude c)) (omega arith) (omega arith)
+    child-deep _ _ _ _ _ _ (let h : c.magnitude-m.result ≡ nat_abs c.args.e = c.magnitude-m.ensures ∙ abs-back edge_width c.args.e c.ranges.e in h) (omega arith) (omega arith)
     (depth-node (store c.args.levels 0 c.args.level.now [] [] [] []) _
     (omega arith))

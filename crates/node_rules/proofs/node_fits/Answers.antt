@@ -10,31 +10,6 @@ use Rattle.edges.proofs.Edge.{eq_z-true}
 use Rattle.store.specs.Keeps.{says-no}
 use Rattle.node_rules.proofs.Fit.{fits-minus, fits-then, fits_last}
 use Rattle.node_rules.proofs.node_fits.Goals as goal
-use Rattle.node_rules.proofs.node_fits.Lts as lts
-use Rattle.node_rules.proofs.node_fits.Tie as tie
-use Rattle.node_rules.proofs.node_fits.Reads as reads
-
-abbrev After-is_minus : Type 0
-After-is_minus = lts.After-is_minus tie.the-claims reads.Pre reads.Post
-
-abbrev After-same : Type 0
-After-same = lts.After-same tie.the-claims reads.Pre reads.Post
-
-abbrev Start : Type 0
-Start = lts.Start tie.the-claims reads.Pre reads.Post
--- places of the course, each a few steps back from a later one
-abbrev at_same : goal.After-child_fits-2 → After-same
-at_same p = p.before.before.before.before
-
-abbrev at-start : After-same → Start
-at-start p = p.before.before.before.before.before
-
-sign : (c : After-is_minus) → minus c.args.t ≡ c.is_minus.result
-sign c = sym (rw (to_z-of_z edge_width c.args.t c.ranges.t) at c.is_minus.ensures)
-
-alike : (c : After-same) → eq_z c.args.t c.args.e ≡ c.same.result
-alike c =
-    sym (rw (to_z-of_z edge_width c.args.t c.ranges.t, to_z-of_z edge_width c.args.e c.ranges.e) at c.same.ensures)
 
 pub returns-then-levels-l : goal.returns-then-levels-l
 returns-then-levels-l c =
@@ -42,21 +17,21 @@ returns-then-levels-l c =
 
 pub returns-then-is_minus : goal.returns-then-is_minus
 returns-then-is_minus c =
-    says-no (fits-minus _ _ _ _ _ (sign c.before ∙ c.if-is_minus.true))
+    says-no (fits-minus _ _ _ _ _ ((let h : minus c.args.t ≡ c.is_minus.result = sym (rw (to_z-of_z edge_width c.args.t c.ranges.t) at c.is_minus.ensures) in h) ∙ c.if-is_minus.true))
 
 pub returns-then-same : goal.returns-then-same
 returns-then-same c =
-    says-no (λ F. F.differ (eq_z-true _ _ (alike c.before ∙ c.if-same.true)))
+    says-no (λ F. F.differ (eq_z-true _ _ ((let h : eq_z c.args.t c.args.e ≡ c.same.result = sym (rw (to_z-of_z edge_width c.args.t c.ranges.t, to_z-of_z edge_width c.args.e c.ranges.e) at c.same.ensures) in h) ∙ c.if-same.true)))
 
 pub returns-then-not-child_fits : goal.returns-then-not-child_fits
 returns-then-not-child_fits c =
     says-no (λ F. (rw (to_z-of_z edge_width c.args.t c.ranges.t) at
-    c.child_fits.ensures).no (not-true _ c.if-not-child_fits.true) (fits-then _ _ _ _ _ F))
+    c.child_fits.ensures).no c.if-not-child_fits.true (fits-then _ _ _ _ _ F))
 
 pub returns : goal.returns
 returns c =
-    fits_last _ _ _ _ _ (omega arith) (sign c.before.before ∙ c.if-is_minus.false)
-    (alike (at_same c) ∙ c.if-same.false)
-    ((rw (to_z-of_z edge_width (at-start (at_same c)).args.t (at-start (at_same c)).ranges.t) at c.child_fits.ensures).yes
-    (not-false _ c.if-not-child_fits.false))
-    (rw (to_z-of_z edge_width (at-start (at_same c)).args.e (at-start (at_same c)).ranges.e) at c.child_fits-2.ensures)
+    fits_last _ _ _ _ _ (omega arith) ((let h : minus c.args.t ≡ c.is_minus.result = sym (rw (to_z-of_z edge_width c.args.t c.ranges.t) at c.is_minus.ensures) in h) ∙ c.if-is_minus.false)
+    ((let h : eq_z c.args.t c.args.e ≡ c.same.result = sym (rw (to_z-of_z edge_width c.args.t c.ranges.t, to_z-of_z edge_width c.args.e c.ranges.e) at c.same.ensures) in h) ∙ c.if-same.false)
+    ((rw (to_z-of_z edge_width c.args.t c.ranges.t) at c.child_fits.ensures).yes
+    c.if-not-child_fits.false)
+    (rw (to_z-of_z edge_width c.args.e c.ranges.e) at c.child_fits-2.ensures)

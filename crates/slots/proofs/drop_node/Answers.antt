@@ -7,20 +7,6 @@ use Rattle.store.specs.Store.{Store, store, then_at, else_at}
 use Rattle.store.proofs.Chain.{bucket-under}
 use Rattle.slots.proofs.Placed.{slot-cleared}
 use Rattle.slots.proofs.drop_node.Goals as goal
-use Rattle.slots.proofs.drop_node.Lts as lts
-use Rattle.slots.proofs.drop_node.Tie as tie
-use Rattle.slots.proofs.drop_node.Reads as reads
-
-abbrev Start : Type 0
-Start = lts.Start tie.the-claims reads.Pre reads.Post
--- places of the course, each a few steps back from a later one
-abbrev at-start : goal.After-slice_known-5-1 → Start
-at-start p = p.before.before.before.before.before.before.before.before.before.before
-
--- the store at the start
-abbrev σ : Start → Store
-σ s =
-    store s.args.levels s.args.count.now s.args.level.now s.args.then.now s.args.els.now s.args.next.now s.args.heads.now
 
 pub offset_bounds-heads-b : goal.offset_bounds-heads-b
 offset_bounds-heads-b c =
@@ -32,8 +18,8 @@ bounds-heads-b c =
 
 pub returns : goal.returns
 returns c =
-    let s = at-start c in
+    let s = c in
     let n = s.args.count.now in
-    slot-cleared (σ s) _ _ _
-    (to_z-of_z edge_width (then_at (σ s) n) (record { sfits = c.t-1.given }))
-    (to_z-of_z edge_width (else_at (σ s) n) (record { sfits = c.e-1.given })) c.bucket-b.ensures
+    slot-cleared (store s.args.levels s.args.count.now s.args.level.now s.args.then.now s.args.els.now s.args.next.now s.args.heads.now) _ _ _
+    (to_z-of_z edge_width (then_at (store s.args.levels s.args.count.now s.args.level.now s.args.then.now s.args.els.now s.args.next.now s.args.heads.now) n) (record { sfits = c.t-1.given }))
+    (to_z-of_z edge_width (else_at (store s.args.levels s.args.count.now s.args.level.now s.args.then.now s.args.els.now s.args.next.now s.args.heads.now) n) (record { sfits = c.e-1.given })) c.bucket-b.ensures

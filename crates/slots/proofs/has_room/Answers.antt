@@ -7,17 +7,14 @@ use Rattle.codes.specs.Limits.{limits}
 use Rattle.slots.proofs.Placed.{no_slot, no_number, a-slot}
 use Rattle.slots.proofs.has_room.Goals as goal
 
-abbrev σ : goal.Start → Store
-σ s = store 0 s.args.count s.args.level.now [] [] [] []
-
 pub returns-then-level-n : goal.returns-then-level-n
 returns-then-level-n c =
-    no_slot limits (σ c.before) (omega arith)
+    no_slot limits (store 0 c.args.count c.args.level.now [] [] [] []) (omega arith)
 
 pub returns-then-n-gt-NODE_LIMIT : goal.returns-then-n-gt-NODE_LIMIT
 returns-then-n-gt-NODE_LIMIT c =
-    no_number limits (σ c.before.before) (omega arith)
+    no_number limits (store 0 c.args.count c.args.level.now [] [] [] []) (omega arith)
 
 pub returns : goal.returns
 returns c =
-    a-slot limits (σ c.before.before) (omega arith) (omega arith)
+    a-slot limits (store 0 c.args.count c.args.level.now [] [] [] []) (omega arith) (omega arith)

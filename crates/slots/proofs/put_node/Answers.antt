@@ -7,20 +7,6 @@ use Rattle.store.specs.Store.{Store, store}
 use Rattle.store.proofs.Chain.{bucket-under}
 use Rattle.slots.proofs.Placed.{slot-filled}
 use Rattle.slots.proofs.put_node.Goals as goal
-use Rattle.slots.proofs.put_node.Lts as lts
-use Rattle.slots.proofs.put_node.Tie as tie
-use Rattle.slots.proofs.put_node.Reads as reads
-
-abbrev Start : Type 0
-Start = lts.Start tie.the-claims reads.Pre reads.Post tie.handed_clauses
--- places of the course, each a few steps back from a later one
-abbrev at-start : goal.After-slice_known-4-1 → Start
-at-start p = p.before.before.before.before.before.before
-
--- the store at the start
-abbrev σ : Start → Store
-σ s =
-    store s.args.levels s.args.count.now s.args.level.now s.args.then.now s.args.els.now s.args.next.now s.args.heads.now
 
 pub offset_bounds-heads-b : goal.offset_bounds-heads-b
 offset_bounds-heads-b c =
@@ -40,6 +26,6 @@ bounds-heads-b-2 c =
 
 pub returns : goal.returns
 returns c =
-    let s = at-start c in
-    slot-filled (σ s) _ _ s.args.t _ s.args.e _ (to_z-of_z edge_width s.args.t s.fits.t) (to_z-of_z edge_width s.args.e s.fits.e)
+    let s = c in
+    slot-filled (store s.args.levels s.args.count.now s.args.level.now s.args.then.now s.args.els.now s.args.next.now s.args.heads.now) _ _ s.args.t _ s.args.e _ (to_z-of_z edge_width s.args.t s.ranges.t) (to_z-of_z edge_width s.args.e s.ranges.e)
     c.bucket-b.ensures

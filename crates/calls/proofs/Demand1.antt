@@ -18,7 +18,7 @@ use Rattle.joined.proofs.Roots.{join-refused}
 use Rattle.calls.specs.Load.{Load, refused_at, parts_of, load_of}
 use Rattle.calls.specs.Calls.{Call, load, evaluate, example, tip, export, join, opposite}
 use Rattle.calls.specs.Outcome.{refusal, verdict_of, verdict_read, numbers, edges, Zeros, AllZeros, outputs_of, leaves}
-use Rattle.calls.specs.Refusals.{RefusalNumber, RefusedFor}
+use Rattle.calls.specs.Refusals.{NumberOf, RefusedFor}
 use Rattle.calls.proofs.Passes.{load-refused}
 use Rattle.calls.proofs.Numbers.{not-refused, refused-for, refusal-number}
 
@@ -93,7 +93,7 @@ demand-1 m (opposite a) σ n line q = (refl, tt)
 -- order, of a join the first of 3, 4 and 40, of an example the first of 1, 3, 4 and 41 and of a tipping point the first of 3, 4 and 42, with one of its
 -- numbers, which is never 0, and at the line that it says.
 pub demand-1-number : (m : Limits) (c : Call) (σ : Store) (n line : ℕ) → (leaves m c σ).verdict ≡ refusal n line
-    → RefusedFor m c σ n line × RefusalNumber n
+    → RefusedFor m c σ n line × NumberOf c n
 demand-1-number m c σ n line q = let w = refused-for m c σ n line q in (w, refusal-number m c σ n line w)
 
 -- 'Scratch ends as zeros': refused or not.

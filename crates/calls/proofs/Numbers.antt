@@ -33,7 +33,7 @@ use Rattle.joined.specs.Roots.{join_roots, opposite_root}
 use Rattle.calls.specs.Load.{Load, setup_of, load_of}
 use Rattle.calls.specs.Calls.{Call, load, evaluate, example, tip, export, join, opposite, evaluate_of}
 use Rattle.calls.specs.Outcome.{Verdict, accepted, refusal, Tells, verdict_of, verdict_read, leaves}
-use Rattle.calls.specs.Refusals.{RefusalNumber, LoadRefused, lists_short, store_broken, input_long, line_refused, whole_refused, scratch_short, list_refused, nodes_refused, CarriesLine, JoinRefused, join_broken, root_bad, join_crowded, OppositeRefused, opposite_broken, opposite_bad, ExampleRefused, setting_short, example_broken, example_bad, no_setting, TipRefused, tip_broken, tip_bad, no_flip, RefusedFor}
+use Rattle.calls.specs.Refusals.{RefusalNumber, NumberOf, LoadRefused, lists_short, store_broken, input_long, line_refused, whole_refused, scratch_short, list_refused, nodes_refused, CarriesLine, JoinRefused, join_broken, root_bad, join_crowded, OppositeRefused, opposite_broken, opposite_bad, ExampleRefused, setting_short, example_broken, example_bad, no_setting, TipRefused, tip_broken, tip_bad, no_flip, RefusedFor}
 use Rattle.calls.proofs.ExampleRefusals.{example-refused-exactly}
 use Rattle.calls.proofs.TipRefusals.{tip-refused-exactly}
 use Rattle.calls.proofs.JoinRefusals.{join-refused-exactly, opposite-refused-exactly}
@@ -199,13 +199,13 @@ example-number (example_broken h w) = inl (omega arith)
 example-number (example_bad h R w) = inl (omega arith)
 example-number (no_setting h R E w) = inr (inr (omega arith))
 
-tip-number : {m : Limits} {e : ℤ} {s : List ℕ} {σ : Store} {n : ℕ} → TipRefused m e s σ n → RefusalNumber n
-tip-number (tip_broken w) = inl (omega arith)
-tip-number (tip_bad R w) = inl (omega arith)
-tip-number (no_flip R E S w) = inr (inr (omega arith))
+tip-number : {m : Limits} {e : ℤ} {s : List ℕ} {σ : Store} {n : ℕ} → TipRefused m e s σ n → RefusalNumber n ⊎ (n ≡ 42)
+tip-number (tip_broken w) = inl (inl (omega arith))
+tip-number (tip_bad R w) = inl (inl (omega arith))
+tip-number (no_flip R E S w) = inr refl
 
 -- The numbers of documents 01 and 02 are all that a call is refused with.
-pub refusal-number : (m : Limits) (c : Call) (σ : Store) (n line : ℕ) → RefusedFor m c σ n line → RefusalNumber n
+pub refusal-number : (m : Limits) (c : Call) (σ : Store) (n line : ℕ) → RefusedFor m c σ n line → NumberOf c n
 refusal-number m (load c) σ n line w = load-number c σ w
 refusal-number m (evaluate e s) σ n line w = ⊎_elim (λ z. inl (omega (arith, z))) (λ z. inl (omega (arith, z))) w.0
 refusal-number m (example e wanted long) σ n line w = example-number w.0
@@ -220,6 +220,16 @@ number-some (inl z) = z.0
 number-some (inr (inl z)) = omega (arith, z.0)
 number-some (inr (inr z)) = omega (arith, z.0)
 
+number_of-some : (c : Call) {n : ℕ} → NumberOf c n → 1 ≤ n
+number_of-some (load c) z = number-some z
+number_of-some (evaluate e s) z = number-some z
+number_of-some (example e wanted long) z = number-some z
+number_of-some (tip e s) (inl z) = number-some z
+number_of-some (tip e s) (inr z) = omega (arith, z)
+number_of-some (export x) z = number-some z
+number_of-some (join o a b) z = number-some z
+number_of-some (opposite a) z = number-some z
+
 -- So C is told 0 exactly where a call isn't refused.
 pub told-zero : (m : Limits) (c : Call) (σ : Store) (n line : ℕ) → Tells n line (leaves m c σ).verdict
     → (n ≡ 0) ↔ ((leaves m c σ).verdict ≡ accepted)
@@ -228,6 +238,6 @@ told-zero m c σ n line t = go (leaves m c σ).verdict refl t
     go : (v : Verdict) → (leaves m c σ).verdict ≡ v → Tells n line v → (n ≡ 0) ↔ (v ≡ accepted)
     go accepted q t = (λ z. refl, λ z. t.0)
     go (refusal k at) q t = (
-      λ z. absurd (omega (arith, number-some (refusal-number m c σ k at (refused-for m c σ k at q)), t.0)),
+      λ z. absurd (omega (arith, number_of-some c (refusal-number m c σ k at (refused-for m c σ k at q)), t.0)),
       λ z. not-refused (sym z),
     )

@@ -28,9 +28,19 @@ use Rattle.joined.specs.Join.{Ready}
 use Rattle.joined.specs.Room.{JoinFits}
 use Rattle.calls.specs.Calls.{Call, load, evaluate, example, tip, export, join, opposite}
 
--- the numbers of documents 01 and 02: 1 to 6, 10 to 26, and 30 to 42; 0 is none of them
+-- the numbers of documents 01 and 02: 1 to 6, 10 to 26, and 30 to 41; 0 is none of them
 abbrev pub RefusalNumber : ℕ → Type 0
-RefusalNumber n = ((1 ≤ n) × (n ≤ 6)) ⊎ (((10 ≤ n) × (n ≤ 26)) ⊎ ((30 ≤ n) × (n ≤ 42)))
+RefusalNumber n = ((1 ≤ n) × (n ≤ 6)) ⊎ (((10 ≤ n) × (n ≤ 26)) ⊎ ((30 ≤ n) × (n ≤ 41)))
+
+-- the numbers that a call may be refused with: a tipping point's are one more. Document 02, request 6: 'Errors: 42, no single flip does'
+abbrev pub NumberOf : Call → ℕ → Type 0
+NumberOf (load c) n = RefusalNumber n
+NumberOf (evaluate e s) n = RefusalNumber n
+NumberOf (example e wanted long) n = RefusalNumber n
+NumberOf (tip e s) n = RefusalNumber n ⊎ (n ≡ 42)
+NumberOf (export x) n = RefusalNumber n
+NumberOf (join o a b) n = RefusalNumber n
+NumberOf (opposite a) n = RefusalNumber n
 
 -- '4,096 entries for each variable list, 1,024 for each root list'
 pub record LongLists (l : Lengths) : Type 0 where

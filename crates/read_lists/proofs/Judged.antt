@@ -11,7 +11,6 @@ use Rattle.codes.specs.Answer.{Read, value, refused}
 use Rattle.read_lines.specs.Words.{Word, words}
 use Rattle.read_lists.specs.Lists.{Listed, listed, judged, judge, u32_of, u32_list}
 use Rattle.read_lines.specs.Each.{Each, each}
-use Rattle.read_lines.specs.Each
 use Rattle.read_numbers.specs.declared.Role.TheVariants.{Entry}
 use Rattle.read_numbers.specs.Digits.{DigitAnswers}
 use Rattle.read_numbers.specs.Digits

@@ -1,5 +1,5 @@
 -- Lists: their entries, judged from left to right.
-use Rattle.std.specs.Prelude.{ℕ, ◌+◌, ◌^◌, List, [], ◌∷◌, ◌++◌, true, false, length, ltb}
+use Rattle.std.specs.Prelude.{ℕ, ◌^◌, List, [], ◌∷◌, ◌++◌, true, false, length, ltb}
 use Rattle.codes.specs.Answer.{Read, value, refused}
 use Rattle.read_lines.specs.Words.{Word, words}
 use Rattle.read_numbers.specs.declared.Role.TheVariants.{Entry}

@@ -1,5 +1,4 @@
 -- `child_fits` meets its contract: the magnitude is the child, and what is compared last is how deep it lies.
-use borrow.Author.Rules.{rules}
 use mathlib.Core.Path.{◌≡◌, ◌∙◌}
 use mathlib.Core.List.{[]}
 use native.Mathlib.Omega.{arith}
@@ -21,7 +20,7 @@ returns-then-n-m c =
 
 pub returns-then-m-eq1 : goal.returns-then-m-eq1
 returns-then-m-eq1 c =
-    child-deep (store c.args.levels 0 c.args.level.now [] [] [] []) _ _ _ _ _ (let h : c.magnitude-m.result ≡ nat_abs c.args.e = c.magnitude-m.ensures ∙ abs-back edge_width c.args.e c.ranges.e in h) (omega arith) (omega arith) (depth-top _ _ c.if-m-eq1.true)
+    child-deep (store c.args.levels 0 c.args.level.now [] [] [] []) _ _ _ _ _ (let h : c.magnitude-m.result ≡ nat_abs c.args.e = c.magnitude-m.ensures ∙ abs-back edge_width c.args.e c.ranges.e in h) (omega arith) (omega arith) (depth-top (store c.args.levels 0 c.args.level.now [] [] [] []) _ c.if-m-eq1.true)
 
 pub returns : goal.returns
 returns c =

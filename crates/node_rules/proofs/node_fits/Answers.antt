@@ -1,6 +1,4 @@
 -- `node_fits` meets its contract: each return names what is wrong, and the last child decides the rest.
-use borrow.Author.Rules.{rules}
-use borrow.Author.Tests.{not-true, not-false}
 use mathlib.Core.Path.{◌≡◌, sym, ◌∙◌}
 use native.Mathlib.Omega.{arith}
 use Rattle.edges.specs.Width.{edge_width}

@@ -1,7 +1,6 @@
 -- `children` meets its contract: a magnitude has at most 32 bits.
 use mathlib.Core.Path.{◌∙◌}
 use native.Mathlib.Omega.{arith}
-use borrow.Author.Rules.{rules}
 use Rattle.edges.specs.Width.{edge_width}
 use Rattle.edges.proofs.Signed.{abs-back, abs-most}
 use Rattle.unique_table.proofs.children.Goals as goal

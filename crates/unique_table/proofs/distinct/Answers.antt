@@ -1,42 +1,19 @@
 -- `distinct` meets its contract: the nodes below n are in the index, and none of them is like an older one.
 use mathlib.Core.Path.{sym}
 use mathlib.Core.Bool.{true≢false}
-use Prim.Native.Nat.{◌+◌, ◌-◌}
+use Prim.Native.Nat.{◌-◌}
 use native.Mathlib.Omega.{arith}
-use borrow.Author.Rules.{rules}
-use lib.ListN.{length}
 use Rattle.edges.specs.Width.{edge_width}
 use mir.ValLaws.{to_z-of_z}
-use Rattle.store.specs.Store.{Store, slots, level_at, then_at, else_at}
+use Rattle.store.specs.Store.{slots, level_at, then_at, else_at}
 use Rattle.store.specs.Keeps.{says-yes, says-no}
 use Rattle.unique_table.specs.Index.{Sought}
-use Rattle.unique_table.proofs.Built.{Built, built-start, built-bad, built-more, built-alone, built-index}
+use Rattle.unique_table.proofs.Built.{built-start, built-bad, built-more, built-alone, built-index}
 use Rattle.unique_table.proofs.distinct.Goals as goal
-use Rattle.unique_table.proofs.distinct.Lts as lts
-use Rattle.unique_table.proofs.distinct.Tie as tie
-use Rattle.unique_table.proofs.distinct.Reads as reads
-
-abbrev Start : Type 0
-Start = lts.Start tie.the-claims reads.Pre reads.Post goal.the-invariant-loop-n goal.the-decreases-loop-n tie.handed_clauses
--- the store of the three lists
-abbrev σ : Start → Store
-σ s = slots s.args.level.now s.args.then.now s.args.els.now
-
--- what was sought is what node n holds
-sought : (c : goal.After-seek-at)
-    → let s = c in let n = c.loop-n.n in
-    Sought s.args.width (σ s.before.before.before.before.before.before.before.before) (n - 1) c.loop-n.index (level_at (σ s.before.before.before.before.before.before.before.before) n) (then_at (σ s.before.before.before.before.before.before.before.before) n) (else_at (σ s.before.before.before.before.before.before.before.before) n) c.seek-at.result
-sought c =
-    let s = c in
-    let n = c.loop-n.n in
-    rw (
-      to_z-of_z edge_width (then_at (σ s.before.before.before.before.before.before.before.before) n) (record { sfits = c.t-1.given }),
-      to_z-of_z edge_width (else_at (σ s.before.before.before.before.before.before.before.before) n) (record { sfits = c.e-1.given }),
-    ) at c.seek-at.ensures
 
 pub loop-n-init : goal.loop-n-init
 loop-n-init c =
-    let s = c in built-start _ (σ s.before.before) _ _ s.requires.index_value s.requires.le_width.0 s.requires.le_width.1 s.requires.le_width.2 s.requires.le_count.0
+    let s = c in built-start _ (slots s.args.level.now s.args.then.now s.args.els.now) _ _ s.requires.index_value s.requires.le_width.0 s.requires.le_width.1 s.requires.le_width.2 s.requires.le_count.0
 
 pub seek-at-requires-clause-indexed : goal.seek-at-requires-clause-indexed
 seek-at-requires-clause-indexed c =
@@ -52,19 +29,15 @@ seek-at-requires-clause-count_in_bounds c =
 
 pub offset_bounds-index-at : goal.offset_bounds-index-at
 offset_bounds-index-at c =
-    omega (arith, (sought c).within, c.loop-n.invariant.same, c.well-formed.0.1)
+    omega (arith, (let h : let s = c in let n = c.loop-n.n in Sought s.args.width (slots s.args.level.now s.args.then.now s.args.els.now) (n - 1) c.loop-n.index (level_at (slots s.args.level.now s.args.then.now s.args.els.now) n) (then_at (slots s.args.level.now s.args.then.now s.args.els.now) n) (else_at (slots s.args.level.now s.args.then.now s.args.els.now) n) c.seek-at.result = let s = c in let n = c.loop-n.n in rw (to_z-of_z edge_width (then_at (slots s.args.level.now s.args.then.now s.args.els.now) n) (record { sfits = c.t-1.given }), to_z-of_z edge_width (else_at (slots s.args.level.now s.args.then.now s.args.els.now) n) (record { sfits = c.e-1.given })) at c.seek-at.ensures in h).within, c.loop-n.invariant.same, c.well_formed.0.1)
 
 pub bounds-index-at : goal.bounds-index-at
 bounds-index-at c =
-    (sought c.before).within
-
-pub shape_of-index-then-index-at-ne0 : goal.shape_of-index-then-index-at-ne0
-shape_of-index-then-index-at-ne0 c =
-    c.loop-n.invariant.same
+    (let h : let s = c in let n = c.loop-n.n in Sought s.args.width (slots s.args.level.now s.args.then.now s.args.els.now) (n - 1) c.loop-n.index (level_at (slots s.args.level.now s.args.then.now s.args.els.now) n) (then_at (slots s.args.level.now s.args.then.now s.args.els.now) n) (else_at (slots s.args.level.now s.args.then.now s.args.els.now) n) c.seek-at.result = let s = c in let n = c.loop-n.n in rw (to_z-of_z edge_width (then_at (slots s.args.level.now s.args.then.now s.args.els.now) n) (record { sfits = c.t-1.given }), to_z-of_z edge_width (else_at (slots s.args.level.now s.args.then.now s.args.els.now) n) (record { sfits = c.e-1.given })) at c.seek-at.ensures in h).within
 
 pub returns-then-index-at-ne0-clause-decides : goal.returns-then-index-at-ne0-clause-decides
 returns-then-index-at-ne0-clause-decides c =
-    says-no (built-bad _ (σ c.before.before.before.before.before.before.before.before.before.before) _ _ _ _ c.loop-n.invariant c.loop-n-test.true _ (sought c.before.before) c.if-index-at-ne0.true)
+    says-no (built-bad _ (slots c.args.level.now c.args.then.now c.args.els.now) _ _ _ _ c.loop-n.invariant c.loop-n-test.true _ (let h : let s = c in let n = c.loop-n.n in Sought s.args.width (slots s.args.level.now s.args.then.now s.args.els.now) (n - 1) c.loop-n.index (level_at (slots s.args.level.now s.args.then.now s.args.els.now) n) (then_at (slots s.args.level.now s.args.then.now s.args.els.now) n) (else_at (slots s.args.level.now s.args.then.now s.args.els.now) n) c.seek-at.result = let s = c in let n = c.loop-n.n in rw (to_z-of_z edge_width (then_at (slots s.args.level.now s.args.then.now s.args.els.now) n) (record { sfits = c.t-1.given }), to_z-of_z edge_width (else_at (slots s.args.level.now s.args.then.now s.args.els.now) n) (record { sfits = c.e-1.given })) at c.seek-at.ensures in h) c.if-index-at-ne0.true)
 
 pub returns-then-index-at-ne0-clause-indexed : goal.returns-then-index-at-ne0-clause-indexed
 returns-then-index-at-ne0-clause-indexed c =
@@ -72,11 +45,11 @@ returns-then-index-at-ne0-clause-indexed c =
 
 pub offset_bounds-index-at-in-loop-n : goal.offset_bounds-index-at-in-loop-n
 offset_bounds-index-at-in-loop-n c =
-    omega (arith, (sought c.before.before).within, c.loop-n.invariant.same, c.well-formed.0.1)
+    omega (arith, (let h : let s = c in let n = c.loop-n.n in Sought s.args.width (slots s.args.level.now s.args.then.now s.args.els.now) (n - 1) c.loop-n.index (level_at (slots s.args.level.now s.args.then.now s.args.els.now) n) (then_at (slots s.args.level.now s.args.then.now s.args.els.now) n) (else_at (slots s.args.level.now s.args.then.now s.args.els.now) n) c.seek-at.result = let s = c in let n = c.loop-n.n in rw (to_z-of_z edge_width (then_at (slots s.args.level.now s.args.then.now s.args.els.now) n) (record { sfits = c.t-1.given }), to_z-of_z edge_width (else_at (slots s.args.level.now s.args.then.now s.args.els.now) n) (record { sfits = c.e-1.given })) at c.seek-at.ensures in h).within, c.loop-n.invariant.same, c.well_formed.0.1)
 
 pub bounds-index-at-in-loop-n : goal.bounds-index-at-in-loop-n
 bounds-index-at-in-loop-n c =
-    (sought c.before.before).within
+    (let h : let s = c in let n = c.loop-n.n in Sought s.args.width (slots s.args.level.now s.args.then.now s.args.els.now) (n - 1) c.loop-n.index (level_at (slots s.args.level.now s.args.then.now s.args.els.now) n) (then_at (slots s.args.level.now s.args.then.now s.args.els.now) n) (else_at (slots s.args.level.now s.args.then.now s.args.els.now) n) c.seek-at.result = let s = c in let n = c.loop-n.n in rw (to_z-of_z edge_width (then_at (slots s.args.level.now s.args.then.now s.args.els.now) n) (record { sfits = c.t-1.given }), to_z-of_z edge_width (else_at (slots s.args.level.now s.args.then.now s.args.els.now) n) (record { sfits = c.e-1.given })) at c.seek-at.ensures in h).within
 
 pub overflow_add-n : goal.overflow_add-n
 overflow_add-n c =
@@ -88,18 +61,14 @@ loop-n-smaller c =
 
 pub loop-n-preserved : goal.loop-n-preserved
 loop-n-preserved c =
-    built-more _ (σ c.before.before.before.before.before.before.before.before.before.before) _ _ _ _ c.loop-n.invariant c.loop-n-test.true _ (sought c.before.before) c.requires.le_width.2 c.if-index-at-ne0.false
-
-pub shape_of-index : goal.shape_of-index
-shape_of-index c =
-    c.loop-n.invariant.same
+    built-more _ (slots c.args.level.now c.args.then.now c.args.els.now) _ _ _ _ c.loop-n.invariant c.loop-n-test.true _ (let h : let s = c in let n = c.loop-n.n in Sought s.args.width (slots s.args.level.now s.args.then.now s.args.els.now) (n - 1) c.loop-n.index (level_at (slots s.args.level.now s.args.then.now s.args.els.now) n) (then_at (slots s.args.level.now s.args.then.now s.args.els.now) n) (else_at (slots s.args.level.now s.args.then.now s.args.els.now) n) c.seek-at.result = let s = c in let n = c.loop-n.n in rw (to_z-of_z edge_width (then_at (slots s.args.level.now s.args.then.now s.args.els.now) n) (record { sfits = c.t-1.given }), to_z-of_z edge_width (else_at (slots s.args.level.now s.args.then.now s.args.els.now) n) (record { sfits = c.e-1.given })) at c.seek-at.ensures in h) c.requires.le_width.2 c.if-index-at-ne0.false
 
 pub returns-clause-decides : goal.returns-clause-decides
 returns-clause-decides c =
     let s = c in
-    says-yes (built-alone _ (σ s.before.before.before.before) _ _ _ _ c.loop-n.invariant c.loop-n-test.false)
+    says-yes (built-alone _ (slots s.args.level.now s.args.then.now s.args.els.now) _ _ _ _ c.loop-n.invariant c.loop-n-test.false)
 
 pub returns-clause-indexed : goal.returns-clause-indexed
 returns-clause-indexed c =
     let s = c in
-    λ q. built-index _ (σ s.before.before.before.before) _ _ _ _ c.loop-n.invariant c.loop-n-test.false
+    λ q. built-index _ (slots s.args.level.now s.args.then.now s.args.els.now) _ _ _ _ c.loop-n.invariant c.loop-n-test.false

@@ -1,16 +1,8 @@
 -- `distinct` meets its contract: the nodes below n are in the index, and none of them is like an older one.
-use mathlib.Core.Path.{sym}
-use mathlib.Core.Bool.{true≢false}
 use Prim.Native.Nat.{◌+◌, ◌-◌}
-use native.Mathlib.Omega.{arith}
-use borrow.Author.Rules.{rules}
 use lib.ListN.{length}
-use Rattle.edges.specs.Width.{edge_width}
-use mir.ValLaws.{to_z-of_z}
-use Rattle.store.specs.Store.{Store, slots, level_at, then_at, else_at}
-use Rattle.store.specs.Keeps.{says-yes, says-no}
-use Rattle.unique_table.specs.Index.{Sought}
-use Rattle.unique_table.proofs.Built.{Built, built-start, built-bad, built-more, built-alone, built-index}
+use Rattle.store.specs.Store.{slots}
+use Rattle.unique_table.proofs.Built.{Built}
 use Rattle.unique_table.proofs.distinct.Given as goal
 
 abbrev pub invariant-loop-n : goal.invariant-loop-n

@@ -1,7 +1,6 @@
 -- `key_part` meets its contract.
 use mathlib.Core.Path.{ap, ◌∙◌}
 use Prim.Native.Nat.{◌%◌, ◌^◌}
-use borrow.Author.Rules.{rules}
 use Rattle.edges.specs.Width.{edge_width}
 use mir.ValLaws.{to_z-of_z}
 use Rattle.unique_table.specs.Index.{key_part}

@@ -1,6 +1,5 @@
 -- `mix` meets its contract: its sums are the mix's.
 use mathlib.Core.Path.{ap, ◌∙◌}
-use borrow.Author.Rules.{rules}
 use Rattle.edges.specs.Width.{edge_width}
 use mir.ValLaws.{to_z-of_z}
 use Rattle.unique_table.specs.Index.{key_part}

@@ -1,5 +1,4 @@
 -- `width_for` meets its contract.
-use borrow.Author.Rules.{rules}
 use Rattle.unique_table.proofs.Widths.{width-none, width-left, width_four}
 use Rattle.unique_table.proofs.width_for.Goals as goal
 

@@ -19,18 +19,18 @@ use Rattle.store.proofs.Meaning.{depth-node}
 use Rattle.joined.specs.Join.{through, child, side, top}
 use Rattle.join_steps.specs.declared.Sides.{Sides}
 use Rattle.join_steps.specs.Slots.{BothSides, SplitAsks, SplitPromise}
-use Rattle.join_steps.proofs.Tests.{read_back_lem, read_back_lem, through-kept}
+use Rattle.join_steps.proofs.Tests.{read_back, read_back-is, through-kept}
 
 -- the number of a node, as it is read
-pub number_is : (a : ℤ) → SFits edge_width a → {n : ℕ} → n ≡ nat_abs (read_back_lem a) → n ≡ nat_abs a
+pub number_is : (a : ℤ) → SFits edge_width a → {n : ℕ} → n ≡ nat_abs (read_back a) → n ≡ nat_abs a
 number_is a f p = p ∙ abs-back edge_width a f
 
 -- A slot's edge, as it is read back.
 slot_read : (l : List ℤ) (a : ℤ) → IsEdge (get_or l (nat_abs a - 1) (pos 0)) → (n : ℕ) → n ≡ nat_abs a
-    → read_back_lem (get_or l (n - 1) (pos 0)) ≡ get_or l (nat_abs a - 1) (pos 0)
-slot_read l a L n p = rw p (read_back_lem (get_or l (nat_abs a - 1) (pos 0)) L)
+    → read_back (get_or l (n - 1) (pos 0)) ≡ get_or l (nat_abs a - 1) (pos 0)
+slot_read l a L n p = rw p (read_back-is (get_or l (nat_abs a - 1) (pos 0)) L)
 
-pub slot-edge : (l : List ℤ) (a : ℤ) → IsEdge (get_or l (nat_abs a - 1) (pos 0)) → (n : ℕ) → n ≡ nat_abs a → IsEdge (read_back_lem (get_or l (n - 1) (pos 0)))
+pub slot-edge : (l : List ℤ) (a : ℤ) → IsEdge (get_or l (nat_abs a - 1) (pos 0)) → (n : ℕ) → n ≡ nat_abs a → IsEdge (read_back (get_or l (n - 1) (pos 0)))
 slot-edge l a L n p = rw (slot_read l a L n p) L
 
 -- A side is a number of the width, so it is read as it was given.
@@ -45,15 +45,15 @@ module _ (l : List ℤ) (here : Bool) (a : ℤ) (f : SFits edge_width a) (L : Is
   seen-edge : IsEdge seen
   seen-edge = through-kept a (get_or l (nat_abs a - 1) (pos 0)) L
 
-  side-back : (v : ℤ) → v ≡ cond here seen a → read_back_lem v ≡ cond here seen a
+  side-back : (v : ℤ) → v ≡ cond here seen a → read_back v ≡ cond here seen a
   side-back v q = rw q (to_z-of_z edge_width (cond here seen a) (picked here seen a (edge-fits edge_width seen seen-edge) f))
 
   -- a side from what the code read of the slot, and saw through the edge
-  pub side-read : (n : ℕ) → n ≡ nat_abs a → (x v : ℤ) → x ≡ through (read_back_lem a) (read_back_lem (get_or l (n - 1) (pos 0)))
-      → v ≡ cond here (read_back_lem x) (read_back_lem a) → read_back_lem v ≡ cond here seen a
+  pub side-read : (n : ℕ) → n ≡ nat_abs a → (x v : ℤ) → x ≡ through (read_back a) (read_back (get_or l (n - 1) (pos 0)))
+      → v ≡ cond here (read_back x) (read_back a) → read_back v ≡ cond here seen a
   side-read n p x v X Y =
       let Z : x ≡ seen = X ∙ ap₂ through (to_z-of_z edge_width a f) (slot_read l a L n p) in
-      side-back v (Y ∙ ap₂ (λ (y z : ℤ). cond here y z) (ap read_back_lem Z ∙ read_back_lem seen seen-edge) (to_z-of_z edge_width a f))
+      side-back v (Y ∙ ap₂ (λ (y z : ℤ). cond here y z) (ap read_back Z ∙ read_back-is seen seen-edge) (to_z-of_z edge_width a f))
 
 -- Which of two edges lies at the smaller of their levels.
 here-left : (x y : ℕ) → eqb x (cond (ltb x y) x y) ≡ leb x y
@@ -79,7 +79,7 @@ module _ (level : List ℕ) (then els : List ℤ) (a b : ℤ) (f : SFits edge_wi
   abbrev σ : Store
   σ = slots level then els
 
-  module _ (Q : SplitAsks σ a b) (x y : ℕ) (X : x ≡ level_at (slots level [] []) (nat_abs (read_back_lem a))) (Y : y ≡ level_at (slots level [] []) (nat_abs (read_back_lem b))) where
+  module _ (Q : SplitAsks σ a b) (x y : ℕ) (X : x ≡ level_at (slots level [] []) (nat_abs (read_back a))) (Y : y ≡ level_at (slots level [] []) (nat_abs (read_back b))) where
     left-lies : depth σ (nat_abs a) ≡ x
     left-lies = depth-node σ (nat_abs a) Q.left_deep ∙ sym (X ∙ ap (level_at σ) (abs-back edge_width a f))
 
@@ -98,7 +98,7 @@ module _ (level : List ℕ) (then els : List ℤ) (a b : ℤ) (f : SFits edge_wi
     unfolding side
     right_side w = rw (right-lies, top-is, here-right x y)
 
-    module _ (p q : Sides) (P : BothSides then els (leb x y) (read_back_lem a) p) (R : BothSides then els (leb y x) (read_back_lem b) q) where
+    module _ (p q : Sides) (P : BothSides then els (leb x y) (read_back a) p) (R : BothSides then els (leb y x) (read_back b) q) where
       left-read : BothSides then els (leb x y) a p
       left-read = rw (to_z-of_z edge_width a f) at P
 
@@ -108,8 +108,8 @@ module _ (level : List ℕ) (then els : List ℤ) (a b : ℤ) (f : SFits edge_wi
       pub split-read : (l : ℕ) → l ≡ cond (ltb x y) x y
           → SplitPromise σ a b (record {
             level = l;
-            then = record { left = read_back_lem p.then; right = read_back_lem q.then };
-            els = record { left = read_back_lem p.els; right = read_back_lem q.els };
+            then = record { left = read_back p.then; right = read_back q.then };
+            els = record { left = read_back p.els; right = read_back q.els };
           })
       split-read l L = record {
         level = L ∙ sym top-is;

@@ -3,9 +3,14 @@
 #![tactic(auto)]
 
 ghost use Rattle.std.specs.Prelude.{◌+◌, ◌≤◌, ◌≡◌, length};
-ghost use Rattle.io.specs.Counts.{IsPrefixLen};
 ghost use Rattle.replay.specs.Numbers.{two_at, four_at, eight_at};
 ghost use Rattle.replay.specs.Counting.{one_more, of_comparison, no_cases, tallied};
+ghost use Rattle.replay.specs.Reading.{IsPrefixLen};
+
+use std::env::FillError;
+use std::fs;
+use std::io::Read;
+use std::rt::{Env, Files};
 
 // What came of one case, or why there is none.
 #[derive(Clone, Copy)]
@@ -61,12 +66,42 @@ pub fn eight(s: &[u8], at: usize) -> u64
     four(s, at) + 4294967296 * four(s, at + 4)
 }
 
-// Reads n bytes to the start of buf, and gives how many it read: fewer where the file ends before, none where buf is too short.
-pub fn fetch(fd: i32, buf: &mut [u8], n: usize) -> usize
+// Room for the name of a file, and 65,536 zeros. The `ensures` give only the lengths: a function that has such an array for a local of its
+// own takes seconds to check.
+fn name_room() -> [u8; 4096]
+    ensures { 4096 ≡ length result }
+{
+    [0; 4096]
+}
+
+pub fn large_buffer() -> [u8; 65536]
+    ensures { 65536 ≡ length result }
+{
+    [0; 65536]
+}
+
+// Reads until buf is full, the file ends or a read fails, and gives how many bytes it put at the start of buf.
+pub fn read_full<R: Read>(file: &mut R, buf: &mut [u8]) -> usize
     ensures { IsPrefixLen result buf.new }
 {
+    let mut done = 0;
+    while done < buf.len() {
+        let got = file.read(&mut buf[done..]).unwrap_or(0);
+        if got == 0 {
+            break;
+        }
+        done += got;
+    }
+    done
+}
+
+// Reads n bytes to the start of buf, and gives how many it read: fewer where the file ends before, none where buf is too short.
+pub fn fetch<R: Read>(file: &mut R, buf: &mut [u8], n: usize) -> usize
+    ensures within { IsPrefixLen result buf.new }
+    ensures upper_bound { result ≤ n }
+{
     if n <= buf.len() {
-        return io::read_full(fd, &mut buf[..n]);
+        return read_full(file, &mut buf[..n]);
     }
     0
 }
@@ -136,32 +171,53 @@ impl Tally {
     }
 }
 
-// A number, and what is to be said before and after it.
-fn print_count(before: &[u8], n: u64, after: &[u8]) {
-    io::write_all(1, before);
-    io::print_decimal(1, n);
-    io::write_all(1, after);
+// A number, and what is to be said before and after it. Output that fails is passed over, here and below: there is nowhere to say so.
+fn print_count(rt: &impl Print, before: &str, n: u64, after: &str) {
+    let _ = print!(rt; "{before}{n}{after}");
 }
 
-// Opens the file that an argument names, and says its name. Where it can't be opened it says so, and gives a negative number.
-pub fn open(argument: usize) -> i32 {
-    let mut name = io::buffer();
-    let n = os::arg(argument, &mut name);
-    io::write_all(1, &name[..n]);
-    let fd = os::open_read(&name[..n]);
-    if fd < 0 {
-        io::write_all(1, b": can't be opened\n");
+// How many arguments the program has, its own name among them. With no room, only an argument that isn't there isn't too long.
+pub fn arg_count(rt: &impl Env) -> usize {
+    for i in 0..usize::MAX {
+        if let Err(FillError::NotPresent) = rt.arg(i, &mut []) {
+            return i;
+        }
     }
-    fd
+    usize::MAX
+}
+
+// The length of an argument that is put at the start of a list; 0 where it isn't there, or doesn't fit.
+fn argument_name(rt: &impl Env, argument: usize, name: &mut [u8]) -> usize
+    ensures { IsPrefixLen result name.new }
+{
+    rt.arg(argument, name).unwrap_or(0)
+}
+
+// The file of a name, to be read. A name that isn't text names none.
+fn open_read<R: Files>(rt: &R, name: &[u8]) -> Option<R::File> {
+    let text = str::from_utf8(name).ok()?;
+    fs::open(rt, text).ok()
+}
+
+// Opens the file that an argument names, and says its name. Where it can't be opened it says so, and gives none.
+pub fn open<R: Env + Files + Print>(rt: &R, argument: usize) -> Option<R::File> {
+    let mut name = name_room();
+    let n = argument_name(rt, argument, &mut name);
+    let _ = rt.write_all(&name[..n]);
+    let file = open_read(rt, &name[..n]);
+    if file.is_none() {
+        let _ = rt.write_all(b": can't be opened\n");
+    }
+    file
 }
 
 // Closes a file, and says how many cases it has and how many differ.
-pub fn close(fd: i32, t: Tally) {
-    libc::close(fd);
+pub fn close<F: Drop>(rt: &impl Print, file: F, t: Tally) {
+    drop(file);
     if t.whole {
-        print_count(b": ", t.cases, b" cases, ");
-        print_count(b"", t.differ, b" differ\n");
+        print_count(rt, ": ", t.cases, " cases, ");
+        print_count(rt, "", t.differ, " differ\n");
     } else {
-        print_count(b": cut off after ", t.cases, b" cases\n");
+        print_count(rt, ": cut off after ", t.cases, " cases\n");
     }
 }

@@ -3,6 +3,7 @@ ghost use Rattle.std.specs.Prelude.{◌≡◌, length};
 
 use crate::lists;
 use replay::Outcome;
+use std::fs::File;
 
 // Room for the longest file of a case, and for the longest answer.
 const ROOM: usize = 130000;
@@ -15,11 +16,11 @@ pub fn room() -> [u8; ROOM]
 }
 
 // What follows a head. A case whose head asks for more bytes than the file has left, or than there is room for, isn't whole.
-fn after_head(fd: i32, head: &[u8; 27], f: &mut [u8], stored: &mut [u8]) -> Outcome {
+fn after_head(file: &mut File, head: &[u8; 27], f: &mut [u8], stored: &mut [u8]) -> Outcome {
     let n = replay::four(head, 19) as usize;
     let m = replay::four(head, 23) as usize;
-    let a = replay::fetch(fd, f, n);
-    let b = replay::fetch(fd, stored, m);
+    let a = replay::fetch(file, f, n);
+    let b = replay::fetch(file, stored, m);
     if a == n && b == m {
         replay::compared(lists::agrees(head, &f[..a], &stored[..b]))
     } else {
@@ -28,14 +29,14 @@ fn after_head(fd: i32, head: &[u8; 27], f: &mut [u8], stored: &mut [u8]) -> Outc
 }
 
 // The next case. The two lists are room for its file and for its answer.
-pub fn one(fd: i32, f: &mut [u8], stored: &mut [u8]) -> Outcome {
+pub fn one(file: &mut File, f: &mut [u8], stored: &mut [u8]) -> Outcome {
     let mut head = [0u8; 27];
-    let got = io::read_full(fd, &mut head);
+    let got = replay::read_full(file, &mut head);
     if got == 0 {
         return Outcome::NoMore;
     }
     if got < 27 {
         return Outcome::Cut;
     }
-    after_head(fd, &head, f, stored)
+    after_head(file, &head, f, stored)
 }

@@ -14,6 +14,7 @@ mod texts;
 ghost use Rattle.std.specs.Prelude.{◌≡◌, length};
 
 use replay::{Outcome, Tally};
+use std::fs::File;
 
 // Room for the longest answer.
 const ROOM: usize = 70000;
@@ -26,13 +27,13 @@ fn room() -> [u8; ROOM]
 }
 
 // What follows a head. A case whose head asks for more bytes than the file has left, or than there is room for, isn't whole.
-fn after_head(fd: i32, head: &[u8; 21]) -> Outcome {
+fn after_head(file: &mut File, head: &[u8; 21]) -> Outcome {
     let n = case::field(head, 13);
     let m = case::field(head, 17);
-    let mut input = io::large_buffer();
+    let mut input = replay::large_buffer();
     let mut stored = room();
-    let a = replay::fetch(fd, &mut input, n);
-    let b = replay::fetch(fd, &mut stored, m);
+    let a = replay::fetch(file, &mut input, n);
+    let b = replay::fetch(file, &mut stored, m);
     if a == n && b == m {
         replay::compared(case::agrees(head, &input[..a], &stored[..b]))
     } else {
@@ -40,40 +41,40 @@ fn after_head(fd: i32, head: &[u8; 21]) -> Outcome {
     }
 }
 
-fn one(fd: i32) -> Outcome {
+fn one(file: &mut File) -> Outcome {
     let mut head = [0u8; 21];
-    let got = io::read_full(fd, &mut head);
+    let got = replay::read_full(file, &mut head);
     if got == 0 {
         return Outcome::NoMore;
     }
     if got < 21 {
         return Outcome::Cut;
     }
-    after_head(fd, &head)
+    after_head(file, &head)
 }
 
-fn run(fd: i32) -> Tally {
+fn run(file: &mut File) -> Tally {
     let mut t = Tally::new();
     let mut left = replay::MOST;
     while left > 0 && !t.ended {
-        t = t.after(one(fd));
+        t = t.after(one(file));
         left -= 1;
     }
     t
 }
 
-fn run_argument(i: usize) {
-    let fd = replay::open(i);
-    if fd >= 0 {
-        replay::close(fd, run(fd));
+fn run_argument(rt: &HostRuntime, i: usize) {
+    if let Some(mut file) = replay::open(rt, i) {
+        let t = run(&mut file);
+        replay::close(rt, file, t);
     }
 }
 
-fn main() {
-    let end = os::arg_count();
+fn main(rt: HostRuntime) {
+    let end = replay::arg_count(&rt);
     let mut i = 1;
     while i < end {
-        run_argument(i);
+        run_argument(&rt, i);
         i += 1;
     }
 }

@@ -5,6 +5,7 @@ use crate::change;
 use edges::{Edge, Index};
 use evaluation::Evaluation;
 use replay::Outcome;
+use std::fs::File;
 
 // The number of two bytes at a position of a case's head.
 fn field(head: &[u8; 23], at: usize) -> u16
@@ -183,11 +184,11 @@ fn with_then(head: &[u8; 23], lists: &[u16], setting: &[u8]) -> bool {
 }
 
 // What follows a head. A case whose head says more than the file has left, or than there is room for, isn't whole.
-fn after_head(fd: i32, head: &[u8; 23], lists: &mut [u16]) -> Outcome {
-    let mut setting = io::large_buffer();
+fn after_head(file: &mut File, head: &[u8; 23], lists: &mut [u16]) -> Outcome {
+    let mut setting = replay::large_buffer();
     let n = length(head, 17);
-    if change::change(fd, field(head, 19), lists) {
-        let got = replay::fetch(fd, &mut setting, n);
+    if change::change(file, field(head, 19), lists) {
+        let got = replay::fetch(file, &mut setting, n);
         if got == n {
             return replay::compared(with_then(head, lists, &setting[..got]));
         }
@@ -196,14 +197,14 @@ fn after_head(fd: i32, head: &[u8; 23], lists: &mut [u16]) -> Outcome {
 }
 
 // The next case. `lists` is the store of the case before.
-pub fn one(fd: i32, lists: &mut [u16]) -> Outcome {
+pub fn one(file: &mut File, lists: &mut [u16]) -> Outcome {
     let mut head = [0u8; 23];
-    let got = io::read_full(fd, &mut head);
+    let got = replay::read_full(file, &mut head);
     if got == 0 {
         return Outcome::NoMore;
     }
     if got < 23 {
         return Outcome::Cut;
     }
-    after_head(fd, &head, lists)
+    after_head(file, &head, lists)
 }

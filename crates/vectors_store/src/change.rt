@@ -3,6 +3,7 @@
 ghost use Rattle.std.specs.Prelude.{◌≤◌, ◌≡◌, length};
 
 use edges::{Edge, Index};
+use std::fs::File;
 
 pub const SLOTS: usize = 32800;
 
@@ -87,23 +88,23 @@ fn put_from(bytes: &[u8], list: &mut [u16], start: usize) -> bool {
 }
 
 // A stretch is where it starts, in three bytes, how many numbers it has, in two, and these. False where the file ends before.
-fn stretch(fd: i32, list: &mut [u16]) -> bool {
+fn stretch(file: &mut File, list: &mut [u16]) -> bool {
     let mut head = [0u8; 5];
-    if io::read_full(fd, &mut head) < 5 {
+    if replay::read_full(file, &mut head) < 5 {
         return false;
     }
     let start = replay::two(&head, 0) as usize + 65536 * wide(head[2]);
     let n = 2 * replay::two(&head, 3) as usize;
     let mut bytes = no_bytes();
-    let got = replay::fetch(fd, &mut bytes, n);
+    let got = replay::fetch(file, &mut bytes, n);
     got == n && put_from(&bytes[..got], list, start)
 }
 
 // Makes as many changes.
-pub fn change(fd: i32, stretches: u16, list: &mut [u16]) -> bool {
+pub fn change(file: &mut File, stretches: u16, list: &mut [u16]) -> bool {
     let mut left = stretches;
     while left > 0 {
-        if !stretch(fd, list) {
+        if !stretch(file, list) {
             return false;
         }
         left -= 1;

@@ -1,8 +1,8 @@
 # make recode FILE=PATH
 #               builds the program `recode` and runs it on a file: the file again, as text of version 2.0, or one line `refused N line M`
 # make test     the gate: proves, tries the must-fail edits, runs every test; its last line is 'N passed, 0 failed'
-# make costs    what the last run of the gate cost: the seconds of each crate and of its must-fail edits
-# make lib      proves the crate firmware, and puts the library for C and its header file into build/
+# make costs    when the last run of the gate had proved each crate, and how many must-fail edits it tried
+# make lib      proves the crate firmware_c and those below it, and puts the library for C and its header file into build/
 # make round    builds an example in C over that library: build/round, which evaluates a round
 # make join     builds another: build/join, which joins two plans
 # make walk     builds another: build/walk, which gives example rounds for a plan
@@ -20,8 +20,7 @@ CFLAGS = -std=c99 -O2 -Wall -Wextra -pedantic
 
 recode:
 	@test -n "$(FILE)" || { echo 'usage: make recode FILE=PATH' >&2; exit 2; }
-	@rt check recode >&2
-	@target/bin/recode < "$(FILE)"
+	@(cd crates/recode && exec rt run) < "$(FILE)"
 
 test:
 	@tests/gate
@@ -30,9 +29,9 @@ costs:
 	@tests/costs
 
 lib:
-	@rt staticlib firmware
+	@cd crates/firmware_c && rt lib
 	@mkdir -p build
-	@cp target/staticlib/libfirmware.a build/libzonetweed.a
+	@cp crates/firmware_c/out/libfirmware_c.a build/libzonetweed.a
 	@cp include/zonetweed.h build/zonetweed.h
 
 round: lib
@@ -62,4 +61,4 @@ differences:
 	@python3 tests/differences/rust.py "$(ORACLE)"
 
 clean:
-	rm -rf target build
+	rm -rf build crates/*/out

@@ -1,5 +1,5 @@
 # Writes what Rattle files export to C, in the lines that header.awk writes of the header file. The files are read in this order: those with
-# the aliases, then those with the structs and the functions. Only a struct marked #[repr(C)] and a function marked #[no_mangle] count.
+# the aliases, then those with the structs and the functions. Only a struct marked #[repr(C)] and a function marked #[unsafe(no_mangle)] count.
 
 BEGIN {
     width["u8"] = "uint8_t"; width["u16"] = "uint16_t"; width["u32"] = "uint32_t"; width["u64"] = "uint64_t"; width["usize"] = "size_t"
@@ -48,7 +48,8 @@ function parameter(name, type,    constant) {
 }
 
 /^#\[repr\(C\)\]$/ { repr = 1; next }
-/^#\[no_mangle\]$/ { exported = 1; next }
+/^#\[derive\(.*\)\]$/ { next }
+/^#\[unsafe\(no_mangle\)\]$/ { exported = 1; next }
 
 /^pub struct / && repr { of = struct_name($3); within = "struct"; n = 0; print "struct " of; repr = 0; next }
 

@@ -1,5 +1,5 @@
-// The public calls for C: `include/zonetweed.h` declares and explains them. A slice is a pointer and then a length. The names have the version of
-// the interface, which rises with each change of a width or of a parameter: a program that was compiled for another version doesn't link.
+// The public calls for C, as a library: `firmware_c` exports them under these names, with the same clauses, and `include/zonetweed.h` declares and
+// explains them.
 #![tactic(auto)]
 
 ghost use Rattle.codes.specs.Lent.{borrowed, seen};
@@ -14,8 +14,7 @@ use joined::Op;
 use old_stores::{OldEdge, OldIndex};
 
 // Loads a file into the store.
-#[unsafe(no_mangle)]
-pub extern "C" fn zt2_load(
+pub fn zt2_load(
     file: &[u8],
     list: &[u16],
     levels: u16,
@@ -48,8 +47,7 @@ pub extern "C" fn zt2_load(
 }
 
 // What an edge of the store answers at a setting.
-#[unsafe(no_mangle)]
-pub extern "C" fn zt2_evaluate(
+pub fn zt2_evaluate(
     levels: u16,
     count: Index,
     level: &[u16],
@@ -69,8 +67,7 @@ pub extern "C" fn zt2_evaluate(
 }
 
 // The first setting at which an edge of the store answers as wanted.
-#[unsafe(no_mangle)]
-pub extern "C" fn zt2_example(
+pub fn zt2_example(
     levels: u16,
     count: Index,
     level: &[u16],
@@ -101,8 +98,7 @@ pub extern "C" fn zt2_example(
 }
 
 // The lowest level whose flip alone turns an edge's answer at a setting over.
-#[unsafe(no_mangle)]
-pub extern "C" fn zt2_tip(
+pub fn zt2_tip(
     levels: u16,
     count: Index,
     level: &[u16],
@@ -122,8 +118,7 @@ pub extern "C" fn zt2_tip(
 }
 
 // Exports the diagrams of roots of the store.
-#[unsafe(no_mangle)]
-pub extern "C" fn zt2_export(
+pub fn zt2_export(
     version: u8,
     text: u8,
     ddstart: u32,
@@ -158,8 +153,7 @@ pub extern "C" fn zt2_export(
 }
 
 // The root of the and of two roots of the store.
-#[unsafe(no_mangle)]
-pub extern "C" fn zt2_and(
+pub fn zt2_and(
     levels: u16,
     count: &mut Index,
     level: &mut [u16],
@@ -191,8 +185,7 @@ pub extern "C" fn zt2_and(
 }
 
 // The root of the or of two roots of the store.
-#[unsafe(no_mangle)]
-pub extern "C" fn zt2_or(
+pub fn zt2_or(
     levels: u16,
     count: &mut Index,
     level: &mut [u16],
@@ -224,8 +217,7 @@ pub extern "C" fn zt2_or(
 }
 
 // The root of the exclusive or of two roots of the store.
-#[unsafe(no_mangle)]
-pub extern "C" fn zt2_xor(
+pub fn zt2_xor(
     levels: u16,
     count: &mut Index,
     level: &mut [u16],
@@ -257,8 +249,7 @@ pub extern "C" fn zt2_xor(
 }
 
 // The opposite of a root of the store.
-#[unsafe(no_mangle)]
-pub extern "C" fn zt2_not(
+pub fn zt2_not(
     levels: u16,
     count: Index,
     level: &[u16],
@@ -277,8 +268,7 @@ pub extern "C" fn zt2_not(
 }
 
 // Turns an old store into a new one.
-#[unsafe(no_mangle)]
-pub extern "C" fn zt2_widen(
+pub fn zt2_widen(
     levels: u16,
     old_count: OldIndex,
     old_level: &[u16],

@@ -1,6 +1,5 @@
 -- `is_whitespace` meets its contract: each test is one part of the definition.
 use mathlib.Core.Path.{sym, ◌∙◌}
-use borrow.Author.Rules.{rules}
 use Rattle.codes.specs.Bytes.{is_whitespace}
 use Rattle.codes.proofs.is_whitespace.Goals as goal
 

@@ -1,5 +1,5 @@
 -- `bucket` meets its contract: eight adds that wrap are one sum that wraps.
-use Rattle.std.proofs.Common.{◌^◌, w32, rules}
+use Rattle.std.proofs.Common.{◌^◌, w32}
 use Rattle.edges.proofs.Wrapping.{wrap-sum, bucket-rest}
 use Rattle.edges.proofs.bucket.Goals as goal
 

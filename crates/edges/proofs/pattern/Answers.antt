@@ -1,5 +1,5 @@
 -- `pattern` meets its contract: an edge raised by where the sum wraps has no minus, and its rest is what it adds.
-use Rattle.std.proofs.Common.{◌^◌, ◌<◌, ℤ, nat_abs, ap, ◌∙◌, arith, w32, w64, to_z, of_z, rules}
+use Rattle.std.proofs.Common.{◌^◌, ◌<◌, ℤ, nat_abs, ap, ◌∙◌, arith, w32, w64, to_z, of_z}
 use mir.ValLaws.{to_z-of_z}
 use Rattle.edges.specs.Edge.{bits}
 use Rattle.edges.proofs.Signed.{edge-fits, abs-most, raise-fits, raise-cast, raise-rest}

@@ -1,6 +1,5 @@
 -- `plus` meets its contract: a division tells whether the multiple is within what is left, before the multiple is made.
 use native.Mathlib.Omega.{arith}
-use borrow.Author.Rules.{rules}
 use Rattle.export_size.proofs.Sums.{held-within, has_room, room-added, no-room-added, over-added}
 use Rattle.export_size.proofs.plus.Goals as goal
 

@@ -1,9 +1,6 @@
 -- `plus_all` meets its contract. The invariant: the total and the lengths from i on give the whole sum. The measure is what is left of the lengths.
-use Prim.Native.Nat.{◌-◌}
 use native.Mathlib.Omega.{arith}
-use borrow.Author.Rules.{rules}
-use Rattle.export_size.proofs.Sums.{Adding, adding-start, adding-more, adding-end}
-use lib.ListN.{length}
+use Rattle.export_size.proofs.Sums.{adding-start, adding-more, adding-end}
 use Rattle.export_size.proofs.plus_all.Goals as goal
 
 pub loop-i-init : goal.loop-i-init

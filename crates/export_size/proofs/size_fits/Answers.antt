@@ -1,7 +1,6 @@
 -- `size_fits` meets its contract: the parts of the size are added one after the other.
 use mathlib.Core.Path.{◌≡◌}
 use Prim.Native.Nat.{ℕ}
-use borrow.Author.Rules.{rules}
 use Rattle.export_size.specs.Size.{export_size, limited}
 use Rattle.export_size.proofs.Sums.{size-limited, within-fits, over-fits}
 use Rattle.export_size.proofs.size_fits.Goals as goal
@@ -11,6 +10,7 @@ use Rattle.export_size.proofs.size_fits.Reads as reads
 
 abbrev After-plus : Type 0
 After-plus = lts.After-plus5 tie.the-claims reads.Pre reads.Post tie.handed_clauses
+
 abbrev size : After-plus → ℕ
 size c =
     let a = c.args in

@@ -1,7 +1,6 @@
 -- `edge_of` meets its contract: a root within the limit of nodes has the same value as an edge.
 use mathlib.Core.Path.{sym}
 use native.Mathlib.Omega.{arith}
-use borrow.Author.Rules.{rules}
 use mir.Syntax.{w64}
 use Rattle.edges.specs.Width.{edge_width}
 use Rattle.file_roots.proofs.RootEdges.{cast-none, cast_fits, cast_is}

@@ -1,13 +1,7 @@
 -- `edges_of` meets its contract. The invariant: the roots before i lie in the lent list, as edges. The measure is what is left of the length.
 use Prim.Native.Nat.{◌-◌}
-use native.Mathlib.Omega.{arith}
-use borrow.Author.Rules.{rules}
-use lib.ListN.{length, get_or}
-use mathlib.Core.Logic.{⊎_elim}
-use mir.Syntax.{w64}
-use Rattle.edges.specs.Width.{edge_width}
-use lib.IntN.{pos}
-use Rattle.file_roots.proofs.RootEdges.{Edged, edged-start, edged-more, edged-past, edged-length, edged-end, edge-read}
+use lib.ListN.{length}
+use Rattle.file_roots.proofs.RootEdges.{Edged}
 use Rattle.file_roots.proofs.edges_of.Given as goal
 
 abbrev pub invariant-loop-i : goal.invariant-loop-i

@@ -6,11 +6,11 @@ use mir.Syntax.{w64}
 use Rattle.edges.proofs.Signed.{negation-fits, negation-cast, negation-abs, plain-cast, abs-back, least-abs, not_least}
 use Rattle.file_roots.proofs.magnitude.Goals as goal
 use Rattle.file_roots.proofs.magnitude.Lts as lts
-use Rattle.file_roots.proofs.magnitude.Tie as tie
 use Rattle.file_roots.proofs.magnitude.Reads as reads
 
 abbrev Else-r-eqminus9223372036854775808 : Type 0
 Else-r-eqminus9223372036854775808 = lts.Else1 reads.Pre reads.Post
+
 pub returns-then-r-eqminus9223372036854775808 : goal.returns-then-r-eqminus9223372036854775808
 returns-then-r-eqminus9223372036854775808 c =
     least-abs w64 c.args.r c.ranges.r c.if-r-eqminus9223372036854775808.true

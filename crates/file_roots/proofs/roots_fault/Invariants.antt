@@ -1,14 +1,9 @@
 -- `roots_fault` meets its contract. The invariant: the roots before i have no fault, so that the others decide. The measure is what is left
 -- of the length.
-use mathlib.Core.Path.{◌≡◌, refl, sym, ◌∙◌}
+use mathlib.Core.Path.{◌≡◌}
 use Prim.Native.Nat.{◌-◌}
-use borrow.Author.Rules.{rules}
-use lib.ListN.{length, get_or, drop}
-use mir.Syntax.{w64}
-use lib.IntN.{nat_abs, pos}
-use Rattle.edges.proofs.Signed.{abs-back}
+use lib.ListN.{length, drop}
 use Rattle.file_roots.specs.Roots.{roots_fault}
-use Rattle.file_roots.proofs.RootEdges.{faults-end, faults-zero, faults-over, faults-more}
 use Rattle.file_roots.proofs.roots_fault.Given as goal
 
 abbrev pub invariant-loop-i : goal.invariant-loop-i

@@ -2,9 +2,6 @@ use mathlib.Core.Path.{sym}
 use Prim.Native.Nat.{◌-◌}
 use native.Mathlib.Omega.{arith}
 use Rattle.node_lines.proofs.Depth.{deeper-terminal, deeper-seat, deeper-beyond, deeper-past}
-use borrow.Author.Rules.{rules}
-use Rattle.node_lines.proofs.deeper.Reads as reads
-use Rattle.node_lines.proofs.deeper.Lts as lts
 use Rattle.node_lines.proofs.deeper.Goals as goal
 
 -- src/lib.rt:23:9

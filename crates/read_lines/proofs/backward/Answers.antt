@@ -1,9 +1,7 @@
 -- `backward` meets its contract: what is left to trim gives what the whole does.
-use mathlib.Core.Path.{◌≡◌, refl, sym, ◌∙◌}
-use Prim.Native.Nat.{◌-◌, ◌≤◌}
+use mathlib.Core.Path.{refl, sym, ◌∙◌}
 use native.Mathlib.Omega.{arith}
 use borrow.Author.Rules.{rules}
-use Rattle.read_lines.specs.Line.{is_of, trim}
 use Rattle.read_lines.proofs.Searches.{trim-past, trim-found, trim_end}
 use Rattle.read_lines.proofs.backward.Goals as goal
 

@@ -1,6 +1,5 @@
 -- `field_of` meets its contract: the three searches are those of `field_of`.
 use native.Mathlib.Omega.{arith}
-use borrow.Author.Rules.{rules}
 use Rattle.read_lines.proofs.Searches.{field-parts}
 use Rattle.read_lines.proofs.field_of.Goals as goal
 
@@ -11,8 +10,8 @@ returns-clause-value c =
 pub returns-clause-field_within : goal.returns-clause-field_within
 returns-clause-field_within c =
     record {
-    key_after = omega arith;
-    key_before = omega arith;
-    start_before = omega arith;
-    end_before = omega arith;
-  }
+      key_after = omega arith;
+      key_before = omega arith;
+      start_before = omega arith;
+      end_before = omega arith;
+    }

@@ -1,9 +1,7 @@
 -- `forward` meets its contract: what is left to search gives what the whole search gives.
-use mathlib.Core.Path.{◌≡◌, refl, sym, ◌∙◌}
-use Prim.Native.Nat.{◌-◌, ◌≤◌}
+use mathlib.Core.Path.{refl, sym, ◌∙◌}
 use native.Mathlib.Omega.{arith}
 use borrow.Author.Rules.{rules}
-use Rattle.read_lines.specs.Line.{is_of, seek}
 use Rattle.read_lines.proofs.Searches.{seek_found, seek-past, seek-end}
 use Rattle.read_lines.proofs.forward.Goals as goal
 

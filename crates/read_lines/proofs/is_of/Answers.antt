@@ -1,6 +1,5 @@
 -- `is_of` meets its contract: each arm of the match is one clause of `is_of`.
 use mathlib.Core.Path.{ap}
-use borrow.Author.Rules.{rules}
 use mathlib.Core.Bool.{not}
 use Rattle.read_lines.specs.Line.{is_of}
 use Rattle.read_lines.proofs.is_of.Goals as goal

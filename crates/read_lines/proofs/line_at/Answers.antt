@@ -1,6 +1,5 @@
 -- `line_at` meets its contract: the two searches are those of `line_of`.
 use native.Mathlib.Omega.{arith}
-use borrow.Author.Rules.{rules}
 use Rattle.read_lines.proofs.Searches.{line-ended, line-last}
 use Rattle.read_lines.proofs.line_at.Goals as goal
 
@@ -11,11 +10,11 @@ returns-then-feed-f-clause-value c =
 pub returns-then-feed-f-clause-line_within : goal.returns-then-feed-f-clause-line_within
 returns-then-feed-f-clause-line_within c =
     record {
-    end_after = omega arith;
-    end_before = omega arith;
-    next_before = omega arith;
-    next_after = λ h. omega arith;
-  }
+      end_after = omega arith;
+      end_before = omega arith;
+      next_before = omega arith;
+      next_after = λ h. omega arith;
+    }
 
 pub returns-else-feed-f-clause-value : goal.returns-else-feed-f-clause-value
 returns-else-feed-f-clause-value c =
@@ -24,8 +23,8 @@ returns-else-feed-f-clause-value c =
 pub returns-else-feed-f-clause-line_within : goal.returns-else-feed-f-clause-line_within
 returns-else-feed-f-clause-line_within c =
     record {
-    end_after = omega arith;
-    end_before = omega arith;
-    next_before = omega arith;
-    next_after = λ h. omega arith;
-  }
+      end_after = omega arith;
+      end_before = omega arith;
+      next_before = omega arith;
+      next_after = λ h. omega arith;
+    }

@@ -1,5 +1,4 @@
 -- `foreign` meets its contract: each arm of the match is one clause of `foreign`.
-use borrow.Author.Rules.{rules}
 use borrow.Author.Tests.{eq-eqb, ne_eqb}
 use Rattle.read_numbers.proofs.foreign.Goals as goal
 

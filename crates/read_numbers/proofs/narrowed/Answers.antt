@@ -1,5 +1,4 @@
 -- `narrowed` meets its contract: a value that fits is the same at 32 bits.
-use borrow.Author.Rules.{rules}
 use Rattle.read_numbers.proofs.Number.{fits-32}
 use Rattle.read_numbers.proofs.narrowed.Goals as goal
 

@@ -1,14 +1,9 @@
 -- `parse_digits` meets its contract: the digits that are left, after the value so far, give what the whole word gives.
-use mathlib.Core.Path.{◌≡◌, sym, ◌∙◌}
-use Prim.Native.Nat.{◌+◌, ◌-◌, ◌≤◌}
+use mathlib.Core.Path.{sym, ◌∙◌}
 use native.Mathlib.Omega.{arith}
 use borrow.Author.Rules.{rules}
-use lib.ListN.{length, drop}
-use Rattle.codes.specs.Machine.{run}
-use Rattle.codes.specs.Answer as num
 use Rattle.codes.proofs.Machine.{run-go, run-stop, run_end}
 use Rattle.codes.proofs.Bytes.{digit-bounds}
-use Rattle.read_numbers.specs.Number.{digit, number}
 use Rattle.read_numbers.proofs.Number.{digit-more, digit-over, digit-foreign, number-starts}
 use Rattle.read_numbers.proofs.parse_digits.Goals as goal
 

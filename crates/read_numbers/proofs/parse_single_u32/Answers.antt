@@ -1,6 +1,5 @@
 -- `parse_single_u32` meets its contract: no byte is 14, else the digits decide, and a value below 2 ^ 32 is narrowed.
 use mathlib.Core.Path.{sym, ◌∙◌}
-use borrow.Author.Rules.{rules}
 use Rattle.read_numbers.proofs.Number.{single-none, single-some, number-fits-32}
 use Rattle.read_numbers.proofs.parse_single_u32.Goals as goal
 

@@ -1,6 +1,5 @@
 -- `parse_single_u64` meets its contract: no byte is 14, else the digits decide.
 use mathlib.Core.Path.{sym, ◌∙◌}
-use borrow.Author.Rules.{rules}
 use Rattle.read_numbers.proofs.Number.{single-none, single-some}
 use Rattle.read_numbers.proofs.parse_single_u64.Goals as goal
 

@@ -1,6 +1,5 @@
 -- `parse_u32` meets its contract: the two searches find the first word, whose number is read.
 use mathlib.Core.Path.{sym, ap, ◌∙◌}
-use borrow.Author.Rules.{rules}
 use Rattle.read_numbers.specs.Number.{ends_at}
 use Rattle.read_numbers.proofs.Words.{first_word}
 use Rattle.read_numbers.proofs.parse_u32.Goals as goal

@@ -1,9 +1,8 @@
 -- `drop_node` meets its contract: its stores are those of `dropped`.
-use borrow.Author.Rules.{rules}
 use native.Mathlib.Omega.{arith}
 use Rattle.edges.specs.Width.{edge_width}
 use mir.ValLaws.{to_z-of_z}
-use Rattle.store.specs.Store.{Store, store, then_at, else_at}
+use Rattle.store.specs.Store.{store, then_at, else_at}
 use Rattle.store.proofs.Chain.{bucket-under}
 use Rattle.slots.proofs.Placed.{slot-cleared}
 use Rattle.slots.proofs.drop_node.Goals as goal

@@ -1,5 +1,4 @@
 -- `edge_to` meets its contract: the number of a node fits an edge.
-use borrow.Author.Rules.{rules}
 use lib.IntN.{pos}
 use Rattle.edges.specs.Width.{edge_width}
 use Rattle.edges.proofs.Signed.{edge-back}

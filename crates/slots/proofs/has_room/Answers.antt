@@ -1,8 +1,7 @@
 -- `has_room` meets its contract: the number of the next node is at most the count of slots and at most the limit.
 use mathlib.Core.List.{[]}
 use native.Mathlib.Omega.{arith}
-use borrow.Author.Rules.{rules}
-use Rattle.store.specs.Store.{Store, store}
+use Rattle.store.specs.Store.{store}
 use Rattle.codes.specs.Limits.{limits}
 use Rattle.slots.proofs.Placed.{no_slot, no_number, a-slot}
 use Rattle.slots.proofs.has_room.Goals as goal

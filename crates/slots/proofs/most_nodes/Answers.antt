@@ -1,5 +1,4 @@
 -- `most_nodes` meets its contract.
-use borrow.Author.Rules.{rules}
 use Rattle.slots.proofs.MostNodes.{most-slots, most-limit}
 use Rattle.slots.proofs.most_nodes.Goals as goal
 

@@ -1,9 +1,8 @@
 -- `put_node` meets its contract: its stores are those of `added`.
-use borrow.Author.Rules.{rules}
 use native.Mathlib.Omega.{arith}
 use Rattle.edges.specs.Width.{edge_width}
 use mir.ValLaws.{to_z-of_z}
-use Rattle.store.specs.Store.{Store, store}
+use Rattle.store.specs.Store.{store}
 use Rattle.store.proofs.Chain.{bucket-under}
 use Rattle.slots.proofs.Placed.{slot-filled}
 use Rattle.slots.proofs.put_node.Goals as goal

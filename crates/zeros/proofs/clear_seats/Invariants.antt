@@ -1,8 +1,7 @@
 -- `clear_seats` meets its contract. The invariant: the entries before i are zeros. The measure is what is left of the length.
 use Prim.Native.Nat.{◌-◌}
-use borrow.Author.Rules.{rules}
 use lib.ListN.{length}
-use Rattle.zeros.proofs.Cleared.{Cleared, cleared-start, cleared_more, cleared-end}
+use Rattle.zeros.proofs.Cleared.{Cleared}
 use Rattle.zeros.proofs.clear_seats.Given as goal
 
 abbrev pub invariant-loop-i : goal.invariant-loop-i

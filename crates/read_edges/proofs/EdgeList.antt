@@ -15,7 +15,6 @@ use Rattle.codes.specs.Answer.{Read, value, refused}
 use Rattle.codes.specs.Lent.{laid}
 use Rattle.read_lines.specs.Words.{Word, words}
 use Rattle.read_lines.specs.Each.{Each, each}
-use Rattle.read_lines.specs.Each
 use Rattle.read_lines.specs.Spaced.{Text}
 use Rattle.read_lines.proofs.Spaced.{words-texts}
 use Rattle.read_numbers.specs.declared.Role.TheVariants.{Magnitude}

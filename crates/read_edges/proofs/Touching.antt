@@ -15,7 +15,6 @@ use Rattle.read_lines.proofs.Spaced.{words-spaced}
 use Rattle.read_numbers.specs.Digits.{Digits}
 use Rattle.read_edges.specs.Edges.{edge_list, Pair, pair_of, children}
 use Rattle.read_edges.specs.Entries.{behind, Signed, Entries, more, Touching, end, other, minus}
-use Rattle.read_edges.specs.Entries
 use Rattle.read_edges.proofs.Entries.{digit-no-minus}
 use Rattle.read_edges.proofs.EdgeList.{edge-values-exact}
 

@@ -1,5 +1,5 @@
 -- Laws of the seats of a list's entries.
-use mathlib.Core.Path.{◌≡◌, refl, ap, ◌∙◌}
+use mathlib.Core.Path.{◌≡◌, refl, sym, ap, ◌∙◌}
 use mathlib.Core.Bool.{true, cond}
 use mathlib.Core.List.{List, [], ◌∷◌, ◌++◌}
 use Prim.Native.Nat.{ℕ, zero, suc, ◌+◌, ◌-◌, ◌≤◌, ◌<◌}
@@ -25,7 +25,7 @@ seat-found x (y ∷ l) h = go (ℕ_discrete x y) (seat-found x l)
     later (suc s) k f = let e : suc (suc s) - 1 ≡ suc (suc s - 1) = omega arith in rw e (f (omega arith))
 
     go : Dec (x ≡ y) → (1 ≤ seat_of x l → get_or l (seat_of x l - 1) 0 ≡ x) → get_or (y ∷ l) (seat_of x (y ∷ l) - 1) 0 ≡ x
-    go (yes e) f = rw (e, seat-here y l)
+    go (yes e) f = ap (λ (s : ℕ). get_or (y ∷ l) (s - 1) 0) (ap (λ (z : ℕ). seat_of z (y ∷ l)) e ∙ seat-here y l) ∙ sym e
     go (no e) f = rw (seat-there x y l e) (later (seat_of x l) (rw (seat-there x y l e) at h) f)
 
 -- where no entry stands twice, the seat of an entry is its own position, counted from 1
@@ -50,7 +50,7 @@ seat-last x (y ∷ l) h = go (ℕ_discrete x y) (seat-last x l)
     none (suc s) e = absurd (omega arith)
 
     go : Dec (x ≡ y) → (seat_of x l ≡ 0 → seat_of x (l ++ (x ∷ [])) ≡ suc (length l)) → seat_of x (y ∷ (l ++ (x ∷ []))) ≡ suc (suc (length l))
-    go (yes e) f = absurd (omega (arith, rw (e, seat-here y l) at h))
+    go (yes e) f = absurd (omega (arith, ap (λ (s : ℕ). seat_of s (y ∷ l)) e, seat-here y l, h))
     go (no e) f = seat-there x y (l ++ (x ∷ [])) e ∙ ap further (f (none (seat_of x l) (rw (seat-there x y l e) at h)))
 
 -- another number at the end leaves a seat as it was

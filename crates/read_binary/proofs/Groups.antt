@@ -44,7 +44,7 @@ module _ {f : List ℕ} {at : ℕ} where
   unfolding value_from
   going_on g none none s = g
   going_on {v} g (byte {b = b} {bs = bs} e h) (more z k) s =
-      let l = value_grows 128 (v * 128 + b / 2) (map group bs) (omega arith) in going_on (going_more g e (omega arith) (λ y. omega arith)) h k s
+      let l = value_grows 128 (v * 128 + b / 2) (map group bs) (omega arith) in going_on {v = v * 128 + b / 2} (going_more g e (omega arith) (λ y. omega arith)) h k s
 
   leads-going : {bs : List ℕ} {i : ℕ} → LeadingGroups f at bs i → Going f at (groups_number bs) i
   unfolding value_of

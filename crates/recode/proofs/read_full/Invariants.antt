@@ -1,0 +1,9 @@
+-- `read_full` puts no more bytes than the list has, and each turn puts some.
+use Rattle.std.proofs.Common.{length, ◌-◌, ◌≤◌}
+use Rattle.recode.proofs.read_full.Given as goal
+
+abbrev pub invariant-loop-done : goal.invariant-loop-done
+invariant-loop-done g l = l.done ≤ length l.buf
+
+abbrev pub decreases-loop-done : goal.decreases-loop-done
+decreases-loop-done g l = length l.initial.buf - l.done

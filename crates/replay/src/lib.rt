@@ -2,7 +2,8 @@
 // after the other, each a head of fixed length and what the head says that follows.
 #![tactic(auto)]
 
-ghost use Rattle.std.specs.Prelude.{◌+◌, ◌≤◌, ◌≡◌, length};
+ghost use Rattle.std.specs.Prelude.{◌+◌, ◌≤◌, ◌≡◌, length, take};
+ghost use Rattle.std.specs.Io.KnownBytes.{Consumes};
 ghost use Rattle.replay.specs.Numbers.{two_at, four_at, eight_at};
 ghost use Rattle.replay.specs.Counting.{one_more, of_comparison, no_cases, tallied};
 ghost use Rattle.replay.specs.Reading.{IsPrefixLen};
@@ -80,17 +81,29 @@ pub fn large_buffer() -> [u8; 65536]
     [0; 65536]
 }
 
-// Reads until buf is full, the file ends or a read fails, and gives how many bytes it put at the start of buf.
+// Reads once, and gives how many bytes it put at the start of buf: a read that fails gives none, as at the end of the file.
+fn read_some<R: Read>(file: &mut R, buf: &mut [u8]) -> usize
+    ensures within { IsPrefixLen result buf.new }
+    ensures bytes { Consumes (R.remaining file.old) (R.remaining file.new) (take result buf.new) }
+{
+    match file.read(buf) {
+        Ok(n) => n,
+        Err(_) => 0,
+    }
+}
+
+// Reads until buf is full, the file ends or a read fails, and gives how many bytes it put at the start of buf: they are the next of the file.
 pub fn read_full<R: Read>(file: &mut R, buf: &mut [u8]) -> usize
-    ensures { IsPrefixLen result buf.new }
+    ensures within { IsPrefixLen result buf.new }
+    ensures bytes { Consumes (R.remaining file.old) (R.remaining file.new) (take result buf.new) }
 {
     let mut done = 0;
     while done < buf.len() {
-        let got = file.read(&mut buf[done..]).unwrap_or(0);
+        let got = read_some(file, &mut buf[done..]);
+        done += got;
         if got == 0 {
             break;
         }
-        done += got;
     }
     done
 }
@@ -99,6 +112,7 @@ pub fn read_full<R: Read>(file: &mut R, buf: &mut [u8]) -> usize
 pub fn fetch<R: Read>(file: &mut R, buf: &mut [u8], n: usize) -> usize
     ensures within { IsPrefixLen result buf.new }
     ensures upper_bound { result ≤ n }
+    ensures bytes { Consumes (R.remaining file.old) (R.remaining file.new) (take result buf.new) }
 {
     if n <= buf.len() {
         return read_full(file, &mut buf[..n]);

@@ -1,0 +1,11 @@
+-- `put_number` meets its contract: a space, and the number after it.
+use mathlib.Core.List.{[], ◌∷◌}
+use Rattle.writers.specs.Decimal.{decimal}
+use Rattle.writers.proofs.Sets.{wrote_then}
+use Rattle.node_writers.proofs.text.put_number.Goals as goal
+
+pub returns : goal.returns
+returns c =
+    let s = c in
+    wrote_then s.args.out.now s.args.at (0x20 ∷ []) (decimal s.args.n) c.put_byte-next.ensures
+    c.put_decimal.ensures

@@ -1,0 +1,8 @@
+-- `eval_root` meets its contract: with no minus so far the walk gives the edge's own answer.
+use Rattle.evaluation.proofs.Walk.{root-under}
+use Rattle.evaluation.proofs.eval_root.Goals as goal
+
+pub returns : goal.returns
+returns c =
+    let s = c in
+    root-under s.args.e s.requires c.eval_edge.ensures

@@ -1,9 +1,6 @@
 -- `copy_edges` meets its contract. The invariant: the entries before i are copied, and zeros follow.
-use mathlib.Core.Path.{◌∙◌}
-use Prim.Native.Nat.{◌-◌}
-use borrow.Author.Rules.{rules}
 use lib.IntN.{pos}
-use Rattle.old_stores.proofs.Copying.{Copied, copied-start, copied_more, copied-end, edge-copied}
+use Rattle.old_stores.proofs.Copying.{copied-start, copied_more, copied-end, edge-copied}
 use Rattle.old_stores.proofs.copy_edges.Goals as goal
 
 pub loop-i-init : goal.loop-i-init
@@ -15,10 +12,6 @@ loop-i-preserved c =
     let s = c in
     copied_more c.loop-i.invariant c.loop-i-test.true s.requires.0 (pos 0)
     (edge-copied _ (record { sfits = c.e-1.given }) c.wide_edge.ensures)
-
-pub shape_of-to : goal.shape_of-to
-shape_of-to c =
-    c.loop-i.invariant.long ∙ c.clear_edges.auto.edges
 
 pub returns : goal.returns
 returns c =

@@ -1,9 +1,6 @@
 -- `copy_edges` meets its contract. The invariant: the entries before i are copied, and zeros follow.
-use mathlib.Core.Path.{◌∙◌}
 use Prim.Native.Nat.{◌-◌}
-use borrow.Author.Rules.{rules}
-use lib.IntN.{pos}
-use Rattle.old_stores.proofs.Copying.{Copied, copied-start, copied_more, copied-end, edge-copied}
+use Rattle.old_stores.proofs.Copying.{Copied}
 use Rattle.old_stores.proofs.copy_edges.Given as goal
 
 abbrev pub invariant-loop-i : goal.invariant-loop-i

@@ -1,8 +1,6 @@
 -- `copy_levels` meets its contract. The invariant: the entries before i are copied, and zeros follow.
-use mathlib.Core.Path.{refl, ◌∙◌}
-use Prim.Native.Nat.{◌-◌}
-use borrow.Author.Rules.{rules}
-use Rattle.old_stores.proofs.Copying.{Copied, copied-start, copied_more, copied-end}
+use mathlib.Core.Path.{refl}
+use Rattle.old_stores.proofs.Copying.{copied-start, copied_more, copied-end}
 use Rattle.old_stores.proofs.copy_levels.Goals as goal
 
 pub loop-i-init : goal.loop-i-init
@@ -13,10 +11,6 @@ pub loop-i-preserved : goal.loop-i-preserved
 loop-i-preserved c =
     let s = c in
     copied_more c.loop-i.invariant c.loop-i-test.true s.requires.0 0 refl
-
-pub shape_of-to : goal.shape_of-to
-shape_of-to c =
-    c.loop-i.invariant.long ∙ c.clear_seats.auto.seats
 
 pub returns : goal.returns
 returns c =

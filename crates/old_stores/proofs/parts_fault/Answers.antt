@@ -1,7 +1,5 @@
 -- `parts_fault` meets its contract: each return names what is wrong, and the last one has none.
 use mathlib.Core.Path.{sym, ◌∙◌}
-use borrow.Author.Rules.{rules}
-use borrow.Author.Tests.{not-true, not-false}
 use Rattle.old_stores.proofs.Judging.{judged-short, judged-broken, judged-none, zeros-slots, slots-zeros}
 use Rattle.old_stores.proofs.parts_fault.Goals as goal
 

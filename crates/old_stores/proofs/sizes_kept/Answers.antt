@@ -38,12 +38,12 @@ returns-then-deepest-gt-VAR_LIMIT c =
 pub returns : goal.returns
 returns c =
     says-yes (record {
-  then_long = omega arith;
-  els_long = omega arith;
-  next_long = omega arith;
-  count_some = omega arith;
-  count_slots = omega arith;
-  count_limit = omega arith;
-  heads_long = omega arith;
-  levels_limit = omega arith;
-})
+      then_long = omega arith;
+      els_long = omega arith;
+      next_long = omega arith;
+      count_some = omega arith;
+      count_slots = omega arith;
+      count_limit = omega arith;
+      heads_long = omega arith;
+      levels_limit = omega arith;
+    })

@@ -1,7 +1,6 @@
 -- `slot_zero` meets its contract: a slot is zero where its four entries are.
 use mathlib.Core.Path.{ap, ◌∙◌}
 use Prim.Native.Nat.{◌-◌}
-use borrow.Author.Rules.{rules}
 use lib.ListN.{get_or}
 use lib.IntN.{pos}
 use mir.Syntax.{w16}

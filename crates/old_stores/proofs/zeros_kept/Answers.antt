@@ -1,10 +1,6 @@
 -- `zeros_kept` meets its contract: slot 1 is zero, and the answer so far is that of the unused slots up to the one looked at.
-use borrow.Author.Rules.{rules}
-use borrow.Author.Tests.{not-true, not-false}
-use Prim.Native.Nat.{◌-◌}
 use native.Mathlib.Omega.{arith}
-use lib.ListN.{length}
-use Rattle.rules.proofs.Zeros.{Looked, look-start, look-first, look-more, look-bad, look-end}
+use Rattle.rules.proofs.Zeros.{look-start, look-first, look-more, look-bad, look-end}
 use Rattle.old_stores.proofs.zeros_kept.Goals as goal
 
 pub returns-then-not-slot_zero : goal.returns-then-not-slot_zero

@@ -1,10 +1,7 @@
 -- `zeros_kept` meets its contract: slot 1 is zero, and the answer so far is that of the unused slots up to the one looked at.
-use borrow.Author.Rules.{rules}
-use borrow.Author.Tests.{not-true, not-false}
 use Prim.Native.Nat.{◌-◌}
-use native.Mathlib.Omega.{arith}
 use lib.ListN.{length}
-use Rattle.rules.proofs.Zeros.{Looked, look-start, look-first, look-more, look-bad, look-end}
+use Rattle.rules.proofs.Zeros.{Looked}
 use Rattle.old_stores.proofs.zeros_kept.Given as goal
 
 abbrev pub invariant-loop-used : goal.invariant-loop-used

@@ -81,10 +81,12 @@ found-more : {p : List Bool → Bool} {n : ℕ} {a b : Read (List Bool)} → Fin
 found-more {p} {n} (found {s = s} f) g = found (record { long = ap suc f.long; holds = f.holds; least = least })
   where
     least : (t : List Bool) → length t ≡ suc n → Before t (false ∷ s) → p t ≡ false
+    least [] l b = elim b [ ]
     least (c ∷ t) l (later b) = f.least t (omega arith) b
 found-more {p} {n} (lacks h) (found {s = s} f) = found (record { long = ap suc f.long; holds = f.holds; least = least })
   where
     least : (t : List Bool) → length t ≡ suc n → Before t (true ∷ s) → p t ≡ false
+    least [] l b = elim b [ ]
     least (c ∷ t) l here = h t (omega arith)
     least (c ∷ t) l (later b) = f.least t (omega arith) b
 found-more {p} {n} (lacks h) (lacks g) = lacks none

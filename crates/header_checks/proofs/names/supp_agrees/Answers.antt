@@ -1,0 +1,29 @@
+use Prim.Native.Nat.{◌-◌}
+use lib.ListN.{length}
+use borrow.Author.Rules.{rules}
+use Rattle.variable_names.specs.Names.{places}
+use Rattle.header_checks.specs.Names.{up_from}
+use Rattle.header_checks.proofs.Agreeing.{places-long, first-missing, second-missing, both-given}
+use Rattle.header_checks.proofs.names.supp_agrees.Goals as goal
+
+pub returns-then-starts-eq0 : goal.returns-then-starts-eq0
+returns-then-starts-eq0 c =
+    record {
+      answer = first-missing c.args.f.now (places c.args.starts.now c.args.lens.now)
+          c.args.index.now (places c.args.starts2.now c.args.lens2.now) (up_from (length c.args.index.now) 0) (places-long _ _ c.requires.lens_len) c.if-starts-eq0.true;
+    }
+
+pub returns-then-starts2-eq0 : goal.returns-then-starts2-eq0
+returns-then-starts2-eq0 c =
+    record {
+      answer = second-missing c.args.f.now (places c.args.starts.now c.args.lens.now) c.args.index.now (places c.args.starts2.now c.args.lens2.now) (up_from (length c.args.index.now) 0)
+          (places-long _ _ c.requires.lens_len) c.if-starts-eq0.false (places-long _ _ c.requires.lens2_len) c.if-starts2-eq0.true;
+    }
+
+pub returns : goal.returns
+returns c =
+    record {
+      answer = both-given c.args.f.now (places c.args.starts.now c.args.lens.now) c.args.index.now
+          (places c.args.starts2.now c.args.lens2.now) (up_from (length c.args.index.now) 0) (places-long _ _ c.requires.lens_len)
+          c.if-starts-eq0.false (places-long _ _ c.requires.lens2_len) c.if-starts2-eq0.false c.same_in_order.ensures.answer;
+    }

@@ -1,0 +1,16 @@
+-- `same_names` meets its contract. The invariant: the first i names are alike, and the rest decides.
+use Prim.Native.Nat.{◌-◌}
+use native.Mathlib.Omega.{arith}
+use borrow.Author.Tests.{not-true, not-false}
+use borrow.Author.Rules.{rules}
+use lib.ListN.{length}
+use Rattle.variable_names.proofs.Alike.{NamesLeft, names-start, names_more, names-unlike, names-end}
+use Rattle.variable_names.proofs.same_names.Given as goal
+
+abbrev pub invariant-loop-i : goal.invariant-loop-i
+invariant-loop-i l =
+    NamesLeft l.f l.index l.starts l.lens l.index2 l.starts2 l.lens2 l.i
+
+abbrev pub decreases-loop-i : goal.decreases-loop-i
+decreases-loop-i l =
+    length l.index - l.i

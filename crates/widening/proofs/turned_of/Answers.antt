@@ -1,5 +1,4 @@
 -- `turned_of` meets its contract: a refusal is the answer.
-use borrow.Author.Rules.{rules}
 use Rattle.widening.proofs.Faults.{refusal-answered}
 use Rattle.widening.proofs.turned_of.Goals as goal
 

@@ -10,33 +10,9 @@ copy_store-requires c =
     let w = copied-there _ _ _ h.parts_fault-found.ensures h.unless_refused.ensures h.unless_refused-2.ensures in
     record { level_there = w.0.0; then_there = w.0.1; els_there = w.1.0; next_there = w.1.1.0; heads_there = w.1.1.1 }
 
-pub shape_of-level : goal.shape_of-level
-shape_of-level c =
-    c.clear_refused.auto.level ∙ c.copy_store.auto.level
-
-pub shape_of-then : goal.shape_of-then
-shape_of-then c =
-    c.clear_refused.auto.then ∙ c.copy_store.auto.then
-
-pub shape_of-els : goal.shape_of-els
-shape_of-els c =
-    c.clear_refused.auto.els ∙ c.copy_store.auto.els
-
-pub shape_of-next : goal.shape_of-next
-shape_of-next c =
-    c.clear_refused.auto.next ∙ c.copy_store.auto.next
-
-pub shape_of-heads : goal.shape_of-heads
-shape_of-heads c =
-    c.clear_refused.auto.heads ∙ c.copy_store.auto.heads
-
-pub shape_of-work : goal.shape_of-work
-shape_of-work c =
-    c.copy_fault-fault.auto.work
-
 pub returns : goal.returns
 returns c =
-    let h = (c.before.before.before.before.before.before) in
+    let h = c in
     let J = h.parts_fault-found.ensures in
     let n = h.unless_refused.ensures in
     let k = h.unless_refused-2.ensures in

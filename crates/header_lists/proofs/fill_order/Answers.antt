@@ -1,0 +1,33 @@
+use mathlib.Core.Path.{◌≡◌, ◌∙◌}
+use Prim.Native.Nat.{◌-◌}
+use native.Mathlib.Omega.{arith}
+use lib.ListN.{length, take}
+use borrow.Author.Rules.{rules}
+use lib.ListN.{length-take}
+use Rattle.header_lists.proofs.Filling.{permids_few, order-laid}
+use Rattle.header_lists.proofs.fill_order.Goals as goal
+
+pub slice_bounds-arrange-end-2 : goal.slice_bounds-arrange-end-2
+slice_bounds-arrange-end-2 c =
+    omega (
+      arith,
+      length-take c.u32_in-n.result c.args.seats.now,
+      c.u32_in-n.ensures,
+      c.requires.ends_in_bounds,
+    )
+
+pub arrange-requires : goal.arrange-requires
+arrange-requires c =
+    permids_few _ _ c.requires.ids_listed
+
+pub returns : goal.returns
+returns c =
+    let v : length (take c.u32_in-n.result c.args.seats.now) ≡ c.u32_in-n.result = omega (
+      arith,
+      length-take c.u32_in-n.result c.args.seats.now,
+      c.u32_in-n.ensures,
+      c.requires.ends_in_bounds,
+    ) in
+    record {
+      list = order-laid _ _ (v ∙ c.u32_in-n.ensures) c.requires.ids_listed _ (length c.args.dst.now) c.clear_numbers.ensures c.arrange.ensures.list;
+    }

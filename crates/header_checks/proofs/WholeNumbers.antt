@@ -60,9 +60,9 @@ module _ (m : Limits) (f : List ℕ) (t : List Span) where
       (first-in Whole _ _ (given-in (nvars_in f t) (length (varnames_in f t)))
       (none_in Whole (inl refl))))
 
-  names_in : Whole (first_fault (name_faults f t))
+  names-in : Whole (first_fault (name_faults f t))
   unfolding name_faults
-  names_in =
+  names-in =
       first-in Whole _ _ (unless-in Whole (inl refl) {n = 24} (inr (omega arith)) (varnames_agree f t))
       (first-in Whole _ _ (unless-in Whole (inl refl) {n = 24} (inr (omega arith)) (supp_by_varnames f t))
       (first-in Whole _ _ (unless-in Whole (inl refl) {n = 24} (inr (omega arith)) (supp_by_ordered f t))
@@ -83,4 +83,4 @@ module _ (m : Limits) (f : List ℕ) (t : List Span) where
       subst Whole e
       (front-in Whole (number_faults m (nvars_in f t) (nnodes_in f t) (nsuppvars_in f t)) _ (numbers-in m (nvars_in f t) (nnodes_in f t) (nsuppvars_in f t))
       (front-in Whole (support_faults f t) _ support-in
-      (front-in Whole (name_count_faults f t) _ name-counts-in (front-in Whole (name_faults f t) _ names_in root-lists-in))))
+      (front-in Whole (name_count_faults f t) _ name-counts-in (front-in Whole (name_faults f t) _ names-in root-lists-in))))

@@ -12,9 +12,9 @@ pub example-text : head_text example_heading ≡ example_head_text
 unfolding minus seat_of digits decimal edge_text spaced lines_text ids_from permids_of variables_from chosen_names named_lines intro_lines count_lines id_lines root_lines head_lines head_text
 example-text = refl
 
-pub other_text_lem : head_text other ≡ other_text_lem
+pub other-text : head_text other ≡ other_text_lem
 unfolding minus seat_of digits decimal edge_text spaced lines_text ids_from permids_of variables_from chosen_names named_lines intro_lines count_lines id_lines root_lines head_lines head_text
-other_text_lem = refl
+other-text = refl
 
 pub bare-text : head_text bare_heading ≡ bare_text
 unfolding minus seat_of digits decimal edge_text spaced lines_text ids_from permids_of variables_from chosen_names named_lines intro_lines count_lines id_lines root_lines head_lines head_text

@@ -31,10 +31,15 @@ in-before x k [] h = refl
 in-before x k (zero ∷ seats) h = in-before x (k + 1) seats (omega arith)
 in-before x k (suc s ∷ seats) h = in-there x k (seated_from (k + 1) seats) (λ e. omega arith) ∙ in-before x (k + 1) seats (omega arith)
 
+-- nothing is in a list of none
+in-none : (x : ℕ) → is_in x [] ≡ false
+unfolding seat_of
+in-none x = refl
+
 -- a level is found where its entry isn't 0
 in-from : (k i : ℕ) (seats : List ℕ) → is_in (k + i) (seated_from k seats) ≡ not (eqb (get_or seats i 0) 0)
-unfolding seated_from seat_of
-in-from k i [] = refl
+unfolding seated_from
+in-from k i [] = in-none (k + i)
 in-from k zero (zero ∷ seats) = in-before (k + 0) (k + 1) seats (omega arith)
 in-from k (suc i) (zero ∷ seats) =
     let e : k + suc i ≡ k + 1 + i = omega arith in

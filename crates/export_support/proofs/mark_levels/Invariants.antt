@@ -1,11 +1,8 @@
 -- `mark_levels` meets its contract. The invariant: the levels of the nodes from position i on are marked. The measure is i.
 use mathlib.Core.List.{[]}
-use Prim.Native.Nat.{◌-◌}
-use native.Mathlib.Omega.{arith}
-use borrow.Author.Rules.{rules}
 use lib.ListN.{length}
 use Rattle.store.specs.Store.{store}
-use Rattle.export_support.proofs.LevelSeats.{Marking, marking-start, marking-inner, marking-terminal, marking-end}
+use Rattle.export_support.proofs.LevelSeats.{Marking}
 use Rattle.export_support.proofs.mark_levels.Given as goal
 
 abbrev pub invariant-loop-i : goal.invariant-loop-i

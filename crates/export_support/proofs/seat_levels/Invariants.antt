@@ -1,13 +1,9 @@
 -- `seat_levels` meets its contract. The invariant: the levels below l have their seats. The measure is what is left of the levels.
-use mathlib.Core.Path.{refl, ◌∙◌}
-use mathlib.Core.Logic.{⊎_elim}
 use mathlib.Core.List.{[]}
-use Prim.Native.Nat.{◌-◌, ◌<◌}
-use native.Mathlib.Omega.{arith}
-use borrow.Author.Rules.{rules}
+use Prim.Native.Nat.{◌-◌}
 use lib.ListN.{length}
 use Rattle.store.specs.Store.{store}
-use Rattle.export_support.proofs.LevelSeats.{Counting, counting-start, counting-one, counting-none, counting-most, counting-end}
+use Rattle.export_support.proofs.LevelSeats.{Counting}
 use Rattle.export_support.proofs.seat_levels.Given as goal
 
 abbrev pub invariant-loop-l : goal.invariant-loop-l

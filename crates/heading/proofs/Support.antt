@@ -14,6 +14,7 @@ use Rattle.seats.specs.Ordered.{ascending}
 use Rattle.support.specs.Support.{last_below, ids_fit}
 use Rattle.seats.proofs.Seating.{seat-here, seat-there}
 use Rattle.reached.specs.Meet.{is_in}
+use Rattle.reached.proofs.Members.{in-none}
 use Rattle.heading.specs.Tables.{seated_from, seated_levels}
 
 -- after another number one is in a list where it was
@@ -30,11 +31,6 @@ unfolding seated_from seat_of
 in-before x k [] h = refl
 in-before x k (zero ∷ seats) h = in-before x (k + 1) seats (omega arith)
 in-before x k (suc s ∷ seats) h = in-there x k (seated_from (k + 1) seats) (λ e. omega arith) ∙ in-before x (k + 1) seats (omega arith)
-
--- nothing is in a list of none
-in-none : (x : ℕ) → is_in x [] ≡ false
-unfolding seat_of
-in-none x = refl
 
 -- a level is found where its entry isn't 0
 in-from : (k i : ℕ) (seats : List ℕ) → is_in (k + i) (seated_from k seats) ≡ not (eqb (get_or seats i 0) 0)

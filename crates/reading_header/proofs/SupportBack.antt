@@ -11,7 +11,7 @@ use borrow.Author.Tests.{ltb-true}
 use Rattle.codes.proofs.Bytes.{both}
 use Rattle.seats.specs.Seats.{seat_of}
 use Rattle.seats.specs.Ordered.{ascending}
-use Rattle.support.specs.Support.{last_below, ids_fit, permids_fit, seated, order_from_lem, support_order}
+use Rattle.support.specs.Support.{last_below, ids_fit, permids_fit, seated, order_from, support_order}
 use Rattle.seats.proofs.Seating.{seat-most}
 use Rattle.support.proofs.Ascending.{ids-below}
 use Rattle.header_checks.specs.Names.{up_from}
@@ -131,8 +131,8 @@ module _ (n : ℕ) (order : List ℕ) (perm : is_order n order ≡ true) where
         rw (i, id-there (seat_of p permids - 1) (omega (arith, seat-most p permids)), seat-found p permids s)
     order-one p h false e more = rw (out-seat p permids (kept_in support p order ∙ rw (e, and-false (is_in p order))))
 
-    order-from : (k p : ℕ) → p + k ≡ n → order_from_lem k p ids permids ≡ map (variable_of_level order) (permids_of support (up_from k p))
-    unfolding order_from_lem permids_of up_from
+    order-from : (k p : ℕ) → p + k ≡ n → order_from k p ids permids ≡ map (variable_of_level order) (permids_of support (up_from k p))
+    unfolding order_from permids_of up_from
     order-from zero p e = refl
     order-from (suc k) p e =
         rw (order-from k (p + 1) (omega arith)) (order-one p (omega arith) (is_in p support) refl (permids_of support (up_from k (p + 1))))

@@ -3,8 +3,8 @@ use mathlib.Core.Path.{◌∙◌}
 use mathlib.Core.Logic.{⊎_elim}
 use borrow.Author.Rules.{rules}
 use Rattle.export_names.proofs.NameLists.{list-uneven, list-uncounted, list_counted}
-use Rattle.export_names.proofs.list_fits.Goals as goal
 use Rattle.export_names.proofs.list_fits.Goals.{then-lens-ne0+else-lens-want, else-lens-ne0}
+use Rattle.export_names.proofs.list_fits.Goals as goal
 
 pub returns-then-starts-lens : goal.returns-then-starts-lens
 returns-then-starts-lens c =
@@ -17,4 +17,4 @@ returns-then-lens-want c =
 pub returns : goal.returns
 returns c =
     c.names_fit.ensures
-    ∙ list_counted _ _ _ _ c.if-starts-lens.false (λ z. elim c.if-lens-ne0.branch [ then-lens-ne0+else-lens-want w ↦ w.if-lens-want.false | else-lens-ne0 w ↦ absurd (z w.if-lens-ne0.false) ])
+    ∙ list_counted _ _ _ _ c.if-starts-lens.false (elim c.if-lens-ne0.branch [ then-lens-ne0+else-lens-want w ↦ λ z. w.if-lens-want.false | else-lens-ne0 w ↦ λ z. absurd (z w.if-lens-ne0.false) ])

@@ -4,8 +4,8 @@ use mathlib.Core.Logic.{⊎_elim}
 use borrow.Author.Rules.{rules}
 use borrow.Author.Tests.{not-true, not-false}
 use Rattle.export_names.proofs.NameReading.{next-control, next-space, next-fit}
-use Rattle.export_names.proofs.name_next.Goals as goal
 use Rattle.export_names.proofs.name_next.Goals.{then-b-eq32+else-not-diagram, else-b-eq32}
+use Rattle.export_names.proofs.name_next.Goals as goal
 
 pub returns-then-is_control : goal.returns-then-is_control
 returns-then-is_control c =
@@ -19,4 +19,4 @@ pub returns : goal.returns
 returns c =
     c.utf8_next.ensures
     ∙ next-fit _ _ _ (sym c.is_control.ensures ∙ c.if-is_control.false)
-    (λ z. elim c.if-b-eq32.branch [ then-b-eq32+else-not-diagram w ↦ w.if-not-diagram.false | else-b-eq32 w ↦ absurd (w.if-b-eq32.false z) ])
+    (elim c.if-b-eq32.branch [ then-b-eq32+else-not-diagram w ↦ λ z. w.if-not-diagram.false | else-b-eq32 w ↦ λ z. absurd (w.if-b-eq32.false z) ])

@@ -3,8 +3,8 @@ use mathlib.Core.Logic.{⊎_elim}
 use native.Mathlib.Omega.{arith}
 use borrow.Author.Tests.{not-true, not-false}
 use Rattle.export_names.proofs.NameReading.{span-empty, span-long, span-outside, span-start}
-use Rattle.export_names.proofs.place_fits.Goals as goal
 use Rattle.export_names.proofs.place_fits.Goals.{then-len-eq0+else-not-diagram, else-len-eq0}
+use Rattle.export_names.proofs.place_fits.Goals as goal
 
 pub returns-then-not-diagram : goal.returns-then-not-diagram
 returns-then-not-diagram c =
@@ -20,5 +20,5 @@ returns-then-lent-len c =
 
 pub returns : goal.returns
 returns c =
-    span-start _ _ _ _ (λ z. elim c.if-len-eq0.branch [ then-len-eq0+else-not-diagram w ↦ w.if-not-diagram.false | else-len-eq0 w ↦ absurd (w.if-len-eq0.false z) ])
+    span-start _ _ _ _ (elim c.if-len-eq0.branch [ then-len-eq0+else-not-diagram w ↦ λ z. w.if-not-diagram.false | else-len-eq0 w ↦ λ z. absurd (w.if-len-eq0.false z) ])
     (omega arith) (omega arith)

@@ -12,7 +12,8 @@ use Rattle.codes.proofs.Faults.{none_in, first-in}
 use Rattle.codes.proofs.Refusals.{unless-in}
 use Rattle.header_lines.specs.Sweep.{lines_of}
 use Rattle.header_lines.specs.SoundLines.{cut_short, faulty}
-use Rattle.imported.specs.Refused.{crowded, early, text, binary, unended}
+use Rattle.imported.specs.Import.{Setup}
+use Rattle.imported.specs.Refused.{NodesRefused, crowded, early, text, binary, unended}
 use Rattle.header_lines.proofs.HeaderEnd.{refused-lines, lines-numbers}
 use Rattle.header_checks.proofs.WholeNumbers.{whole_numbers}
 use Rattle.store.specs.Store.{Store}
@@ -33,7 +34,7 @@ use Rattle.joined.specs.Roots.{join_roots, opposite_root}
 use Rattle.calls.specs.Load.{Load, setup_of, load_of}
 use Rattle.calls.specs.Calls.{Call, load, evaluate, example, tip, export, join, opposite, evaluate_of}
 use Rattle.calls.specs.Outcome.{Verdict, accepted, refusal, Tells, verdict_of, verdict_read, leaves}
-use Rattle.calls.specs.Refusals.{RefusalNumber, NumberOf, LoadRefused, lists_short, store_broken, input_long, line_refused, whole_refused, scratch_short, list_refused, nodes_refused, CarriesLine, JoinRefused, join_broken, root_bad, join_crowded, OppositeRefused, opposite_broken, opposite_bad, ExampleRefused, setting_short, example_broken, example_bad, no_setting, TipRefused, tip_broken, tip_bad, no_flip, RefusedFor}
+use Rattle.calls.specs.Refusals.{RefusalNumber, NumberOf, LoadRefused, lists_short, store_broken, input_long, line_refused, whole_refused, scratch_short, list_refused, nodes_refused, NodesCarryLine, CarriesLine, JoinRefused, join_broken, root_bad, join_crowded, OppositeRefused, opposite_broken, opposite_bad, ExampleRefused, setting_short, example_broken, example_bad, no_setting, TipRefused, tip_broken, tip_bad, no_flip, RefusedFor}
 use Rattle.calls.proofs.ExampleRefusals.{example-refused-exactly}
 use Rattle.calls.proofs.TipRefusals.{tip-refused-exactly}
 use Rattle.calls.proofs.JoinRefusals.{join-refused-exactly, opposite-refused-exactly}
@@ -167,6 +168,13 @@ load-number c σ (nodes_refused {h} {n} {line} H S L w) =
     ⊎_elim (λ z. inr (inl (omega (arith, z.0, z.1)))) (λ z. inr (inr (omega (arith, z.0, z.1))))
     (nodes-numbers u σ c.file h.next [] R W n line ((refused-nodes u σ c.file h.next [] R W n line).1 w))
 
+nodes-carried : {m : Limits} {u : Setup} {σ : Store} {f : List ℕ} {at n line : ℕ} (w : NodesRefused m u σ f at n line) → (1 ≤ line) ↔ NodesCarryLine w
+nodes-carried (crowded w) = (λ h. omega arith, λ z. absurd z)
+nodes-carried (early r a e) = (λ h. omega arith, λ z. absurd z)
+nodes-carried (text r a e k t i l) = (λ h. tt, λ z. omega (arith, i))
+nodes-carried (binary r a e k) = (λ h. omega arith, λ z. absurd z)
+nodes-carried (unended r e w) = (λ h. omega arith, λ z. absurd z)
+
 -- A load's refusal has a line from 1 on exactly where it carries one: else its line is 0.
 pub line-carried : {m : Limits} (c : Load) (σ : Store) {n line : ℕ} (w : LoadRefused m c σ n line) → (1 ≤ line) ↔ CarriesLine w
 line-carried c σ (lists_short w) = (λ h. omega arith, λ z. absurd z)
@@ -177,11 +185,7 @@ line-carried c σ (line_refused O (faulty before s after e b q k)) = (λ h. tt, 
 line-carried c σ (whole_refused O s q k) = (λ h. omega arith, λ z. absurd z)
 line-carried c σ (scratch_short H w) = (λ h. omega arith, λ z. absurd z)
 line-carried c σ (list_refused H S w) = (λ h. omega arith, λ z. absurd z)
-line-carried c σ (nodes_refused H S L (crowded w)) = (λ h. omega arith, λ z. absurd z)
-line-carried c σ (nodes_refused H S L (early r a e)) = (λ h. omega arith, λ z. absurd z)
-line-carried c σ (nodes_refused H S L (text r a e k t i l)) = (λ h. tt, λ z. omega (arith, i))
-line-carried c σ (nodes_refused H S L (binary r a e k)) = (λ h. omega arith, λ z. absurd z)
-line-carried c σ (nodes_refused H S L (unended r e w)) = (λ h. omega arith, λ z. absurd z)
+line-carried c σ (nodes_refused H S L w) = nodes-carried w
 
 -- the numbers of a join's, of an opposite's, of an example's, and of a tipping point's
 join-number : {m : Limits} {o : Op} {σ : Store} {a b : ℤ} {n : ℕ} → JoinRefused m o σ a b n → RefusalNumber n

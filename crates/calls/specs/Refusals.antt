@@ -17,6 +17,7 @@ use Rattle.store.specs.Meaning.{setting_of}
 use Rattle.store.specs.Settings.{IsSetting}
 use Rattle.header.specs.Header.{Header, table_of}
 use Rattle.header.specs.HeaderSaid.{HeaderSaid}
+use Rattle.imported.specs.Import.{Setup}
 use Rattle.imported.specs.Refused.{NodesRefused, crowded, early, text, binary, unended}
 use Rattle.calls.specs.Load.{Lengths, Load, variable_lists, root_lists, setup_of}
 use Rattle.example_walk.specs.Example.{answers_as}
@@ -92,6 +93,14 @@ pub data LoadRefused (m : Limits) (c : Load) (σ : Store) : ℕ → ℕ → Type
   nodes_refused : {h : Header} {n line : ℕ} → HeaderRead m c σ h → LongScratch c h → ListAllowed c σ h
       → NodesRefused m (setup_of c σ.levels h) σ c.file h.next n line → LoadRefused m c σ n line
 
+-- the refusals of the nodes that carry a line: of an ASCII node line 'but for 30 and 40'
+abbrev pub NodesCarryLine : {m : Limits} {u : Setup} {σ : Store} {f : List ℕ} {at n line : ℕ} → NodesRefused m u σ f at n line → Type 0
+NodesCarryLine (crowded w) = ⊥
+NodesCarryLine (early r a e) = ⊥
+NodesCarryLine (text r a e k t i l) = Unit
+NodesCarryLine (binary r a e k) = ⊥
+NodesCarryLine (unended r e w) = ⊥
+
 -- the refusals of a load that carry a line: of a line of the header, and of an ASCII node line 'but for 30 and 40'
 abbrev pub CarriesLine : {m : Limits} {c : Load} {σ : Store} {n line : ℕ} → LoadRefused m c σ n line → Type 0
 CarriesLine (lists_short w) = ⊥
@@ -102,11 +111,7 @@ CarriesLine (line_refused O (faulty before s after e b q k)) = Unit
 CarriesLine (whole_refused O s q k) = ⊥
 CarriesLine (scratch_short H w) = ⊥
 CarriesLine (list_refused H S w) = ⊥
-CarriesLine (nodes_refused H S L (crowded w)) = ⊥
-CarriesLine (nodes_refused H S L (early r a e)) = ⊥
-CarriesLine (nodes_refused H S L (text r a e k t i l)) = Unit
-CarriesLine (nodes_refused H S L (binary r a e k)) = ⊥
-CarriesLine (nodes_refused H S L (unended r e w)) = ⊥
+CarriesLine (nodes_refused H S L w) = NodesCarryLine w
 
 -- How a join is refused. Document 02, request 2: 'in the order 3, 4, 40, and 40 only where those nodes don't fit'.
 pub data JoinRefused (m : Limits) (o : Op) (σ : Store) (a b : ℤ) : ℕ → Type 0 where

@@ -17,14 +17,14 @@ use Rattle.read_numbers.specs.Number.{digit, number, single, first}
 use Rattle.read_lists.specs.Lists.{judge, u32_list}
 use Rattle.read_lines.specs.Words.{words_from, words}
 use Rattle.read_edges.specs.Edges.{entry_bytes, edge_list, children}
-use Rattle.read_text.specs.Text.{utf8_next, is_utf8, name_list, text_at_lem}
+use Rattle.read_text.specs.Text.{utf8_next, is_utf8, name_list, text_at}
 use Rattle.read_text.specs.Alike.{alike}
 use Rattle.header_keys.specs.Keys.{lookup, key_of}
 use Rattle.header_faults.specs.Judge.{version_fault, mode_fault, varinfo_fault, text_fault, single_fault, u32_list_fault, root_list_fault, name_list_fault, fault_of}
 use Rattle.header_lines.specs.Sweep.{lines_from, lines_of, end_from, end_of, all_of, last_from, last_of, lasts}
 use Rattle.seats.specs.Seats.{seat_of}
 use Rattle.seats.specs.Ordered.{ascending, distinct}
-use Rattle.support.specs.Support.{last_below, ids_fit, all_below, permids_fit, order_from_lem, support_order}
+use Rattle.support.specs.Support.{last_below, ids_fit, all_below, permids_fit, order_from, support_order}
 use Rattle.variable_names.specs.Names.{places, are_same_bytes, same_name, same_names, chosen_places, free_from, ordered_from, ordered_seats, supp_from, supp_seats, variable_names}
 use Rattle.file_roots.specs.Roots.{roots_fault}
 use Rattle.header_values.specs.Values.{spans, number_in, ascii_in, varinfo_in, dd_in, u32s_in, names_in, roots_in}
@@ -81,7 +81,7 @@ bare-breaks =
 
 -- with one it is accepted
 bare-header : (header_by bare_load true).answer ≡ head.header bare_header
-unfolding run is_blank is_line_end is_of seek trim feed_at line_of key_end field_of single judge u32_list words_from words edge_list is_utf8 name_list text_at_lem alike lookup key_of lines_from lines_of end_from end_of all_of last_from last_of lasts ascending last_below ids_fit all_below distinct permids_fit roots_fault number_in ascii_in varinfo_in dd_in u32s_in names_in roots_in agree first_fault number_faults support_faults name_count_faults name_faults root_faults whole_fault table_of read_of head.length_fault at_least head.lists_fault head.load_header
+unfolding run is_blank is_line_end is_of seek trim feed_at line_of key_end field_of single judge u32_list words_from words edge_list is_utf8 name_list text_at alike lookup key_of lines_from lines_of end_from end_of all_of last_from last_of lasts ascending last_below ids_fit all_below distinct permids_fit roots_fault number_in ascii_in varinfo_in dd_in u32s_in names_in roots_in agree first_fault number_faults support_faults name_count_faults name_faults root_faults whole_fault table_of read_of head.length_fault at_least head.lists_fault head.load_header
 bare-header = refl
 
 bare-passes : Passes limits bare_load (empty 0 1) bare_header
@@ -98,7 +98,7 @@ bare-loads = ap (λ r. r.answer) (passes-load limits bare_load (empty 0 1) bare_
 
 -- the header of document 01's example
 example-header : header_by example_load true ≡ example_loaded
-unfolding run is_blank is_digit is_line_end is_of seek trim feed_at line_of key_end value_start value_end field_of digit number single judge u32_list words_from words entry_bytes edge_list utf8_next is_utf8 name_list text_at_lem alike lookup key_of version_fault mode_fault varinfo_fault text_fault single_fault u32_list_fault root_list_fault name_list_fault fault_of lines_from lines_of end_from end_of all_of last_from last_of lasts seat_of ascending last_below ids_fit all_below distinct permids_fit order_from_lem support_order places are_same_bytes same_name same_names chosen_places free_from ordered_from ordered_seats supp_from supp_seats variable_names roots_fault spans number_in ascii_in varinfo_in dd_in u32s_in names_in roots_in up_from agree variable_names_in first_fault number_faults support_faults name_count_faults name_faults root_faults whole_fault table_of read_of head.length_fault at_least head.lists_fault head.load_header
+unfolding run is_blank is_digit is_line_end is_of seek trim feed_at line_of key_end value_start value_end field_of digit number single judge u32_list words_from words entry_bytes edge_list utf8_next is_utf8 name_list text_at alike lookup key_of version_fault mode_fault varinfo_fault text_fault single_fault u32_list_fault root_list_fault name_list_fault fault_of lines_from lines_of end_from end_of all_of last_from last_of lasts seat_of ascending last_below ids_fit all_below distinct permids_fit order_from support_order places are_same_bytes same_name same_names chosen_places free_from ordered_from ordered_seats supp_from supp_seats variable_names roots_fault spans number_in ascii_in varinfo_in dd_in u32s_in names_in roots_in up_from agree variable_names_in first_fault number_faults support_faults name_count_faults name_faults root_faults whole_fault table_of read_of head.length_fault at_least head.lists_fault head.load_header
 example-header = refl
 
 example-read : (σ : Store) → keeps limits σ ≡ true → header_of limits example_load σ ≡ example_loaded

@@ -15,7 +15,7 @@ use Rattle.read_numbers.specs.Number.{digit, number, single, first}
 use Rattle.read_lists.specs.Lists.{judge, u32_list}
 use Rattle.read_lines.specs.Words.{words_from, words}
 use Rattle.read_edges.specs.Edges.{entry_bytes, edge_list, children}
-use Rattle.read_text.specs.Text.{is_utf8, name_list, text_at_lem}
+use Rattle.read_text.specs.Text.{is_utf8, name_list, text_at}
 use Rattle.read_binary.specs.Binary.{meant, byte_at, groups_from, number_at}
 use Rattle.writers.specs.Binary.{escaped, escaped_all, groups_by, groups, seven_bit}
 use Rattle.read_text.specs.Alike.{alike}
@@ -85,7 +85,7 @@ those-nodes = record { accepted = example-loads; of_text = refl; of_store = line
 -- the headers of the files with the ids 0 and 2
 headers : ((header_by three_variables true).answer ≡ head.header three_header)
     × (((header_by three_variables true).ids ≡ 0 ∷ 2 ∷ []) × ((header_by two_variables true).answer ≡ head.refusal 22 0))
-unfolding run is_blank is_digit is_line_end is_of seek trim feed_at line_of key_end value_start value_end field_of digit number single judge u32_list words_from words edge_list is_utf8 name_list text_at_lem alike lookup key_of single_fault u32_list_fault fault_of lines_from lines_of end_from end_of all_of last_from last_of lasts seat_of ascending last_below ids_fit all_below distinct permids_fit roots_fault spans number_in ascii_in varinfo_in dd_in u32s_in names_in roots_in agree first_fault number_faults support_faults name_count_faults name_faults root_faults whole_fault table_of read_of head.length_fault at_least head.lists_fault head.load_header
+unfolding run is_blank is_digit is_line_end is_of seek trim feed_at line_of key_end value_start value_end field_of digit number single judge u32_list words_from words edge_list is_utf8 name_list text_at alike lookup key_of single_fault u32_list_fault fault_of lines_from lines_of end_from end_of all_of last_from last_of lasts seat_of ascending last_below ids_fit all_below distinct permids_fit roots_fault spans number_in ascii_in varinfo_in dd_in u32s_in names_in roots_in agree first_fault number_faults support_faults name_count_faults name_faults root_faults whole_fault table_of read_of head.length_fault at_least head.lists_fault head.load_header
 headers = (refl, (refl, refl))
 
 -- each in an empty store with one slot, which keeps the rules

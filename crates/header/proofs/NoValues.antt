@@ -11,7 +11,7 @@ use Rattle.read_lists.specs.Lists.{judge, u32_list}
 use Rattle.read_edges.specs.Edges.{edge_list}
 use Rattle.read_text.specs.Text.{name_list}
 use Rattle.header_lines.specs.Sweep.{Span, no_span, keys}
-use Rattle.support.specs.Support.{order_from_lem, support_order}
+use Rattle.support.specs.Support.{order_from, support_order}
 use Rattle.variable_names.specs.Names.{variable_names}
 use Rattle.header_values.specs.Values.{u32s_in, names_in, roots_in, number_in}
 use Rattle.header_checks.specs.Names.{variable_names_in}
@@ -24,7 +24,7 @@ no_values = replicate keys no_span
 
 -- it gives no lists
 pub no-lists : (f : List ℕ) (a : HeaderAnswer) → lists_in f no_values a ≡ nothing a
-unfolding number_in single u32s_in u32_list judge words words_from names_in name_list roots_in edge_list run variable_names_in variable_names support_order order_from_lem
+unfolding number_in single u32s_in u32_list judge words words_from names_in name_list roots_in edge_list run variable_names_in variable_names support_order order_from
 no-lists f a = refl
 
 -- what the last phase leans on

@@ -13,7 +13,7 @@ use Rattle.codes.specs.Limits.{var_limit, root_limit}
 use Rattle.read_numbers.specs.Number.{single}
 use Rattle.read_lists.specs.Lists.{u32_list}
 use Rattle.read_edges.specs.Edges.{edge_list}
-use Rattle.read_text.specs.Text.{name_list, text_at_lem}
+use Rattle.read_text.specs.Text.{name_list, text_at}
 use Rattle.read_text.specs.Alike.{alike}
 use Rattle.header_keys.specs.declared.Key.{Key}
 use Rattle.header_keys.specs.declared.Key.TheVariants.{Ver, Mode, Varinfo, Dd, Nnodes, Nvars, Nsuppvars, Nroots, Nodes, Varnames, Suppvarnames, Orderedvarnames, Ids, Permids, Auxids, Rootids, Rootnames, Unknown}
@@ -46,7 +46,7 @@ roots-lined s n e =
 names-lined : (max at : ℕ) (s : List ℕ) → RefusesLined (name_list max at s).answer
 names-lined max at s n e = ⊎_elim (λ z. omega arith) (λ z. omega arith) (name-list-refuses max at s n e)
 
-text-lined : (at : ℕ) (s : List ℕ) → RefusesLined (text_at_lem at s)
+text-lined : (at : ℕ) (s : List ℕ) → RefusesLined (text_at at s)
 text-lined at s n e = omega (arith, text-refuses at s n e)
 
 -- An answer has no refusal exactly where it has a value,
@@ -123,7 +123,7 @@ names-sound max at s = why-sound (name_list max at s).answer (names-lined max at
 
 text-sound : (at : ℕ) (s : List ℕ) → (text_fault at s ≡ 0) ↔ SoundValue Dd at s
 unfolding text_fault
-text-sound at s = why-sound (text_at_lem at s) (text-lined at s)
+text-sound at s = why-sound (text_at at s) (text-lined at s)
 
 -- A value has no fault exactly where it is sound.
 pub fault-sound : (k : Key) (at : ℕ) (s : List ℕ) → (fault_of k at s ≡ 0) ↔ SoundValue k at s
@@ -153,7 +153,7 @@ unfolding fault_of version_fault mode_fault varinfo_fault text_fault single_faul
 fault-numbers Ver at s n e = cond-numbers (alike s version20 || alike s version30) 12 n (omega arith) e
 fault-numbers Mode at s n e = cond-numbers (alike s mode_a || alike s mode_b) 13 n (omega arith) e
 fault-numbers Varinfo at s n e = cond-numbers (is_varinfo s) 13 n (omega arith) e
-fault-numbers Dd at s n e = why-numbers (text_at_lem at s) (text-lined at s) n e
+fault-numbers Dd at s n e = why-numbers (text_at at s) (text-lined at s) n e
 fault-numbers Nnodes at s n e = why-numbers (single (2 ^ 64) s) (single-lined (2 ^ 64) s) n e
 fault-numbers Nvars at s n e = why-numbers (single (2 ^ 32) s) (single-lined (2 ^ 32) s) n e
 fault-numbers Nsuppvars at s n e = why-numbers (single (2 ^ 32) s) (single-lined (2 ^ 32) s) n e

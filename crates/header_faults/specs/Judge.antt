@@ -6,7 +6,7 @@ use Rattle.codes.specs.Limits.{var_limit, root_limit}
 use Rattle.read_numbers.specs.Number.{single}
 use Rattle.read_lists.specs.Lists.{u32_list}
 use Rattle.read_edges.specs.Edges.{edge_list}
-use Rattle.read_text.specs.Text.{name_list, text_at_lem}
+use Rattle.read_text.specs.Text.{name_list, text_at}
 use Rattle.read_text.specs.Alike.{alike}
 use Rattle.header_keys.specs.declared.Key.{Key}
 use Rattle.header_keys.specs.declared.Key.TheVariants.{Ver, Mode, Varinfo, Dd, Nnodes, Nvars, Nsuppvars, Nroots, Nodes, Varnames, Suppvarnames, Orderedvarnames, Ids, Permids, Auxids, Rootids, Rootnames, Unknown}
@@ -47,7 +47,7 @@ varinfo_fault s = cond (is_varinfo s) 0 13
 
 -- '18 a .. `.dd` value isn't UTF-8'
 unfoldable pub text_fault : ℕ → List ℕ → ℕ
-text_fault at s = why (text_at_lem at s)
+text_fault at s = why (text_at at s)
 
 -- 14 and 15
 unfoldable pub single_fault : ℕ → List ℕ → ℕ

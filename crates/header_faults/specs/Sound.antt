@@ -5,7 +5,7 @@ use Rattle.codes.specs.Limits.{var_limit, root_limit}
 use Rattle.read_numbers.specs.Number.{single}
 use Rattle.read_lists.specs.Lists.{u32_list}
 use Rattle.read_edges.specs.Edges.{edge_list}
-use Rattle.read_text.specs.Text.{Place, name_list, text_at_lem}
+use Rattle.read_text.specs.Text.{Place, name_list, text_at}
 use Rattle.header_keys.specs.declared.Key.{Key}
 use Rattle.header_keys.specs.declared.Key.TheVariants.{Ver, Mode, Varinfo, Dd, Nnodes, Nvars, Nsuppvars, Nroots, Nodes, Varnames, Suppvarnames, Orderedvarnames, Ids, Permids, Auxids, Rootids, Rootnames, Unknown}
 use Rattle.header_faults.specs.Judge.{version20, version30, mode_a, mode_b}
@@ -29,7 +29,7 @@ abbrev pub SoundValue : Key → ℕ → List ℕ → Type 0
 SoundValue Ver at s = (s ≡ version20) ⊎ (s ≡ version30)
 SoundValue Mode at s = (s ≡ mode_a) ⊎ (s ≡ mode_b)
 SoundValue Varinfo at s = (d : ℕ) × ((d ≤ 4) × (s ≡ (0x30 + d) ∷ []))
-SoundValue Dd at s = (p : Place) × (text_at_lem at s ≡ value p)
+SoundValue Dd at s = (p : Place) × (text_at at s ≡ value p)
 SoundValue Nnodes at s = SoundNumber (2 ^ 64) s
 SoundValue Nvars at s = SoundNumber (2 ^ 32) s
 SoundValue Nsuppvars at s = SoundNumber (2 ^ 32) s

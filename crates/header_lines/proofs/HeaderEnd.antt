@@ -7,7 +7,6 @@ use native.Mathlib.Omega.{arith}
 use lib.ListN.{length}
 use mathlib.Core.Option.{none, some}
 use Rattle.read_lines.specs.Each.{Each, each}
-use Rattle.read_lines.specs.Each
 use Rattle.header_faults.proofs.SoundValues.{fault-sound, fault-numbers}
 use Rattle.header_lines.specs.Sweep.{part, Said, Lines, cut, nodes, line, fault_in, SweepEnd, at_nodes, refused_at, end_from, end_of, all_of}
 use Rattle.header_lines.specs.SoundLines.{nodes_next, SoundLine, SoundLines, RefusedLines, cut_short, faulty}

@@ -5,7 +5,7 @@ use mathlib.Core.List.{List, [], ◌∷◌}
 use Prim.Native.Nat.{ℕ}
 use Rattle.codes.specs.Answer.{Read}
 use Rattle.read_numbers.specs.Number.{single}
-use Rattle.read_text.specs.Text.{Place, place, text_at_lem}
+use Rattle.read_text.specs.Text.{Place, place, text_at}
 use Rattle.read_text.specs.Alike.{alike}
 use Rattle.header_faults.specs.Judge.{mode_b}
 use Rattle.header_lines.specs.Sweep.{Span, part}
@@ -30,9 +30,9 @@ module _ (f : List ℕ) (t : List Span) (s : code.Span) where
 
   -- a text is what its reader gives
   pub dd-by : of_span s ≡ span_in t Dd → {r : Read Place}
-      → r ≡ text_at_lem s.start (part f s.start s.end) → value_or (place 0 0) r ≡ dd_in f t
+      → r ≡ text_at s.start (part f s.start s.end) → value_or (place 0 0) r ≡ dd_in f t
   unfolding dd_in
-  dd-by e q = ap (value_or (place 0 0)) (q ∙ ap (λ v. text_at_lem v.start (part f v.start v.end)) e)
+  dd-by e q = ap (value_or (place 0 0)) (q ∙ ap (λ v. text_at v.start (part f v.start v.end)) e)
 
   module _ (e : of_span s ≡ span_in t Varinfo) where
     -- `.varinfo` is told by its value's one digit

@@ -15,7 +15,7 @@ use Rattle.read_lines.specs.Words.{words_from, words}
 use Rattle.read_numbers.specs.Number.{single}
 use Rattle.read_lists.specs.Lists.{Listed, listed, judge, u32_list}
 use Rattle.read_edges.specs.Edges.{edge_list}
-use Rattle.read_text.specs.Text.{Place, place, is_utf8, name_list, text_at_lem}
+use Rattle.read_text.specs.Text.{Place, place, is_utf8, name_list, text_at}
 use Rattle.read_text.specs.Alike.{alike}
 use Rattle.header_faults.specs.Judge.{mode_a, mode_b}
 use Rattle.header_faults.specs.Sound.{SoundNumber, SoundNumbers, SoundNames}
@@ -52,7 +52,7 @@ module _ (f : List ℕ) where
   varinfo_at v = varinfo_of (bytes_at f v)
 
   abbrev text_in : Span → Place
-  text_in v = value_or (place 0 0) (text_at_lem v.start (bytes_at f v))
+  text_in v = value_or (place 0 0) (text_at v.start (bytes_at f v))
 
   abbrev numbers_at : Span → List ℕ
   numbers_at v = entries_of (u32_list var_limit (bytes_at f v))
@@ -77,7 +77,7 @@ module _ (f : List ℕ) where
   no-varinfo = refl
 
   no_text : text_in no_span ≡ place 0 0
-  unfolding text_at_lem is_utf8 run
+  unfolding text_at is_utf8 run
   no_text = refl
 
   no-numbers : numbers_at no_span ≡ []

@@ -5,7 +5,7 @@ use Rattle.codes.specs.Limits.{var_limit, root_limit}
 use Rattle.read_numbers.specs.Number.{single}
 use Rattle.read_lists.specs.Lists.{listed, u32_list}
 use Rattle.read_edges.specs.Edges.{edge_list}
-use Rattle.read_text.specs.Text.{Place, name_list, text_at_lem}
+use Rattle.read_text.specs.Text.{Place, name_list, text_at}
 use Rattle.header_faults.specs.Judge.{mode_a, mode_b}
 use Rattle.header_lines.specs.Sweep.{Span}
 use Rattle.header_lines.specs.Last.{bytes_at}
@@ -24,7 +24,7 @@ ReadsVarinfo f v n = (n ≤ 4) × (bytes_at f v ≡ (0x30 + n) ∷ [])
 
 -- a text is the place of its bytes
 abbrev pub ReadsText : List ℕ → Span → Place → Type 0
-ReadsText f v p = text_at_lem v.start (bytes_at f v) ≡ value p
+ReadsText f v p = text_at v.start (bytes_at f v) ≡ value p
 
 -- lists: all entries are read
 abbrev pub ReadsNumbers : List ℕ → Span → List ℕ → Type 0

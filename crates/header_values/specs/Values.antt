@@ -7,7 +7,7 @@ use Rattle.codes.specs.Lent.{laid}
 use Rattle.read_numbers.specs.Number.{single}
 use Rattle.read_lists.specs.Lists.{Listed, u32_list}
 use Rattle.read_edges.specs.Edges.{edge_list}
-use Rattle.read_text.specs.Text.{Place, place, name_list, text_at_lem}
+use Rattle.read_text.specs.Text.{Place, place, name_list, text_at}
 use Rattle.read_text.specs.Alike.{alike}
 use Rattle.header_keys.specs.Keys.{slot_of}
 use Rattle.header_faults.specs.Judge.{mode_b}
@@ -75,7 +75,7 @@ varinfo_in f t = varinfo_of (value_in f t Varinfo)
 
 -- 'An empty .. `.dd` is start 0, length 0.'
 unfoldable pub dd_in : List ℕ → List Span → Place
-dd_in f t = value_or (place 0 0) (text_at_lem (span_in t Dd).start (value_in f t Dd))
+dd_in f t = value_or (place 0 0) (text_at (span_in t Dd).start (value_in f t Dd))
 
 -- lists; empty where they are missing
 unfoldable pub u32s_in : List ℕ → List Span → Key → List ℕ

@@ -14,6 +14,7 @@ use Rattle.seats.specs.Ordered.{ascending}
 use Rattle.support.specs.Support.{last_below, ids_fit}
 use Rattle.seats.proofs.Seating.{seat-here, seat-there}
 use Rattle.reached.specs.Meet.{is_in}
+use Rattle.reached.proofs.Members.{in-none}
 use Rattle.heading.specs.Tables.{seated_from, seated_levels}
 
 -- after another number one is in a list where it was
@@ -33,8 +34,8 @@ in-before x k (suc s ∷ seats) h = in-there x k (seated_from (k + 1) seats) (λ
 
 -- a level is found where its entry isn't 0
 in-from : (k i : ℕ) (seats : List ℕ) → is_in (k + i) (seated_from k seats) ≡ not (eqb (get_or seats i 0) 0)
-unfolding seated_from seat_of
-in-from k i [] = refl
+unfolding seated_from
+in-from k i [] = in-none (k + i)
 in-from k zero (zero ∷ seats) = in-before (k + 0) (k + 1) seats (omega arith)
 in-from k (suc i) (zero ∷ seats) =
     let e : k + suc i ≡ k + 1 + i = omega arith in

@@ -35,8 +35,8 @@ other = record {
   rootnames = [];
 }
 
-abbrev pub other_text_lem : List ℕ
-other_text_lem =
+abbrev pub other_text : List ℕ
+other_text =
     bytes ".ver DDDMP-3.0\n.mode B\n.varinfo 4\n.dd night round\n.nnodes 3\n.nvars 3\n.nsuppvars 2\n.varnames gate yard dock\n.suppvarnames gate dock\n.orderedvarnames yard dock gate\n.ids 0 2\n.permids 2 1\n.nroots 1\n.rootids -3\n.nodes\n"
 
 -- no variables: the name lines are there, and empty; no roots

@@ -16,7 +16,7 @@ use Rattle.codes.specs.Answer.{value, refused}
 use Rattle.codes.specs.Limits.{limits}
 use Rattle.store.specs.Store.{Store}
 use Rattle.store.specs.Keeps.{keeps, keeps-true}
-use Rattle.store.specs.Growth.{EdgeOf, is_root}
+use Rattle.store.specs.Growth.{is_root}
 use Rattle.store.proofs.Growth.{root-edge}
 use Rattle.joined.specs.declared.Op.{Op}
 use Rattle.joined.specs.Join.{join_of, Ready}

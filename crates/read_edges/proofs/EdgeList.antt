@@ -26,7 +26,7 @@ use Rattle.read_lists.specs.Judged as judged
 use Rattle.read_lists.proofs.Judged.{judged-judge, judge-judged}
 use Rattle.read_edges.specs.declared.Entry.{Entry}
 use Rattle.read_edges.specs.declared.Entry.TheVariants as entry
-use Rattle.read_edges.specs.Kinds.{of_entry_lem}
+use Rattle.read_edges.specs.Kinds.{of_entry}
 use Rattle.read_edges.specs.Edges.{signed, with_sign, magnitude_of, after_minus, entry_bytes, entry_of, edge_list, pair, children}
 use Rattle.read_edges.specs.Entries.{EntryAnswers, reads, over, strange, second, inside, alone, Entries, none, more}
 use Rattle.read_edges.proofs.Entries.{entry-plain, entry-minus, answers-entry, entry-answers}
@@ -47,10 +47,10 @@ signed-fits true v h = negated_fits v h
 signed-fits false v h = record { sfits = h }
 
 -- what an answer of the code says of the definition
-pub entry_value : {r : Entry} {a : ℤ} {x : Read ℤ} → r ≡ entry.Value a → of_entry_lem r ≡ x → x ≡ value a
+pub entry_value : {r : Entry} {a : ℤ} {x : Read ℤ} → r ≡ entry.Value a → of_entry r ≡ x → x ≡ value a
 entry_value k e = sym e ∙ rw k
 
-pub entry-refusal : {r : Entry} {n : ℕ} {x : Read ℤ} → r ≡ entry.Refused n → of_entry_lem r ≡ x → x ≡ refused n
+pub entry-refusal : {r : Entry} {n : ℕ} {x : Read ℤ} → r ≡ entry.Refused n → of_entry r ≡ x → x ≡ refused n
 entry-refusal k e = sym e ∙ rw k
 
 -- So is an entry that is read.

@@ -7,9 +7,9 @@ use Rattle.read_edges.specs.declared.Children.{Children}
 use Rattle.read_edges.specs.declared.Children.TheVariants as children
 use Rattle.read_edges.specs.Edges.{Pair, pair}
 
-abbrev pub of_entry_lem : Entry → Read ℤ
-of_entry_lem (entry.Value a) = value a
-of_entry_lem (entry.Refused n) = refused n
+abbrev pub of_entry : Entry → Read ℤ
+of_entry (entry.Value a) = value a
+of_entry (entry.Refused n) = refused n
 
 abbrev pub of_children : Children → Read Pair
 of_children (children.Read n a b) = value (pair n a b)

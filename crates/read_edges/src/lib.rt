@@ -4,7 +4,7 @@
 ghost use Rattle.std.specs.Prelude.{◌≡◌, ◌<◌, ◌^◌, length, set};
 ghost use Rattle.codes.specs.Lent.{laid};
 ghost use Rattle.read_edges.specs.Edges.{signed, magnitude_of, entry_bytes, edge_list, children};
-ghost use Rattle.read_edges.specs.Kinds.{of_entry_lem, of_children};
+ghost use Rattle.read_edges.specs.Kinds.{of_entry, of_children};
 ghost use Rattle.read_lists.specs.Kinds.{of_count};
 
 use codes::refusal;
@@ -39,7 +39,7 @@ fn signed(minus: bool, magnitude: u64) -> i64
 
 // Digits, after a minus or with none.
 fn parse_magnitude(minus: bool, input: &[u8]) -> Entry
-    ensures { of_entry_lem result ≡ magnitude_of minus input.now }
+    ensures { of_entry result ≡ magnitude_of minus input.now }
 {
     match read_numbers::parse_digits(input, i64::MAX as u64, Role::Magnitude) {
         Number64::Value(v) => Entry::Value(signed(minus, v)),
@@ -50,7 +50,7 @@ fn parse_magnitude(minus: bool, input: &[u8]) -> Entry
 // An optional minus and digits.
 fn parse_entry(input: &[u8]) -> Entry
     requires { 0 < length input.now }
-    ensures { of_entry_lem result ≡ entry_bytes input.now }
+    ensures { of_entry result ≡ entry_bytes input.now }
 {
     if input[0] != b'-' {
         return parse_magnitude(false, input);

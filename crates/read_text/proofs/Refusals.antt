@@ -8,7 +8,7 @@ use native.Mathlib.Omega.{arith}
 use lib.ListN.{length}
 use Rattle.codes.specs.Answer.{value, refused}
 use Rattle.read_lines.specs.Words.{Word, words}
-use Rattle.read_text.specs.Text.{is_utf8, Place, place, name_of, name_list, placed, text_at_lem}
+use Rattle.read_text.specs.Text.{is_utf8, Place, place, name_of, name_list, placed, text_at}
 use Rattle.read_lists.proofs.Refusals.{judge-refuses}
 
 utf8-refuses : (b : Bool) (p : Place) (n : ℕ) → cond b (value p) (refused 18) ≡ refused n → n ≡ 18
@@ -26,6 +26,6 @@ name-list-refuses max at s n e =
     judge-refuses name_of max (λ k. (k ≡ 18) ⊎ (k ≡ 19)) (λ w k q. inl (name-refuses w k q)) (inr refl) [] (words at s) n e
 
 -- a text with 18.
-pub text-refuses : (at : ℕ) (s : List ℕ) (n : ℕ) → text_at_lem at s ≡ refused n → n ≡ 18
-unfolding text_at_lem
+pub text-refuses : (at : ℕ) (s : List ℕ) (n : ℕ) → text_at at s ≡ refused n → n ≡ 18
+unfolding text_at
 text-refuses at s n e = utf8-refuses (is_utf8 s) (placed at s) n e

@@ -10,7 +10,7 @@ use borrow.Author.Tests.{lt-ltb, le-ltb, le-leb, lt-leb, ne_eqb}
 use Rattle.codes.specs.Machine.{go, stop, run}
 use Rattle.codes.specs.Answer.{value, refused}
 use Rattle.read_text.specs.declared.Utf8.TheVariants.{Whole, Tail}
-use Rattle.read_text.specs.Text.{tail, utf8_next, utf8_end, is_utf8, place, placed, text_at_lem}
+use Rattle.read_text.specs.Text.{tail, utf8_next, utf8_end, is_utf8, place, placed, text_at}
 
 module _ (x : ℕ) where
   pub lead-one : x < 0x80 → utf8_next Whole x ≡ go Whole
@@ -91,14 +91,14 @@ placed-some at [] h = absurd (h refl)
 placed-some at (x ∷ s) h = refl
 
 module _ (at : ℕ) (s : List ℕ) where
-  pub text-empty : is_utf8 s ≡ true → length s ≡ 0 → text_at_lem at s ≡ value (place 0 0)
-  unfolding text_at_lem
+  pub text-empty : is_utf8 s ≡ true → length s ≡ 0 → text_at at s ≡ value (place 0 0)
+  unfolding text_at
   text-empty e h = rw e (ap value (placed-none at s h))
 
-  pub text-some : is_utf8 s ≡ true → (length s ≡ 0 → ⊥) → text_at_lem at s ≡ value (place at (length s))
-  unfolding text_at_lem
+  pub text-some : is_utf8 s ≡ true → (length s ≡ 0 → ⊥) → text_at at s ≡ value (place at (length s))
+  unfolding text_at
   text-some e h = rw e (ap value (placed-some at s h))
 
-  pub text-bad : is_utf8 s ≡ false → text_at_lem at s ≡ refused 18
-  unfolding text_at_lem
+  pub text-bad : is_utf8 s ≡ false → text_at at s ≡ refused 18
+  unfolding text_at
   text-bad e = rw e

@@ -65,5 +65,5 @@ placed at [] = place 0 0
 placed at (x ∷ s) = place at (length (x ∷ s))
 
 -- a single text whose first byte stands at a position: '18 a .. `.dd` value isn't UTF-8'
-unfoldable pub text_at_lem : ℕ → List ℕ → Read Place
-text_at_lem at s = cond (is_utf8 s) (value (placed at s)) (refused 18)
+unfoldable pub text_at : ℕ → List ℕ → Read Place
+text_at at s = cond (is_utf8 s) (value (placed at s)) (refused 18)

@@ -2,7 +2,7 @@
 #![tactic(auto)]
 
 ghost use Rattle.std.specs.Prelude.{◌≡◌, map, ◌^◌, ◌+◌, ◌<◌, length};
-ghost use Rattle.read_text.specs.Text.{start_of, len_of, utf8_next, is_utf8, name_list, text_at_lem};
+ghost use Rattle.read_text.specs.Text.{start_of, len_of, utf8_next, is_utf8, name_list, text_at};
 ghost use Rattle.codes.specs.Lent.{laid};
 ghost use Rattle.read_lists.specs.Kinds.{of_count};
 ghost use Rattle.read_text.specs.Kinds.{of_str, of_utf8_next};
@@ -119,7 +119,7 @@ pub fn is_utf8(input: &[u8]) -> bool
 // The place of a text that starts at `base`.
 pub fn parse_str(input: &[u8], base: u32) -> Str
     requires { base + length input.now < 2 ^ 32 }
-    ensures { of_str result ≡ text_at_lem base input.now }
+    ensures { of_str result ≡ text_at base input.now }
 {
     if is_utf8(input) {
         if input.len() == 0 {

@@ -51,15 +51,15 @@ module _ {f : List ℕ} {ps : List Place} {names : List (List ℕ)} (n : Named f
   names-count = sym (length-map ps (name_at f)) ∙ ap length n.there
 
 module _ {f : List ℕ} {ps qs : List Place} {names others : List (List ℕ)} (m : Named f ps names) (n : Named f qs others) where
-  same_names : (is js : List ℕ) → chosen_names is names ≡ chosen_names js others → same_names f (places.chosen_places is ps) (places.chosen_places js qs) ≡ true
+  same-names : (is js : List ℕ) → chosen_names is names ≡ chosen_names js others → same_names f (places.chosen_places is ps) (places.chosen_places js qs) ≡ true
   unfolding same_names chosen_names places.chosen_places
-  same_names [] js e = refl
-  same_names (i ∷ is) [] e = refl
-  same_names (i ∷ is) (j ∷ js) e =
+  same-names [] js e = refl
+  same-names (i ∷ is) [] e = refl
+  same-names (i ∷ is) (j ∷ js) e =
       let h : get_or names i [] ≡ get_or others j [] = cc in
       let l : (get_or ps i empty_name).len ≡ (get_or qs j empty_name).len = m.long i ∙ ap length h ∙ sym (n.long j) in
-      rw (same-name f (get_or ps i empty_name) (get_or qs j empty_name) (name-at m i ∙ h ∙ sym (name-at n j)) l) (same_names is js (cc))
+      rw (same-name f (get_or ps i empty_name) (get_or qs j empty_name) (name-at m i ∙ h ∙ sym (name-at n j)) l) (same-names is js (cc))
 
   pub names-agree : (is js : List ℕ) → chosen_names is names ≡ chosen_names js others → agree f ps is qs js ≡ true
   unfolding agree
-  names-agree is js e = rw (same_names is js e, or-true (eqb (length qs) 0)) (or-true (eqb (length ps) 0))
+  names-agree is js e = rw (same-names is js e, or-true (eqb (length qs) 0)) (or-true (eqb (length ps) 0))

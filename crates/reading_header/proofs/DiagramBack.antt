@@ -5,7 +5,7 @@ use mathlib.Core.List.{List, [], ◌∷◌}
 use Prim.Native.Nat.{ℕ}
 use lib.ListN.{take, drop}
 use Rattle.codes.specs.Answer.{value}
-use Rattle.read_text.specs.Text.{placed, text_at_lem}
+use Rattle.read_text.specs.Text.{placed, text_at}
 use Rattle.header_faults.specs.Judge.{text_fault}
 use Rattle.export_names.specs.Names.{name_at, fit_name}
 use Rattle.export_names.proofs.FitNames.{fit-utf8}
@@ -15,8 +15,8 @@ use Rattle.reading_header.proofs.Trimming.{trimmed-utf8}
 
 module _ (at : ℕ) (s : List ℕ) (fit : fit_name true s ≡ true) where
   -- The text is read as its place, start 0 and length 0 where nothing is left,
-  pub diagram-back : text_at_lem at (trimmed s) ≡ value (placed at (trimmed s))
-  unfolding text_at_lem
+  pub diagram-back : text_at at (trimmed s) ≡ value (placed at (trimmed s))
+  unfolding text_at
   diagram-back = rw (trimmed-utf8 s (fit-utf8 true s fit))
 
   -- with no fault.

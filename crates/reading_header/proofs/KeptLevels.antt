@@ -40,8 +40,8 @@ module _ (x y : ℕ) (l : List ℕ) where
 module _ (support : List ℕ) where
   -- Kept are the levels of the order that have a line.
   pub kept_in : (x : ℕ) (order : List ℕ) → is_in x (permids_of support order) ≡ (is_in x order && is_in x support)
-  unfolding permids_of seat_of
-  kept_in x [] = refl
+  unfolding permids_of
+  kept_in x [] = rw (in-none x)
   kept_in x (l ∷ order) = go (ℕ_discrete x l) (is_in l support) refl (permids_of support order) (kept_in x order)
     where
       go : Dec (x ≡ l) → (b : Bool) → is_in l support ≡ b → (ls : List ℕ) → is_in x ls ≡ (is_in x order && is_in x support)

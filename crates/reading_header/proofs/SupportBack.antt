@@ -11,7 +11,7 @@ use borrow.Author.Tests.{ltb-true}
 use Rattle.codes.proofs.Bytes.{both}
 use Rattle.seats.specs.Seats.{seat_of}
 use Rattle.seats.specs.Ordered.{ascending}
-use Rattle.support.specs.Support.{last_below, ids_fit, permids_fit, seated, order_from_lem, support_order}
+use Rattle.support.specs.Support.{last_below, ids_fit, permids_fit, seated, order_from, support_order}
 use Rattle.seats.proofs.Seating.{seat-most}
 use Rattle.support.proofs.Ascending.{ids-below}
 use Rattle.header_checks.specs.Names.{up_from}
@@ -131,16 +131,16 @@ module _ (n : ℕ) (order : List ℕ) (perm : is_order n order ≡ true) where
         rw (i, id-there (seat_of p permids - 1) (omega (arith, seat-most p permids)), seat-found p permids s)
     order-one p h false e more = rw (out-seat p permids (kept_in support p order ∙ rw (e, and-false (is_in p order))))
 
-    order_from_lem : (k p : ℕ) → p + k ≡ n → order_from_lem k p ids permids ≡ map (variable_of_level order) (permids_of support (up_from k p))
-    unfolding order_from_lem permids_of up_from
-    order_from_lem zero p e = refl
-    order_from_lem (suc k) p e =
-        rw (order_from_lem k (p + 1) (omega arith)) (order-one p (omega arith) (is_in p support) refl (permids_of support (up_from k (p + 1))))
+    order-from : (k p : ℕ) → p + k ≡ n → order_from k p ids permids ≡ map (variable_of_level order) (permids_of support (up_from k p))
+    unfolding order_from permids_of up_from
+    order-from zero p e = refl
+    order-from (suc k) p e =
+        rw (order-from k (p + 1) (omega arith)) (order-one p (omega arith) (is_in p support) refl (permids_of support (up_from k (p + 1))))
 
     -- 'Support order is `.ids` arranged by ascending permid': the variables of the levels that have a line, as these ascend.
     pub order-back : ids_fit n support ≡ true → support_order n ids permids ≡ map (variable_of_level order) support
     unfolding support_order
-    order-back f = order_from_lem n 0 (omega arith) ∙ ap (map (variable_of_level order)) (up_kept n n 0 support f (all support) (omega arith))
+    order-back f = order-from n 0 (omega arith) ∙ ap (map (variable_of_level order)) (up_kept n n 0 support f (all support) (omega arith))
       where
         all : (l : List ℕ) → From 0 l
         all [] = tt

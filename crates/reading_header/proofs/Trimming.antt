@@ -82,6 +82,7 @@ back-taken {t} (b ∷ s) h e = by (utf8_next t b) refl (next-high b h) e (λ u k
     by : (n : Next Utf8 Bool) → utf8_next t b ≡ n → HighNext n → after n (λ u. runs u s) ≡ true
         → ((u : Utf8) → High u → runs u s ≡ true → runs u (without_back s) ≡ true) → runs t (kept b (without_back s)) ≡ true
     by (go u) g (goes k) f shorter = kept-taken b (without_back s) h g (shorter u k f)
+    by (stop true) g w f shorter = elim w [ ]
     by (stop false) g stops f shorter = absurd (let z : ◌≡◌ {A = ℕ} 0 1 = cc in omega arith)
 
 -- and so may its front.

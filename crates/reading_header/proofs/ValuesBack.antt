@@ -35,9 +35,9 @@ module _ (f : List ℕ) (t : List Span) (k : Key) where
   numbers-in is small few = rw (is, numbers-back small var_limit few)
 
   -- a list of names: the places hold them, and are as long
-  names_in : {max : ℕ} {names : List (List ℕ)} → FewNames max names → value_in f t k ≡ joined names → Named f (names_in max f t k) names
+  names-in : {max : ℕ} {names : List (List ℕ)} → FewNames max names → value_in f t k ≡ joined names → Named f (names_in max f t k) names
   unfolding names_in
-  names_in {names = names} n is =
+  names-in {names = names} n is =
       let at = (span_in t k).start in
       let there = names-there f ((span_in t k).end - at) at names is in
       rw (is, names-back at n) (record { there = there; long = name-length at names })
@@ -58,9 +58,9 @@ module _ {h : Heading} {f : List ℕ} {t : List Span} (fit : Fit h) (v : HeadVal
         ids = numbers-in f t Ids v.ids (ids-small fit) (omega arith);
         permids = numbers-in f t Permids v.permids (levels-small fit) (omega arith);
         auxids = numbers-in f t Auxids v.auxids none (omega arith);
-        varnames = names_in f t Varnames (varnames-few fit) v.varnames;
-        suppvarnames = names_in f t Suppvarnames (suppvarnames-few fit) v.suppvarnames;
-        orderedvarnames = names_in f t Orderedvarnames (orderedvarnames-few fit) v.orderedvarnames;
+        varnames = names-in f t Varnames (varnames-few fit) v.varnames;
+        suppvarnames = names-in f t Suppvarnames (suppvarnames-few fit) v.suppvarnames;
+        orderedvarnames = names-in f t Orderedvarnames (orderedvarnames-few fit) v.orderedvarnames;
         roots = rw (v.rootids, edges-back (roots-small fit) root_limit roots);
-        rootnames = names_in f t Rootnames (rootnames-few fit) v.rootnames;
+        rootnames = names-in f t Rootnames (rootnames-few fit) v.rootnames;
       }

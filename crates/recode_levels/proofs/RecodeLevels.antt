@@ -10,7 +10,7 @@ use Rattle.seats.proofs.Seating.{seat-most}
 use Rattle.seats.proofs.NumberSeats.{seat-found}
 use Rattle.seats.proofs.MappedEntries.{mapped_at}
 use Rattle.seats.proofs.Counting.{unseated-outside, outside-unique}
-use Rattle.support.specs.Support.{IdsAllowed, PermidsAllowed, order_from_lem, support_order}
+use Rattle.support.specs.Support.{IdsAllowed, PermidsAllowed, order_from, support_order}
 use Rattle.support.specs.Order.{ArrangedByPermid}
 use Rattle.support.proofs.ByPermid.{support-arranged}
 use Rattle.variable_names.specs.Rest.{RestPosition}
@@ -20,18 +20,18 @@ use Rattle.recode_levels.specs.Levels.{taken_from, level_list, variable_levels}
 use Rattle.recode_levels.specs.LevelRules.{PermidsAscending, LevelsByPermid}
 
 -- the level list is the permids themselves, in support order
-taken-order : (n p : ℕ) (permids : List ℕ) → taken_from n p permids ≡ order_from_lem n p permids permids
-unfolding taken_from order_from_lem
+taken-order : (n p : ℕ) (permids : List ℕ) → taken_from n p permids ≡ order_from n p permids permids
+unfolding taken_from order_from
 taken-order zero p permids = refl
 taken-order (suc n) p permids = go (taken-order n (p + 1) permids) (seat_of p permids) refl
   where
-    go : taken_from n (p + 1) permids ≡ order_from_lem n (p + 1) permids permids → (s : ℕ) → seat_of p permids ≡ s
-        → taken_from (suc n) p permids ≡ order_from_lem (suc n) p permids permids
-    go q zero e = rw (taken_from, order_from_lem, e) q
+    go : taken_from n (p + 1) permids ≡ order_from n (p + 1) permids permids → (s : ℕ) → seat_of p permids ≡ s
+        → taken_from (suc n) p permids ≡ order_from (suc n) p permids permids
+    go q zero e = rw (taken_from, order_from, e) q
     go q (suc i) e =
         let d : seat_of p permids - 1 ≡ i = omega arith in
         let f : get_or permids i 0 ≡ p = rw d at (seat-found p permids (omega arith)) in
-        rw (taken_from, order_from_lem, e, f) (ap (λ l. p ∷ l) q)
+        rw (taken_from, order_from, e, f) (ap (λ l. p ∷ l) q)
 
 module _ (nvars : ℕ) (permids : List ℕ) (b : PermidsAllowed nvars permids) where
   -- so it is arranged by ascending permid

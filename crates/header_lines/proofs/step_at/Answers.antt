@@ -1,6 +1,5 @@
 -- `step_at` meets its contract: the line, its parts, its key and its fault, read one after the other, are those of `step_at`.
 use native.Mathlib.Omega.{arith}
-use borrow.Author.Rules.{rules}
 use Rattle.header_lines.proofs.Lines.{read-nodes, read-refused, read-value, read_known}
 use Rattle.header_lines.proofs.step_at.Goals as goal
 

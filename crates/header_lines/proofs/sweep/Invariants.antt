@@ -1,10 +1,7 @@
 -- `sweep` meets its contract: before each line the two lists hold the last values of the lines read, and what is left decides.
 use Prim.Native.Nat.{◌-◌}
-use native.Mathlib.Omega.{arith}
-use borrow.Author.Rules.{rules}
-use mathlib.Core.Path.{sym, ap, ◌∙◌}
 use lib.ListN.{length}
-use Rattle.header_lines.proofs.Progress.{Progress, progress_start, progress-value, progress-less, progress-nodes, progress-refused, progress-cut}
+use Rattle.header_lines.proofs.Progress.{Progress}
 use Rattle.header_lines.proofs.sweep.Given as goal
 
 abbrev pub invariant-loop-at : goal.invariant-loop-at

@@ -1,9 +1,6 @@
 -- `list_fits` meets its contract. The invariant: the list has its length, and the levels before i ascend. The measure is what is left.
-use mathlib.Core.Path.{◌≡◌, sym, ◌∙◌}
-use Prim.Native.Nat.{◌-◌}
-use borrow.Author.Rules.{rules}
-use lib.ListN.{length}
-use Rattle.support.proofs.Ascending.{Ascended, ascended-start, ascended-more, unordered, ordered, none-fit}
+use mathlib.Core.Path.{sym, ◌∙◌}
+use Rattle.support.proofs.Ascending.{ascended-start, ascended-more, unordered, ordered, none-fit}
 use Rattle.level_list.proofs.LevelLists.{counted, miscounted}
 use Rattle.level_list.proofs.list_fits.Goals as goal
 

@@ -1,4 +1,4 @@
--- `parse_str` meets its contract: its tests are those of `text_at_lem`.
+-- `parse_str` meets its contract: its tests are those of `text_at`.
 use mathlib.Core.Path.{sym, ◌∙◌}
 use Rattle.read_text.proofs.Texts.{text-empty, text-some, text-bad}
 use Rattle.read_text.proofs.parse_str.Goals as goal

@@ -1,6 +1,5 @@
 -- `byte` meets its contract: beyond the end it is 0.
 use mathlib.Core.Path.{sym}
-use borrow.Author.Rules.{rules}
 use lib.ListN.{get_or-eq_default}
 use Rattle.variable_names.proofs.byte.Goals as goal
 

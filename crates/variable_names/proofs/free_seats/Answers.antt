@@ -1,14 +1,11 @@
 use mathlib.Core.Path.{ap, ◌∙◌}
-use Prim.Native.Nat.{◌-◌}
 use native.Mathlib.Omega.{arith}
-use borrow.Author.Rules.{rules}
 use lib.ListN.{length}
-use mathlib.Core.Logic.{⊎_elim}
 use Rattle.codes.specs.Lent.{laid}
 use Rattle.support.proofs.Arranged.{zeros-counted}
 use Rattle.variable_names.specs.Names.{free_from}
 use Rattle.variable_names.proofs.Gathered.{laying-length}
-use Rattle.variable_names.proofs.Free.{Freeing, freeing-start, freeing-one, freeing-none, freeing-end}
+use Rattle.variable_names.proofs.Free.{freeing-start, freeing-one, freeing-none, freeing-end}
 use Rattle.variable_names.proofs.free_seats.Goals.{else-seats-p-eq0, then-seats-p-eq0}
 use Rattle.variable_names.proofs.free_seats.Goals as goal
 

@@ -1,11 +1,7 @@
 -- `gather` meets its contract. The invariant: the entries at the first i seats lie in the lent list.
 use mathlib.Core.Path.{◌∙◌}
-use mathlib.Core.Logic.{⊎_elim}
-use Prim.Native.Nat.{◌-◌}
 use native.Mathlib.Omega.{arith}
-use borrow.Author.Rules.{rules}
-use lib.ListN.{length}
-use Rattle.variable_names.proofs.Gathered.{laying-length, Gathering, gathering-start, gathering-none, gathering-one, gathering-end}
+use Rattle.variable_names.proofs.Gathered.{laying-length, gathering-start, gathering-none, gathering-one, gathering-end}
 use Rattle.variable_names.proofs.gather.Goals.{else-seats-i-eq0, then-seats-i-eq0}
 use Rattle.variable_names.proofs.gather.Goals as goal
 

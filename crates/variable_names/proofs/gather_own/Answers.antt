@@ -1,8 +1,5 @@
-use Prim.Native.Nat.{◌-◌}
 use native.Mathlib.Omega.{arith}
-use borrow.Author.Rules.{rules}
-use lib.ListN.{take}
-use Rattle.variable_names.proofs.Gathered.{laying-length, Gathering, gathering-start, gathering-own, gathering-owned}
+use Rattle.variable_names.proofs.Gathered.{laying-length, gathering-start, gathering-own, gathering-owned}
 use Rattle.variable_names.proofs.gather_own.Goals as goal
 
 pub loop-i-init : goal.loop-i-init

@@ -1,8 +1,6 @@
 use Prim.Native.Nat.{◌-◌}
-use native.Mathlib.Omega.{arith}
-use borrow.Author.Rules.{rules}
 use lib.ListN.{take}
-use Rattle.variable_names.proofs.Gathered.{laying-length, Gathering, gathering-start, gathering-own, gathering-owned}
+use Rattle.variable_names.proofs.Gathered.{Gathering}
 use Rattle.variable_names.proofs.gather_own.Given as goal
 
 abbrev pub invariant-loop-i : goal.invariant-loop-i

@@ -1,14 +1,6 @@
-use mathlib.Core.Path.{◌≡◌, ap, ◌∙◌}
-use Prim.Native.Nat.{◌-◌, ◌<◌}
-use native.Mathlib.Omega.{arith}
-use borrow.Author.Rules.{rules}
-use lib.ListN.{length, get_or}
-use mathlib.Core.Logic.{⊎_elim}
-use Rattle.codes.specs.Lent.{laid}
-use Rattle.support.proofs.Arranged.{zeros-counted}
-use Rattle.variable_names.specs.Names.{ordered_seats}
-use Rattle.variable_names.proofs.Gathered.{laying-length}
-use Rattle.variable_names.proofs.Free.{seat-fits, free-entry, Ordering, ordering-start, ordering-free, ordering-seated, ordering-end}
+use Prim.Native.Nat.{◌-◌}
+use lib.ListN.{length}
+use Rattle.variable_names.proofs.Free.{Ordering}
 use Rattle.variable_names.proofs.ordered_seats.Given as goal
 
 abbrev pub invariant-loop-v : goal.invariant-loop-v

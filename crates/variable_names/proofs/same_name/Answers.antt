@@ -1,6 +1,5 @@
 -- `same_name` meets its contract: names of one length are alike if their bytes are the same.
 use mathlib.Core.Path.{◌∙◌}
-use borrow.Author.Rules.{rules}
 use Rattle.variable_names.proofs.Alike.{name-unlike, name-alike}
 use Rattle.variable_names.proofs.same_name.Goals as goal
 

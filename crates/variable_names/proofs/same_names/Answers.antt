@@ -1,10 +1,6 @@
 -- `same_names` meets its contract. The invariant: the first i names are alike, and the rest decides.
-use Prim.Native.Nat.{◌-◌}
 use native.Mathlib.Omega.{arith}
-use borrow.Author.Tests.{not-true, not-false}
-use borrow.Author.Rules.{rules}
-use lib.ListN.{length}
-use Rattle.variable_names.proofs.Alike.{NamesLeft, names-start, names_more, names-unlike, names-end}
+use Rattle.variable_names.proofs.Alike.{names-start, names_more, names-unlike, names-end}
 use Rattle.variable_names.proofs.same_names.Goals as goal
 
 pub loop-i-init : goal.loop-i-init

@@ -1,10 +1,9 @@
 -- `is_order` meets its contract. The invariant: the first v entries are levels that differ, so that the others decide, and the table has
 -- their variables. The measure is what is left of the levels.
-use Prim.Native.Nat.{◌-◌, ◌≤◌}
+use Prim.Native.Nat.{◌≤◌}
 use native.Mathlib.Omega.{arith}
-use borrow.Author.Rules.{rules}
 use lib.ListN.{length}
-use Rattle.variable_order.proofs.Ordering.{Ordering, ordering-start, ordering-over, ordering-twice, ordering-more, ordering-end, ordering-seats, order-uneven}
+use Rattle.variable_order.proofs.Ordering.{ordering-start, ordering-over, ordering-twice, ordering-more, ordering-end, ordering-seats, order-uneven}
 use Rattle.variable_order.proofs.is_order.Goals as goal
 
 pub returns-then-order-levels-clause-value : goal.returns-then-order-levels-clause-value

@@ -1,10 +1,8 @@
 -- `is_order` meets its contract. The invariant: the first v entries are levels that differ, so that the others decide, and the table has
 -- their variables. The measure is what is left of the levels.
-use Prim.Native.Nat.{◌-◌, ◌≤◌}
-use native.Mathlib.Omega.{arith}
-use borrow.Author.Rules.{rules}
+use Prim.Native.Nat.{◌-◌}
 use lib.ListN.{length}
-use Rattle.variable_order.proofs.Ordering.{Ordering, ordering-start, ordering-over, ordering-twice, ordering-more, ordering-end, ordering-seats, order-uneven}
+use Rattle.variable_order.proofs.Ordering.{Ordering}
 use Rattle.variable_order.proofs.is_order.Given as goal
 
 abbrev pub invariant-loop-v : goal.invariant-loop-v

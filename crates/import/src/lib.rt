@@ -1,8 +1,7 @@
 // The nodes of a file, read into the store: the Rust's `import`.
 #![tactic(auto)]
 
-ghost use Rattle.codes.specs.Lent.{borrowed, seen};
-ghost use Rattle.import_lines.specs.Promises.{ImportAsks, ImportPromise};
+ghost use Rattle.import_lines.specs.Promises.{ImportAsks, ImportPromise, borrowed, seen};
 
 use edges::{Edge, Index};
 use import_steps::{Imported, Setup};

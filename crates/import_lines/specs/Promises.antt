@@ -4,6 +4,7 @@ use Rattle.store.specs.Store.{Store}
 use Rattle.codes.specs.Limits.{limits}
 use Rattle.store.specs.Rules.{Rules}
 use Rattle.codes.specs.Lent.{Part, old, new}
+pub use Rattle.codes.specs.Lent.{seen, borrowed}
 use Rattle.store.specs.Lent.{store_now, old_store, new_store}
 use Rattle.unique_table.specs.Index.{Finds, width_for}
 use Rattle.slots.specs.Most.{most_nodes}

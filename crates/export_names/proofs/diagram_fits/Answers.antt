@@ -1,6 +1,5 @@
 -- `diagram_fits` meets its contract: the name is a list of one.
 use mathlib.Core.Path.{◌∙◌}
-use borrow.Author.Rules.{rules}
 use Rattle.export_names.proofs.NameLists.{one_name}
 use Rattle.export_names.proofs.diagram_fits.Goals as goal
 

@@ -1,7 +1,5 @@
 -- `list_fits` meets its contract: it counts, and then the names decide.
 use mathlib.Core.Path.{◌∙◌}
-use mathlib.Core.Logic.{⊎_elim}
-use borrow.Author.Rules.{rules}
 use Rattle.export_names.proofs.NameLists.{list-uneven, list-uncounted, list_counted}
 use Rattle.export_names.proofs.list_fits.Goals.{then-lens-ne0+else-lens-want, else-lens-ne0}
 use Rattle.export_names.proofs.list_fits.Goals as goal

@@ -1,8 +1,5 @@
 -- `name_next` meets its contract: its two tests are those of a fit byte.
 use mathlib.Core.Path.{sym, ◌∙◌}
-use mathlib.Core.Logic.{⊎_elim}
-use borrow.Author.Rules.{rules}
-use borrow.Author.Tests.{not-true, not-false}
 use Rattle.export_names.proofs.NameReading.{next-control, next-space, next-fit}
 use Rattle.export_names.proofs.name_next.Goals.{then-b-eq32+else-not-diagram, else-b-eq32}
 use Rattle.export_names.proofs.name_next.Goals as goal

@@ -1,16 +1,11 @@
 -- `names_fit` meets its contract. The outer invariant: the first i names are fit, and the rest decides. The inner one: the first k bytes of
 -- the name are read, and the state and the other bytes decide. The measures are what is left of the names and of the name.
-use mathlib.Core.Path.{◌≡◌, refl, sym, ap, ◌∙◌}
+use mathlib.Core.Path.{◌≡◌}
 use mathlib.Core.Bool.{true}
 use Prim.Native.Nat.{◌-◌}
-use native.Mathlib.Omega.{arith}
-use borrow.Author.Rules.{rules}
-use borrow.Author.Tests.{not-true, not-false}
 use lib.ListN.{length}
-use Rattle.read_text.specs.Kinds.{of_utf8_next}
-use Rattle.read_text.specs.Text.{utf8_end}
-use Rattle.export_names.proofs.NameReading.{Reading, reading-start, reading-more, reading-stops, reading-end}
-use Rattle.export_names.proofs.NameLists.{Checked, checked-start, checked-more, checked-unfit, checked-outside, checked-end}
+use Rattle.export_names.proofs.NameReading.{Reading}
+use Rattle.export_names.proofs.NameLists.{Checked}
 use Rattle.export_names.proofs.names_fit.Given as goal
 
 abbrev pub invariant-loop-k : goal.invariant-loop-k

@@ -1,7 +1,5 @@
 -- `place_fits` meets its contract: each test is one of `fit_span`.
-use mathlib.Core.Logic.{⊎_elim}
 use native.Mathlib.Omega.{arith}
-use borrow.Author.Tests.{not-true, not-false}
 use Rattle.export_names.proofs.NameReading.{span-empty, span-long, span-outside, span-start}
 use Rattle.export_names.proofs.place_fits.Goals.{then-len-eq0+else-not-diagram, else-len-eq0}
 use Rattle.export_names.proofs.place_fits.Goals as goal

@@ -1,5 +1,4 @@
 -- `ascii_in` meets its contract: it compares the value with mode B.
-use borrow.Author.Rules.{rules}
 use Rattle.header_values.proofs.Single.{ascii_by}
 use Rattle.header_values.proofs.ascii_in.Goals as goal
 

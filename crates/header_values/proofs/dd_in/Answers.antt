@@ -1,5 +1,4 @@
 -- `dd_in` meets its contract: the place is the reader's.
-use borrow.Author.Rules.{rules}
 use Rattle.header_values.proofs.Single.{dd-by}
 use Rattle.header_values.proofs.dd_in.Goals as goal
 

@@ -1,5 +1,4 @@
 -- `names_in` meets its contract: both lists are cleared, and so they are zeros when the names are read.
-use borrow.Author.Rules.{rules}
 use lib.ListN.{length}
 use Rattle.header_values.proofs.Padded.{cleared-zeros, cleared-pad}
 use Rattle.header_values.proofs.names_in.Goals as goal

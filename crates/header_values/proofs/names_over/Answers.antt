@@ -1,5 +1,3 @@
-use Prim.Native.Nat.{◌-◌}
-use borrow.Author.Rules.{rules}
 use Rattle.header_values.specs.Values.{spans}
 use Rattle.header_values.proofs.Filled.{names-over-given, names-over-none}
 use Rattle.header_values.proofs.names_over.Goals as goal

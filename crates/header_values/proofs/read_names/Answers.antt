@@ -1,5 +1,4 @@
 -- `read_names` meets its contract: both lists are zeros, and cleared where the names are refused.
-use borrow.Author.Rules.{rules}
 use Rattle.header_values.proofs.Filled.{names-given, names-none}
 use Rattle.header_values.specs.Values.{spans}
 use lib.ListN.{length}

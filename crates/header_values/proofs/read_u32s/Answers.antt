@@ -1,5 +1,4 @@
 -- `read_u32s` meets its contract: the list is zeros, and cleared where the numbers are refused.
-use borrow.Author.Rules.{rules}
 use Rattle.header_values.proofs.Filled.{u32s-given, u32s-none}
 use Rattle.header_values.specs.Values.{spans}
 use lib.ListN.{length}

@@ -1,5 +1,4 @@
 -- `roots_in` meets its contract: the roots lie over the front of the list, and the rest of it is as it was.
-use borrow.Author.Rules.{rules}
 use Rattle.header_values.proofs.Filled.{roots-given, roots-none, roots-read}
 use Rattle.header_values.specs.Values.{spans}
 use Rattle.header_values.proofs.roots_in.Goals as goal

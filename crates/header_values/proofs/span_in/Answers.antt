@@ -1,6 +1,5 @@
 -- `span_in` meets its contract: the entry of the key holds the span.
 use native.Mathlib.Omega.{arith}
-use borrow.Author.Rules.{rules}
 use Rattle.header_values.proofs.Spanned.{span-at, span-within}
 use Rattle.header_values.proofs.span_in.Goals as goal
 

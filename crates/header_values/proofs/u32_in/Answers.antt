@@ -1,5 +1,4 @@
 -- `u32_in` meets its contract: the number is the reader's.
-use borrow.Author.Rules.{rules}
 use Rattle.header_values.proofs.Single.{number_by}
 use Rattle.header_values.proofs.u32_in.Goals as goal
 

@@ -1,5 +1,4 @@
 -- `u32s_in` meets its contract: the list is cleared, and so it is zeros when the numbers are read.
-use borrow.Author.Rules.{rules}
 use lib.ListN.{length}
 use Rattle.header_values.proofs.Padded.{cleared-zeros, cleared-pad}
 use Rattle.header_values.proofs.u32s_in.Goals as goal

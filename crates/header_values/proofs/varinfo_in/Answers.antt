@@ -1,5 +1,4 @@
 -- `varinfo_in` meets its contract: its tests are those of `varinfo_of`.
-use borrow.Author.Rules.{rules}
 use Rattle.header_values.proofs.Single.{varinfo-0, varinfo-1, varinfo-2, varinfo-3, varinfo-4}
 use Rattle.header_values.proofs.varinfo_in.Goals as goal
 

@@ -1,5 +1,4 @@
 -- `header_in` meets its contract.
-use borrow.Author.Rules.{rules}
 use Rattle.header.proofs.Answers.{header_read}
 use Rattle.header.proofs.header_in.Goals as goal
 

@@ -1,6 +1,4 @@
 use mathlib.Core.Path.{sym, ap, ◌∙◌}
-use Prim.Native.Nat.{◌-◌}
-use borrow.Author.Rules.{rules}
 use Rattle.header.specs.Header.{left_by}
 use Rattle.header.specs.Kinds.{of_loaded}
 use Rattle.header.proofs.keep.Goals as goal

@@ -1,6 +1,4 @@
 use mathlib.Core.Path.{sym, ap}
-use Prim.Native.Nat.{◌-◌}
-use borrow.Author.Rules.{rules}
 use Rattle.header_lines.specs.Kinds.{of_swept}
 use Rattle.header.specs.Header.{refused_by}
 use Rattle.header.proofs.refused.Goals as goal

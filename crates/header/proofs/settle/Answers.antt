@@ -1,6 +1,4 @@
 use mathlib.Core.Path.{refl, ap, ◌∙◌}
-use Prim.Native.Nat.{◌-◌}
-use borrow.Author.Rules.{rules}
 use Rattle.header_lines.specs.Kinds.{of_swept}
 use Rattle.header.proofs.Answers.{settle-line, settle-whole, settle-header, left-refused}
 use Rattle.header.proofs.settle.Goals as goal

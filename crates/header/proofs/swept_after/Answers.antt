@@ -1,6 +1,4 @@
 use mathlib.Core.Path.{◌∙◌}
-use Prim.Native.Nat.{◌-◌}
-use borrow.Author.Rules.{rules}
 use Rattle.header_lines.proofs.Tables.{table_none}
 use Rattle.header.proofs.Answers.{swept-found, swept-first}
 use Rattle.header.proofs.swept_after.Goals as goal

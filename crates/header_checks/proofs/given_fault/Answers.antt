@@ -1,6 +1,5 @@
 -- `given_fault` meets its contract: a list that is given is counted.
 use mathlib.Core.Path.{sym, ◌∙◌}
-use borrow.Author.Rules.{rules}
 use Rattle.header_checks.proofs.Refusals.{given-missing, given-counts}
 use Rattle.header_checks.proofs.given_fault.Goals as goal
 

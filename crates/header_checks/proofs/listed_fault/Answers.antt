@@ -1,7 +1,5 @@
 use mathlib.Core.Path.{ap}
-use Prim.Native.Nat.{◌-◌}
 use lib.ListN.{length}
-use borrow.Author.Rules.{rules}
 use Rattle.header_values.specs.Values.{spans}
 use Rattle.header_checks.specs.Whole.{IdsRead}
 use Rattle.header_checks.proofs.Supporting.{CountsPass, ids-wrong, permids-wrong, counted, auxids-wrong, counts-pass}

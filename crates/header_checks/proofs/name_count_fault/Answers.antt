@@ -1,5 +1,4 @@
 -- `name_count_fault` meets its contract.
-use borrow.Author.Rules.{rules}
 use Rattle.header_checks.proofs.NameCounts.{ordered-wrong, supp-wrong, counts-pass}
 use Rattle.header_checks.proofs.name_count_fault.Goals as goal
 

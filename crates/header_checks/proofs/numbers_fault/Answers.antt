@@ -1,5 +1,3 @@
-use Prim.Native.Nat.{◌-◌}
-use borrow.Author.Rules.{rules}
 use Rattle.header_checks.proofs.Checked.{numbers-are}
 use Rattle.header_checks.proofs.numbers_fault.Goals as goal
 

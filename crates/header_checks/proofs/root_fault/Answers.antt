@@ -1,6 +1,4 @@
 use mathlib.Core.Path.{refl, ◌∙◌}
-use Prim.Native.Nat.{◌-◌}
-use borrow.Author.Rules.{rules}
 use Rattle.codes.proofs.Faults.{refuses, passes}
 use Rattle.header_checks.proofs.Rooted.{front-reach, front-count, roots-wrong, root-unfit, roots-pass}
 use Rattle.header_checks.proofs.root_fault.Goals as goal

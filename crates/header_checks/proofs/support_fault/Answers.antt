@@ -1,5 +1,3 @@
-use Prim.Native.Nat.{◌-◌}
-use borrow.Author.Rules.{rules}
 use Rattle.header_keys.specs.declared.Key.TheVariants.{Ids, Permids}
 use Rattle.header_checks.proofs.Supporting.{read_fits, read_is, read-long}
 use Rattle.header_checks.proofs.support_fault.Goals as goal

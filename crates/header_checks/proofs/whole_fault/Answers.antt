@@ -1,6 +1,4 @@
 use mathlib.Core.Path.{sym, ◌∙◌}
-use Prim.Native.Nat.{◌-◌}
-use borrow.Author.Rules.{rules}
 use Rattle.header_keys.specs.declared.Key.TheVariants.{Ids, Permids}
 use Rattle.header_checks.proofs.Numbered.{few_vars}
 use Rattle.header_checks.proofs.Supporting.{read_fits, read_is, read-long, ids-number, permids-number}

@@ -1,7 +1,5 @@
 use mathlib.Core.Path.{◌∙◌}
-use Prim.Native.Nat.{◌-◌}
 use native.Mathlib.Omega.{arith}
-use borrow.Author.Rules.{rules}
 use Rattle.header_keys.specs.declared.Key.TheVariants.{Ids, Permids, Auxids}
 use Rattle.support.specs.Support.{support_order}
 use Rattle.header_values.specs.Values.{spans, nvars_in, u32s_in}

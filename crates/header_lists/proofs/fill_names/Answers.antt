@@ -1,7 +1,5 @@
-use Prim.Native.Nat.{◌-◌}
 use native.Mathlib.Omega.{arith}
 use lib.ListN.{length}
-use borrow.Author.Rules.{rules}
 use Rattle.read_text.specs.Text.{start_of, len_of}
 use Rattle.header_values.specs.Values.{spans}
 use Rattle.header_lists.proofs.Naming.{filled-varnames, seated-known, seated-room, named}

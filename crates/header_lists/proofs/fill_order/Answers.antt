@@ -1,8 +1,6 @@
 use mathlib.Core.Path.{◌≡◌, ◌∙◌}
-use Prim.Native.Nat.{◌-◌}
 use native.Mathlib.Omega.{arith}
 use lib.ListN.{length, take}
-use borrow.Author.Rules.{rules}
 use lib.ListN.{length-take}
 use Rattle.header_lists.proofs.Filling.{permids_few, order-laid}
 use Rattle.header_lists.proofs.fill_order.Goals as goal

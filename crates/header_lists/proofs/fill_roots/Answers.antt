@@ -1,5 +1,4 @@
 -- `fill_roots` meets its contract: the roots are the front of the list that they were read into.
-use borrow.Author.Rules.{rules}
 use lib.ListN.{length}
 use Rattle.header_lists.proofs.Filling.{roots_do_fit, roots_long, roots-laid}
 use Rattle.header_lists.proofs.fill_roots.Goals as goal

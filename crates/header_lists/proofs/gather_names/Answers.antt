@@ -1,7 +1,5 @@
-use Prim.Native.Nat.{◌-◌}
 use native.Mathlib.Omega.{arith}
 use lib.ListN.{take}
-use borrow.Author.Rules.{rules}
 use lib.ListN.{length-take}
 use Rattle.header_checks.proofs.Agreeing.{starts_long, lens_long}
 use Rattle.header_lists.proofs.Filling.{starts-laid, lens-laid}

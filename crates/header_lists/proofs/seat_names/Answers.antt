@@ -1,8 +1,6 @@
 use mathlib.Core.Path.{◌≡◌, refl, sym, ◌∙◌}
-use Prim.Native.Nat.{◌-◌}
 use native.Mathlib.Omega.{arith}
 use lib.ListN.{length, take}
-use borrow.Author.Rules.{rules}
 use mathlib.Core.Logic.{inl, inr}
 use lib.ListN.{length-take}
 use Rattle.header_lists.proofs.Filling.{permids-below, ids_few, permids_few, supp-laid, ordered-laid}

@@ -1,8 +1,6 @@
 use mathlib.Core.Path.{sym, ap, ◌∙◌}
-use Prim.Native.Nat.{◌-◌}
 use native.Mathlib.Omega.{arith}
 use lib.ListN.{length}
-use borrow.Author.Rules.{rules}
 use mathlib.Core.List.{map}
 use Rattle.header_keys.specs.declared.Key.TheVariants.{Ids, Permids, Auxids}
 use Rattle.header_lines.specs.Kinds.{of_swept}

@@ -1,5 +1,3 @@
-use Prim.Native.Nat.{◌-◌}
-use borrow.Author.Rules.{rules}
 use Rattle.variable_names.specs.Names.{places}
 use Rattle.header_checks.proofs.Agreeing.{places-long, first-missing, second-missing, both-given}
 use Rattle.header_checks.proofs.names.agree.Goals as goal

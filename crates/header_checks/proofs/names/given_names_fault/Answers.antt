@@ -1,5 +1,3 @@
-use Prim.Native.Nat.{◌-◌}
-use borrow.Author.Rules.{rules}
 use Rattle.header_checks.proofs.Agreeing.{counts-refused, supp-like, supp-unlike}
 use Rattle.header_checks.proofs.names.given_names_fault.Goals as goal
 

@@ -1,6 +1,4 @@
-use Prim.Native.Nat.{◌-◌}
 use native.Mathlib.Omega.{arith}
-use borrow.Author.Rules.{rules}
 use Rattle.header_checks.proofs.Agreeing.{permids-ids, names-judged}
 use Rattle.header_checks.proofs.names.name_fault.Goals as goal
 

@@ -1,6 +1,4 @@
-use Prim.Native.Nat.{◌-◌}
 use native.Mathlib.Omega.{arith}
-use borrow.Author.Rules.{rules}
 use Rattle.header_keys.specs.declared.Key.TheVariants.{Orderedvarnames, Suppvarnames}
 use Rattle.header_checks.proofs.Agreeing.{names-room, starts_fit, lens-fit, starts_long, lens_long, names-held}
 use Rattle.header_checks.proofs.names.ordered_fault.Goals as goal

@@ -1,6 +1,4 @@
-use Prim.Native.Nat.{◌-◌}
 use lib.ListN.{length}
-use borrow.Author.Rules.{rules}
 use Rattle.variable_names.specs.Names.{places}
 use Rattle.header_checks.specs.Names.{up_from}
 use Rattle.header_checks.proofs.Agreeing.{places-long, first-missing, second-missing, both-given}

@@ -1,4 +1,3 @@
-use Prim.Native.Nat.{◌-◌}
 use Rattle.header_checks.proofs.Agreeing.{first-unlike, second-unlike, both-like}
 use mathlib.Core.Bool.{not}
 use mathlib.Core.Path.{ap}

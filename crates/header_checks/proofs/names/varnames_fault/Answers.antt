@@ -1,6 +1,4 @@
-use Prim.Native.Nat.{◌-◌}
 use native.Mathlib.Omega.{arith}
-use borrow.Author.Rules.{rules}
 use Rattle.codes.specs.Limits.{var_limit}
 use Rattle.header_keys.specs.declared.Key.TheVariants.{Varnames, Orderedvarnames, Suppvarnames}
 use Rattle.header_values.specs.Values.{spans}

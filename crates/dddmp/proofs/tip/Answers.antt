@@ -10,6 +10,6 @@ shape_of-work c =
 pub returns : goal.returns
 returns c =
     record {
-  answer = rw (to_z-of_z c.ranges.root) at c.tip.ensures.answer;
-  work_left = c.tip.ensures.work_left;
-}
+      answer = rw (to_z-of_z c.ranges.root) at c.tip.ensures.answer;
+      work_left = c.tip.ensures.work_left;
+    }

@@ -39,10 +39,10 @@ pub returns-then-not-roots_fit : goal.returns-then-not-roots_fit
 unfolding long_enough
 returns-then-not-roots_fit c =
     record {
-  answer = refused-root _ _ _ _ _ _ _ (let h : long_enough (store c.args.levels c.args.count c.args.level.now c.args.then.now c.args.els.now c.args.next.now c.args.heads.now) c.args.roots.now (lent c.args.bytes.now c.args.starts.now c.args.lens.now c.args.rootstarts.now c.args.rootlens.now (of_place c.args.dd)) c.args.slots c.args.numbers c.args.out ≡ true = held c.long_enough.ensures (ap not c.if-not-long_enough.false) in h) (let h : keeps limits (store c.args.levels c.args.count c.args.level.now c.args.then.now c.args.els.now c.args.next.now c.args.heads.now) ≡ true = held c.keeps_rules.ensures.kept (ap not c.if-not-keeps_rules.false) in h)
-      (failed c.roots_fit.ensures (ap not c.if-not-roots_fit.true));
-  vars_left = tt;
-}
+      answer = refused-root _ _ _ _ _ _ _ (let h : long_enough (store c.args.levels c.args.count c.args.level.now c.args.then.now c.args.els.now c.args.next.now c.args.heads.now) c.args.roots.now (lent c.args.bytes.now c.args.starts.now c.args.lens.now c.args.rootstarts.now c.args.rootlens.now (of_place c.args.dd)) c.args.slots c.args.numbers c.args.out ≡ true = held c.long_enough.ensures (ap not c.if-not-long_enough.false) in h) (let h : keeps limits (store c.args.levels c.args.count c.args.level.now c.args.then.now c.args.els.now c.args.next.now c.args.heads.now) ≡ true = held c.keeps_rules.ensures.kept (ap not c.if-not-keeps_rules.false) in h)
+          (failed c.roots_fit.ensures (ap not c.if-not-roots_fit.true));
+      vars_left = tt;
+    }
 
 pub is_order-requires : goal.is_order-requires
 is_order-requires c =
@@ -61,11 +61,11 @@ pub returns-then-not-is_order : goal.returns-then-not-is_order
 unfolding long_enough
 returns-then-not-is_order c =
     record {
-  answer = refused-order _ _ _ _ _ _ _ (let h : long_enough (store c.args.levels c.args.count c.args.level.now c.args.then.now c.args.els.now c.args.next.now c.args.heads.now) c.args.roots.now (lent c.args.bytes.now c.args.starts.now c.args.lens.now c.args.rootstarts.now c.args.rootlens.now (of_place c.args.dd)) c.args.slots c.args.numbers c.args.out ≡ true = held c.long_enough.ensures (ap not c.if-not-long_enough.false) in h) (let h : keeps limits (store c.args.levels c.args.count c.args.level.now c.args.then.now c.args.els.now c.args.next.now c.args.heads.now) ≡ true = held c.keeps_rules.ensures.kept (ap not c.if-not-keeps_rules.false) in h)
-      (let h : roots_fit c.args.count c.args.roots.now ≡ true = held c.roots_fit.ensures (ap not c.if-not-roots_fit.false) in h)
-      (failed c.is_order.ensures.value (ap not c.if-not-is_order.true));
-  vars_left = tt;
-}
+      answer = refused-order _ _ _ _ _ _ _ (let h : long_enough (store c.args.levels c.args.count c.args.level.now c.args.then.now c.args.els.now c.args.next.now c.args.heads.now) c.args.roots.now (lent c.args.bytes.now c.args.starts.now c.args.lens.now c.args.rootstarts.now c.args.rootlens.now (of_place c.args.dd)) c.args.slots c.args.numbers c.args.out ≡ true = held c.long_enough.ensures (ap not c.if-not-long_enough.false) in h) (let h : keeps limits (store c.args.levels c.args.count c.args.level.now c.args.then.now c.args.els.now c.args.next.now c.args.heads.now) ≡ true = held c.keeps_rules.ensures.kept (ap not c.if-not-keeps_rules.false) in h)
+          (let h : roots_fit c.args.count c.args.roots.now ≡ true = held c.roots_fit.ensures (ap not c.if-not-roots_fit.false) in h)
+          (failed c.is_order.ensures.value (ap not c.if-not-is_order.true));
+      vars_left = tt;
+    }
 
 pub shape_of-vars-then-not-names_fit : goal.shape_of-vars-then-not-names_fit
 shape_of-vars-then-not-names_fit c =
@@ -79,10 +79,10 @@ pub returns-then-not-names_fit : goal.returns-then-not-names_fit
 unfolding long_enough names_fit
 returns-then-not-names_fit c =
     record {
-  answer = refused-name _ _ _ _ _ _ _ (let h : long_enough (store c.args.levels c.args.count c.args.level.now c.args.then.now c.args.els.now c.args.next.now c.args.heads.now) c.args.roots.now (lent c.args.bytes.now c.args.starts.now c.args.lens.now c.args.rootstarts.now c.args.rootlens.now (of_place c.args.dd)) c.args.slots c.args.numbers c.args.out ≡ true = held c.long_enough.ensures (ap not c.if-not-long_enough.false) in h) (let h : keeps limits (store c.args.levels c.args.count c.args.level.now c.args.then.now c.args.els.now c.args.next.now c.args.heads.now) ≡ true = held c.keeps_rules.ensures.kept (ap not c.if-not-keeps_rules.false) in h)
-      (let h : roots_fit c.args.count c.args.roots.now ≡ true = held c.roots_fit.ensures (ap not c.if-not-roots_fit.false) in h) (let h : is_order c.args.levels c.args.order.now ≡ true = held c.is_order.ensures.value (ap not c.if-not-is_order.false) in h) (let h : names_fit (store c.args.levels c.args.count c.args.level.now c.args.then.now c.args.els.now c.args.next.now c.args.heads.now) c.args.roots.now (lent c.args.bytes.now c.args.starts.now c.args.lens.now c.args.rootstarts.now c.args.rootlens.now (of_place c.args.dd)) ≡ false = failed c.names_fit.ensures (ap not c.if-not-names_fit.true) in h);
-  vars_left = tt;
-}
+      answer = refused-name _ _ _ _ _ _ _ (let h : long_enough (store c.args.levels c.args.count c.args.level.now c.args.then.now c.args.els.now c.args.next.now c.args.heads.now) c.args.roots.now (lent c.args.bytes.now c.args.starts.now c.args.lens.now c.args.rootstarts.now c.args.rootlens.now (of_place c.args.dd)) c.args.slots c.args.numbers c.args.out ≡ true = held c.long_enough.ensures (ap not c.if-not-long_enough.false) in h) (let h : keeps limits (store c.args.levels c.args.count c.args.level.now c.args.then.now c.args.els.now c.args.next.now c.args.heads.now) ≡ true = held c.keeps_rules.ensures.kept (ap not c.if-not-keeps_rules.false) in h)
+          (let h : roots_fit c.args.count c.args.roots.now ≡ true = held c.roots_fit.ensures (ap not c.if-not-roots_fit.false) in h) (let h : is_order c.args.levels c.args.order.now ≡ true = held c.is_order.ensures.value (ap not c.if-not-is_order.false) in h) (let h : names_fit (store c.args.levels c.args.count c.args.level.now c.args.then.now c.args.els.now c.args.next.now c.args.heads.now) c.args.roots.now (lent c.args.bytes.now c.args.starts.now c.args.lens.now c.args.rootstarts.now c.args.rootlens.now (of_place c.args.dd)) ≡ false = failed c.names_fit.ensures (ap not c.if-not-names_fit.true) in h);
+      vars_left = tt;
+    }
 
 pub shape_of-vars : goal.shape_of-vars
 shape_of-vars c =
@@ -96,8 +96,8 @@ pub returns : goal.returns
 unfolding long_enough names_fit
 returns c =
     record {
-  answer = refused_none _ _ _ _ _ _ _ (let h : long_enough (store c.args.levels c.args.count c.args.level.now c.args.then.now c.args.els.now c.args.next.now c.args.heads.now) c.args.roots.now (lent c.args.bytes.now c.args.starts.now c.args.lens.now c.args.rootstarts.now c.args.rootlens.now (of_place c.args.dd)) c.args.slots c.args.numbers c.args.out ≡ true = held c.long_enough.ensures (ap not c.if-not-long_enough.false) in h) (let h : keeps limits (store c.args.levels c.args.count c.args.level.now c.args.then.now c.args.els.now c.args.next.now c.args.heads.now) ≡ true = held c.keeps_rules.ensures.kept (ap not c.if-not-keeps_rules.false) in h)
-      (let h : roots_fit c.args.count c.args.roots.now ≡ true = held c.roots_fit.ensures (ap not c.if-not-roots_fit.false) in h) (let h : is_order c.args.levels c.args.order.now ≡ true = held c.is_order.ensures.value (ap not c.if-not-is_order.false) in h) (let h : names_fit (store c.args.levels c.args.count c.args.level.now c.args.then.now c.args.els.now c.args.next.now c.args.heads.now) c.args.roots.now (lent c.args.bytes.now c.args.starts.now c.args.lens.now c.args.rootstarts.now c.args.rootlens.now (of_place c.args.dd)) ≡ true = held c.names_fit.ensures (ap not c.if-not-names_fit.false) in h);
-  vars_left = seats-there c.is_order.result _ _ (ap not c.if-not-is_order.false)
-      c.is_order.ensures.seats_if;
-}
+      answer = refused_none _ _ _ _ _ _ _ (let h : long_enough (store c.args.levels c.args.count c.args.level.now c.args.then.now c.args.els.now c.args.next.now c.args.heads.now) c.args.roots.now (lent c.args.bytes.now c.args.starts.now c.args.lens.now c.args.rootstarts.now c.args.rootlens.now (of_place c.args.dd)) c.args.slots c.args.numbers c.args.out ≡ true = held c.long_enough.ensures (ap not c.if-not-long_enough.false) in h) (let h : keeps limits (store c.args.levels c.args.count c.args.level.now c.args.then.now c.args.els.now c.args.next.now c.args.heads.now) ≡ true = held c.keeps_rules.ensures.kept (ap not c.if-not-keeps_rules.false) in h)
+          (let h : roots_fit c.args.count c.args.roots.now ≡ true = held c.roots_fit.ensures (ap not c.if-not-roots_fit.false) in h) (let h : is_order c.args.levels c.args.order.now ≡ true = held c.is_order.ensures.value (ap not c.if-not-is_order.false) in h) (let h : names_fit (store c.args.levels c.args.count c.args.level.now c.args.then.now c.args.els.now c.args.next.now c.args.heads.now) c.args.roots.now (lent c.args.bytes.now c.args.starts.now c.args.lens.now c.args.rootstarts.now c.args.rootlens.now (of_place c.args.dd)) ≡ true = held c.names_fit.ensures (ap not c.if-not-names_fit.false) in h);
+      vars_left = seats-there c.is_order.result _ _ (ap not c.if-not-is_order.false)
+          c.is_order.ensures.seats_if;
+    }

@@ -75,8 +75,8 @@ shape_of-work c =
 pub returns : goal.returns
 returns c =
     record {
-  answer = c.load_answer.ensures ∙ ap of_load_answer c.load.ensures.answer;
-  store = c.load.ensures.store;
-  lists = c.load.ensures.lists;
-  work_left = c.load.ensures.work_left;
-}
+      answer = c.load_answer.ensures ∙ ap of_load_answer c.load.ensures.answer;
+      store = c.load.ensures.store;
+      lists = c.load.ensures.lists;
+      work_left = c.load.ensures.work_left;
+    }

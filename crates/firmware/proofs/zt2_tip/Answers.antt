@@ -9,6 +9,6 @@ shape_of-work c =
 pub returns : goal.returns
 returns c =
     record {
-  answer = rw (c.tip_answer.ensures, c.tip.ensures.answer, to_z-of_z c.ranges.root);
-  work_left = c.tip.ensures.work_left;
-}
+      answer = rw (c.tip_answer.ensures, c.tip.ensures.answer, to_z-of_z c.ranges.root);
+      work_left = c.tip.ensures.work_left;
+    }

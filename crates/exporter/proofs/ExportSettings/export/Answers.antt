@@ -34,12 +34,12 @@ shape_of-work-then-refused-ne0 c =
 pub returns-then-refused-ne0 : goal.returns-then-refused-ne0
 returns-then-refused-ne0 c =
     record {
-  answer = (let h : (AsLeft (export_of limits (export_into (of_settings c.args.self) c.args.roots.now c.args.order.now (lent c.args.bytes.now c.args.starts.now c.args.lens.now c.args.rootstarts.now c.args.rootlens.now (of_place c.args.self.dd)) (length c.args.slots.now) (length c.args.numbers.now) (length c.args.out.now)) (store c.args.levels c.args.count c.args.level.now c.args.then.now c.args.els.now c.args.next.now c.args.heads.now)) (Refused c.export_fault-refused.result) c.clear_bytes.new.bytes) = promised-none (store c.args.levels c.args.count c.args.level.now c.args.then.now c.args.els.now c.args.next.now c.args.heads.now) c.args.roots.now c.args.order.now (lent c.args.bytes.now c.args.starts.now c.args.lens.now c.args.rootstarts.now c.args.rootlens.now (of_place c.args.self.dd)) (let h : length c.clear_marks.new.marks ≡ length c.args.slots.now = c.clear_marks.auto.marks in h) (let h : length c.clear_marks-2.new.marks ≡ length c.args.numbers.now = c.clear_marks-2.auto.marks in h) (let h : length c.clear_bytes.new.bytes ≡ length c.args.out.now = c.clear_bytes.auto.bytes in h) (let h : c.export_fault-refused.result ≡ (export_fault limits (store c.args.levels c.args.count c.args.level.now c.args.then.now c.args.els.now c.args.next.now c.args.heads.now) c.args.roots.now c.args.order.now (lent c.args.bytes.now c.args.starts.now c.args.lens.now c.args.rootstarts.now c.args.rootlens.now (of_place c.args.self.dd)) (length c.clear_marks.new.marks) (length c.clear_marks-2.new.marks) (length c.clear_bytes.new.bytes)) = c.export_fault-refused.ensures.answer in h) (of_settings c.args.self) c.if-refused-ne0.true c.clear_bytes.ensures in h).0;
-  out_left = (let h : (AsLeft (export_of limits (export_into (of_settings c.args.self) c.args.roots.now c.args.order.now (lent c.args.bytes.now c.args.starts.now c.args.lens.now c.args.rootstarts.now c.args.rootlens.now (of_place c.args.self.dd)) (length c.args.slots.now) (length c.args.numbers.now) (length c.args.out.now)) (store c.args.levels c.args.count c.args.level.now c.args.then.now c.args.els.now c.args.next.now c.args.heads.now)) (Refused c.export_fault-refused.result) c.clear_bytes.new.bytes) = promised-none (store c.args.levels c.args.count c.args.level.now c.args.then.now c.args.els.now c.args.next.now c.args.heads.now) c.args.roots.now c.args.order.now (lent c.args.bytes.now c.args.starts.now c.args.lens.now c.args.rootstarts.now c.args.rootlens.now (of_place c.args.self.dd)) (let h : length c.clear_marks.new.marks ≡ length c.args.slots.now = c.clear_marks.auto.marks in h) (let h : length c.clear_marks-2.new.marks ≡ length c.args.numbers.now = c.clear_marks-2.auto.marks in h) (let h : length c.clear_bytes.new.bytes ≡ length c.args.out.now = c.clear_bytes.auto.bytes in h) (let h : c.export_fault-refused.result ≡ (export_fault limits (store c.args.levels c.args.count c.args.level.now c.args.then.now c.args.els.now c.args.next.now c.args.heads.now) c.args.roots.now c.args.order.now (lent c.args.bytes.now c.args.starts.now c.args.lens.now c.args.rootstarts.now c.args.rootlens.now (of_place c.args.self.dd)) (length c.clear_marks.new.marks) (length c.clear_marks-2.new.marks) (length c.clear_bytes.new.bytes)) = c.export_fault-refused.ensures.answer in h) (of_settings c.args.self) c.if-refused-ne0.true c.clear_bytes.ensures in h).1;
-  slots_left = c.clear_marks.ensures;
-  numbers_left = c.clear_marks-2.ensures;
-  work_left = (let h : c.clear_marks-3.new.marks ≡ replicate (length c.args.work.now) 0 = c.clear_marks-3.ensures ∙ ap (λ n. replicate n 0) c.export_fault-refused.auto.work in h);
-}
+      answer = (let h : (AsLeft (export_of limits (export_into (of_settings c.args.self) c.args.roots.now c.args.order.now (lent c.args.bytes.now c.args.starts.now c.args.lens.now c.args.rootstarts.now c.args.rootlens.now (of_place c.args.self.dd)) (length c.args.slots.now) (length c.args.numbers.now) (length c.args.out.now)) (store c.args.levels c.args.count c.args.level.now c.args.then.now c.args.els.now c.args.next.now c.args.heads.now)) (Refused c.export_fault-refused.result) c.clear_bytes.new.bytes) = promised-none (store c.args.levels c.args.count c.args.level.now c.args.then.now c.args.els.now c.args.next.now c.args.heads.now) c.args.roots.now c.args.order.now (lent c.args.bytes.now c.args.starts.now c.args.lens.now c.args.rootstarts.now c.args.rootlens.now (of_place c.args.self.dd)) (let h : length c.clear_marks.new.marks ≡ length c.args.slots.now = c.clear_marks.auto.marks in h) (let h : length c.clear_marks-2.new.marks ≡ length c.args.numbers.now = c.clear_marks-2.auto.marks in h) (let h : length c.clear_bytes.new.bytes ≡ length c.args.out.now = c.clear_bytes.auto.bytes in h) (let h : c.export_fault-refused.result ≡ (export_fault limits (store c.args.levels c.args.count c.args.level.now c.args.then.now c.args.els.now c.args.next.now c.args.heads.now) c.args.roots.now c.args.order.now (lent c.args.bytes.now c.args.starts.now c.args.lens.now c.args.rootstarts.now c.args.rootlens.now (of_place c.args.self.dd)) (length c.clear_marks.new.marks) (length c.clear_marks-2.new.marks) (length c.clear_bytes.new.bytes)) = c.export_fault-refused.ensures.answer in h) (of_settings c.args.self) c.if-refused-ne0.true c.clear_bytes.ensures in h).0;
+      out_left = (let h : (AsLeft (export_of limits (export_into (of_settings c.args.self) c.args.roots.now c.args.order.now (lent c.args.bytes.now c.args.starts.now c.args.lens.now c.args.rootstarts.now c.args.rootlens.now (of_place c.args.self.dd)) (length c.args.slots.now) (length c.args.numbers.now) (length c.args.out.now)) (store c.args.levels c.args.count c.args.level.now c.args.then.now c.args.els.now c.args.next.now c.args.heads.now)) (Refused c.export_fault-refused.result) c.clear_bytes.new.bytes) = promised-none (store c.args.levels c.args.count c.args.level.now c.args.then.now c.args.els.now c.args.next.now c.args.heads.now) c.args.roots.now c.args.order.now (lent c.args.bytes.now c.args.starts.now c.args.lens.now c.args.rootstarts.now c.args.rootlens.now (of_place c.args.self.dd)) (let h : length c.clear_marks.new.marks ≡ length c.args.slots.now = c.clear_marks.auto.marks in h) (let h : length c.clear_marks-2.new.marks ≡ length c.args.numbers.now = c.clear_marks-2.auto.marks in h) (let h : length c.clear_bytes.new.bytes ≡ length c.args.out.now = c.clear_bytes.auto.bytes in h) (let h : c.export_fault-refused.result ≡ (export_fault limits (store c.args.levels c.args.count c.args.level.now c.args.then.now c.args.els.now c.args.next.now c.args.heads.now) c.args.roots.now c.args.order.now (lent c.args.bytes.now c.args.starts.now c.args.lens.now c.args.rootstarts.now c.args.rootlens.now (of_place c.args.self.dd)) (length c.clear_marks.new.marks) (length c.clear_marks-2.new.marks) (length c.clear_bytes.new.bytes)) = c.export_fault-refused.ensures.answer in h) (of_settings c.args.self) c.if-refused-ne0.true c.clear_bytes.ensures in h).1;
+      slots_left = c.clear_marks.ensures;
+      numbers_left = c.clear_marks-2.ensures;
+      work_left = (let h : c.clear_marks-3.new.marks ≡ replicate (length c.args.work.now) 0 = c.clear_marks-3.ensures ∙ ap (λ n. replicate n 0) c.export_fault-refused.auto.work in h);
+    }
 
 pub slice_bounds-write_file-end : goal.slice_bounds-write_file-end
 slice_bounds-write_file-end c =
@@ -83,9 +83,9 @@ shape_of-work c =
 pub returns : goal.returns
 returns c =
     record {
-  answer = (let h : (AsLeft (export_of limits (export_into (of_settings c.args.self) c.args.roots.now c.args.order.now (lent c.args.bytes.now c.args.starts.now c.args.lens.now c.args.rootstarts.now c.args.rootlens.now (of_place c.args.self.dd)) (length c.args.slots.now) (length c.args.numbers.now) (length c.args.out.now)) (store c.args.levels c.args.count c.args.level.now c.args.then.now c.args.els.now c.args.next.now c.args.heads.now)) (Written c.write_file-n.result) c.write_file-n.new.out) = promised-file (store c.args.levels c.args.count c.args.level.now c.args.then.now c.args.els.now c.args.next.now c.args.heads.now) c.args.roots.now c.args.order.now (lent c.args.bytes.now c.args.starts.now c.args.lens.now c.args.rootstarts.now c.args.rootlens.now (of_place c.args.self.dd)) (let h : length c.clear_marks.new.marks ≡ length c.args.slots.now = c.clear_marks.auto.marks in h) (let h : length c.clear_marks-2.new.marks ≡ length c.args.numbers.now = c.clear_marks-2.auto.marks in h) (let h : length c.clear_bytes.new.bytes ≡ length c.args.out.now = c.clear_bytes.auto.bytes in h) (let h : c.export_fault-refused.result ≡ (export_fault limits (store c.args.levels c.args.count c.args.level.now c.args.then.now c.args.els.now c.args.next.now c.args.heads.now) c.args.roots.now c.args.order.now (lent c.args.bytes.now c.args.starts.now c.args.lens.now c.args.rootstarts.now c.args.rootlens.now (of_place c.args.self.dd)) (length c.clear_marks.new.marks) (length c.clear_marks-2.new.marks) (length c.clear_bytes.new.bytes)) = c.export_fault-refused.ensures.answer in h) (let h : c.export_fault-refused.result ≡ 0 = c.if-refused-ne0.false in h) (of_settings c.args.self) c.write_file-n.ensures.answer c.write_file-n.ensures.out_left in h).0;
-  out_left = (let h : (AsLeft (export_of limits (export_into (of_settings c.args.self) c.args.roots.now c.args.order.now (lent c.args.bytes.now c.args.starts.now c.args.lens.now c.args.rootstarts.now c.args.rootlens.now (of_place c.args.self.dd)) (length c.args.slots.now) (length c.args.numbers.now) (length c.args.out.now)) (store c.args.levels c.args.count c.args.level.now c.args.then.now c.args.els.now c.args.next.now c.args.heads.now)) (Written c.write_file-n.result) c.write_file-n.new.out) = promised-file (store c.args.levels c.args.count c.args.level.now c.args.then.now c.args.els.now c.args.next.now c.args.heads.now) c.args.roots.now c.args.order.now (lent c.args.bytes.now c.args.starts.now c.args.lens.now c.args.rootstarts.now c.args.rootlens.now (of_place c.args.self.dd)) (let h : length c.clear_marks.new.marks ≡ length c.args.slots.now = c.clear_marks.auto.marks in h) (let h : length c.clear_marks-2.new.marks ≡ length c.args.numbers.now = c.clear_marks-2.auto.marks in h) (let h : length c.clear_bytes.new.bytes ≡ length c.args.out.now = c.clear_bytes.auto.bytes in h) (let h : c.export_fault-refused.result ≡ (export_fault limits (store c.args.levels c.args.count c.args.level.now c.args.then.now c.args.els.now c.args.next.now c.args.heads.now) c.args.roots.now c.args.order.now (lent c.args.bytes.now c.args.starts.now c.args.lens.now c.args.rootstarts.now c.args.rootlens.now (of_place c.args.self.dd)) (length c.clear_marks.new.marks) (length c.clear_marks-2.new.marks) (length c.clear_bytes.new.bytes)) = c.export_fault-refused.ensures.answer in h) (let h : c.export_fault-refused.result ≡ 0 = c.if-refused-ne0.false in h) (of_settings c.args.self) c.write_file-n.ensures.answer c.write_file-n.ensures.out_left in h).1;
-  slots_left = c.clear_marks-4.ensures ∙ ap (λ n. replicate n 0) (let h : length c.write_file-n.new.slots ≡ length c.args.slots.now = c.write_file-n.auto.slots ∙ (let h : length c.clear_marks.new.marks ≡ length c.args.slots.now = c.clear_marks.auto.marks in h) in h);
-  numbers_left = c.clear_marks-5.ensures ∙ ap (λ n. replicate n 0) (let h : length c.write_file-n.new.numbers ≡ length c.args.numbers.now = c.write_file-n.auto.numbers ∙ (let h : length c.clear_marks-2.new.marks ≡ length c.args.numbers.now = c.clear_marks-2.auto.marks in h) in h);
-  work_left = (let h : c.clear_marks-3.new.marks ≡ replicate (length c.args.work.now) 0 = c.clear_marks-3.ensures ∙ ap (λ n. replicate n 0) c.export_fault-refused.auto.work in h);
-}
+      answer = (let h : (AsLeft (export_of limits (export_into (of_settings c.args.self) c.args.roots.now c.args.order.now (lent c.args.bytes.now c.args.starts.now c.args.lens.now c.args.rootstarts.now c.args.rootlens.now (of_place c.args.self.dd)) (length c.args.slots.now) (length c.args.numbers.now) (length c.args.out.now)) (store c.args.levels c.args.count c.args.level.now c.args.then.now c.args.els.now c.args.next.now c.args.heads.now)) (Written c.write_file-n.result) c.write_file-n.new.out) = promised-file (store c.args.levels c.args.count c.args.level.now c.args.then.now c.args.els.now c.args.next.now c.args.heads.now) c.args.roots.now c.args.order.now (lent c.args.bytes.now c.args.starts.now c.args.lens.now c.args.rootstarts.now c.args.rootlens.now (of_place c.args.self.dd)) (let h : length c.clear_marks.new.marks ≡ length c.args.slots.now = c.clear_marks.auto.marks in h) (let h : length c.clear_marks-2.new.marks ≡ length c.args.numbers.now = c.clear_marks-2.auto.marks in h) (let h : length c.clear_bytes.new.bytes ≡ length c.args.out.now = c.clear_bytes.auto.bytes in h) (let h : c.export_fault-refused.result ≡ (export_fault limits (store c.args.levels c.args.count c.args.level.now c.args.then.now c.args.els.now c.args.next.now c.args.heads.now) c.args.roots.now c.args.order.now (lent c.args.bytes.now c.args.starts.now c.args.lens.now c.args.rootstarts.now c.args.rootlens.now (of_place c.args.self.dd)) (length c.clear_marks.new.marks) (length c.clear_marks-2.new.marks) (length c.clear_bytes.new.bytes)) = c.export_fault-refused.ensures.answer in h) (let h : c.export_fault-refused.result ≡ 0 = c.if-refused-ne0.false in h) (of_settings c.args.self) c.write_file-n.ensures.answer c.write_file-n.ensures.out_left in h).0;
+      out_left = (let h : (AsLeft (export_of limits (export_into (of_settings c.args.self) c.args.roots.now c.args.order.now (lent c.args.bytes.now c.args.starts.now c.args.lens.now c.args.rootstarts.now c.args.rootlens.now (of_place c.args.self.dd)) (length c.args.slots.now) (length c.args.numbers.now) (length c.args.out.now)) (store c.args.levels c.args.count c.args.level.now c.args.then.now c.args.els.now c.args.next.now c.args.heads.now)) (Written c.write_file-n.result) c.write_file-n.new.out) = promised-file (store c.args.levels c.args.count c.args.level.now c.args.then.now c.args.els.now c.args.next.now c.args.heads.now) c.args.roots.now c.args.order.now (lent c.args.bytes.now c.args.starts.now c.args.lens.now c.args.rootstarts.now c.args.rootlens.now (of_place c.args.self.dd)) (let h : length c.clear_marks.new.marks ≡ length c.args.slots.now = c.clear_marks.auto.marks in h) (let h : length c.clear_marks-2.new.marks ≡ length c.args.numbers.now = c.clear_marks-2.auto.marks in h) (let h : length c.clear_bytes.new.bytes ≡ length c.args.out.now = c.clear_bytes.auto.bytes in h) (let h : c.export_fault-refused.result ≡ (export_fault limits (store c.args.levels c.args.count c.args.level.now c.args.then.now c.args.els.now c.args.next.now c.args.heads.now) c.args.roots.now c.args.order.now (lent c.args.bytes.now c.args.starts.now c.args.lens.now c.args.rootstarts.now c.args.rootlens.now (of_place c.args.self.dd)) (length c.clear_marks.new.marks) (length c.clear_marks-2.new.marks) (length c.clear_bytes.new.bytes)) = c.export_fault-refused.ensures.answer in h) (let h : c.export_fault-refused.result ≡ 0 = c.if-refused-ne0.false in h) (of_settings c.args.self) c.write_file-n.ensures.answer c.write_file-n.ensures.out_left in h).1;
+      slots_left = c.clear_marks-4.ensures ∙ ap (λ n. replicate n 0) (let h : length c.write_file-n.new.slots ≡ length c.args.slots.now = c.write_file-n.auto.slots ∙ (let h : length c.clear_marks.new.marks ≡ length c.args.slots.now = c.clear_marks.auto.marks in h) in h);
+      numbers_left = c.clear_marks-5.ensures ∙ ap (λ n. replicate n 0) (let h : length c.write_file-n.new.numbers ≡ length c.args.numbers.now = c.write_file-n.auto.numbers ∙ (let h : length c.clear_marks-2.new.marks ≡ length c.args.numbers.now = c.clear_marks-2.auto.marks in h) in h);
+      work_left = (let h : c.clear_marks-3.new.marks ≡ replicate (length c.args.work.now) 0 = c.clear_marks-3.ensures ∙ ap (λ n. replicate n 0) c.export_fault-refused.auto.work in h);
+    }

@@ -1,0 +1,14 @@
+-- `zt2_evaluate` meets its contract: it hands everything on, and gives the answer in C's form.
+use mir.Facts.{to_z-of_z}
+use Rattle.firmware.proofs.zt2_evaluate.Goals as goal
+
+pub shape_of-work : goal.shape_of-work
+shape_of-work c =
+    c.evaluate.auto.work
+
+pub returns : goal.returns
+returns c =
+    record {
+  answer = rw (c.evaluate_answer.ensures, c.evaluate.ensures.answer, to_z-of_z c.ranges.root);
+  work_left = c.evaluate.ensures.work_left;
+}

@@ -1,5 +1,4 @@
 -- `evaluate_answer` meets its contract: a yes or no as a byte, and a refusal with no answer.
-use borrow.Author.Rules.{rules}
 use Rattle.c_answers.proofs.evaluate_answer.Goals as goal
 
 pub returns-in-Answer : goal.returns-in-Answer

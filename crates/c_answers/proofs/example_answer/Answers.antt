@@ -1,5 +1,4 @@
 -- `example_answer` meets its contract: a setting that was found has no refusal, and a refusal its number.
-use borrow.Author.Rules.{rules}
 use Rattle.c_answers.proofs.example_answer.Goals as goal
 
 pub returns-in-Setting : goal.returns-in-Setting

@@ -1,5 +1,4 @@
 -- `export_answer` meets its contract: the length of a file, and a refusal with none.
-use borrow.Author.Rules.{rules}
 use Rattle.c_answers.proofs.export_answer.Goals as goal
 
 pub returns-in-Written : goal.returns-in-Written

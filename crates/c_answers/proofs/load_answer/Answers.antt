@@ -1,5 +1,4 @@
 -- `load_answer` meets its contract: the numbers of a header, and a refusal with its line and zeros.
-use borrow.Author.Rules.{rules}
 use Rattle.c_answers.proofs.load_answer.Goals as goal
 
 pub returns-in-Header : goal.returns-in-Header

@@ -1,5 +1,4 @@
 -- `settings_of` meets its contract: the version and the diagram's name of the defaults are replaced, then the mode is set.
-use borrow.Author.Rules.{rules}
 use Rattle.c_answers.proofs.Chosen.{chosen, is-binary, is-text}
 use Rattle.c_answers.proofs.settings_of.Goals as goal
 

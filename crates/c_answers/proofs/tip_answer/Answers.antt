@@ -1,5 +1,4 @@
 -- `tip_answer` meets its contract: a level has no refusal, and a refusal no level.
-use borrow.Author.Rules.{rules}
 use Rattle.c_answers.proofs.tip_answer.Goals as goal
 
 pub returns-in-Level : goal.returns-in-Level

@@ -1,5 +1,4 @@
 -- `widen_answer` meets its contract: a store that was turned has no refusal, and a refusal its number.
-use borrow.Author.Rules.{rules}
 use Rattle.c_answers.proofs.widen_answer.Goals as goal
 
 pub returns-in-Done : goal.returns-in-Done

@@ -1,6 +1,5 @@
 -- `evaluate` meets its contract: it is the call of the store.
 use mir.Facts.{to_z-of_z}
-use borrow.Author.Rules.{rules}
 use Rattle.dddmp.proofs.evaluate.Goals as goal
 
 pub shape_of-work : goal.shape_of-work

@@ -4,10 +4,10 @@ use mathlib.Core.List.{map}
 use lib.ListN.{length, replicate}
 use Rattle.codes.specs.Limits.{limits}
 use Rattle.read_text.specs.Text.{start_of, len_of}
-use Rattle.store.specs.Store.{Store, store}
+use Rattle.store.specs.Store.{store}
 use Rattle.header.specs.Kinds.{of_loaded}
 use Rattle.header.proofs.Lengths.{length-may, lists-long}
-use Rattle.calls.specs.Load.{before_header, Parts, parts, load_into, load_of}
+use Rattle.calls.specs.Load.{before_header, parts, load_into, load_of}
 use Rattle.dddmp.proofs.Loading.{parts-alike, lists-none, before-is, ready-readable, answer-left, store-left, roots_left, list_left}
 use Rattle.dddmp.proofs.Searched.{ready-searchable}
 use Rattle.dddmp.proofs.load.Goals as goal

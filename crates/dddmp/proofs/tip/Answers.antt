@@ -1,6 +1,5 @@
 -- `tip` meets its contract: it is the call of the store.
 use mir.Facts.{to_z-of_z}
-use borrow.Author.Rules.{rules}
 use Rattle.dddmp.proofs.tip.Goals as goal
 
 pub shape_of-work : goal.shape_of-work

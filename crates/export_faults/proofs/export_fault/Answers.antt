@@ -2,15 +2,14 @@
 use mathlib.Core.Path.{◌≡◌}
 use mathlib.Core.Bool.{true, false}
 use lib.ListN.{length}
-use borrow.Author.Rules.{rules}
 use mathlib.Core.Bool.{not}
 use mathlib.Core.Path.{ap}
 use Rattle.header_values.specs.Kinds.{of_place}
-use Rattle.store.specs.Store.{Store, store}
+use Rattle.store.specs.Store.{store}
 use Rattle.codes.specs.Limits.{limits}
 use Rattle.store.specs.Keeps.{keeps}
 use Rattle.variable_order.specs.Order.{is_order}
-use Rattle.heading.specs.Tables.{Lent, lent}
+use Rattle.heading.specs.Tables.{lent}
 use Rattle.exported.specs.Export.{roots_fit, long_enough, names_fit}
 use Rattle.export_faults.proofs.Tests.{held, failed}
 use Rattle.export_faults.proofs.Refusals.{refused-short, refused-store, refused-root, refused-order, refused-name, refused_none, vars_long, seats-there}

@@ -1,6 +1,5 @@
 -- `long_enough` meets its contract: the marks are judged first, and the output by `size_fits`.
 use mathlib.Core.Path.{◌∙◌}
-use borrow.Author.Rules.{rules}
 use borrow.Author.Tests.{le-leb, lt-leb}
 use Rattle.export_faults.proofs.Tests.{first-fails, second-fails, last-decides}
 use Rattle.export_faults.proofs.long_enough.Goals as goal

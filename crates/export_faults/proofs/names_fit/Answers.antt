@@ -1,6 +1,5 @@
 -- `names_fit` meets its contract: the variables' names, the roots', and then the diagram's decide.
 use mathlib.Core.Path.{◌∙◌}
-use borrow.Author.Rules.{rules}
 use mathlib.Core.Bool.{not}
 use mathlib.Core.Path.{ap}
 use Rattle.export_faults.proofs.Tests.{held, failed, first-fails, second-fails, last-decides}

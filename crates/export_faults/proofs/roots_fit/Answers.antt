@@ -1,12 +1,9 @@
 -- `roots_fit` meets its contract. The loop's invariant: the roots passed are fit, so that the others decide. The measure is what is left of the
 -- length.
-use Prim.Native.Nat.{◌-◌}
 use native.Mathlib.Omega.{arith}
-use borrow.Author.Rules.{rules}
-use lib.ListN.{length}
 use mathlib.Core.Bool.{not}
 use mathlib.Core.Path.{ap}
-use Rattle.export_faults.proofs.Roots.{RootsFrom, roots-many, roots-start, roots-more, roots-unfit, roots-end}
+use Rattle.export_faults.proofs.Roots.{roots-many, roots-start, roots-more, roots-unfit, roots-end}
 use Rattle.export_faults.proofs.roots_fit.Goals as goal
 
 pub returns-then-roots-gt-ROOT_LIMIT : goal.returns-then-roots-gt-ROOT_LIMIT

@@ -1,14 +1,13 @@
 -- `write_file` meets its contract: the nodes are numbered, the levels seated, and by these tables the parts of the file are written.
-use mathlib.Core.Path.{◌≡◌, refl, sym, ap, ◌∙◌}
-use mathlib.Core.List.{List}
-use Prim.Native.Nat.{ℕ, ◌≤◌}
+use mathlib.Core.Path.{◌≡◌, sym, ap, ◌∙◌}
+use Prim.Native.Nat.{◌≤◌}
 use native.Mathlib.Omega.{arith}
 use lib.ListN.{length, take, replicate}
 use lib.Seq.{length-take-le}
 use Rattle.codes.specs.Limits.{limits}
 use Rattle.codes.specs.Lent.{laid}
 use Rattle.header_values.specs.Kinds.{of_place}
-use Rattle.store.specs.Store.{Store, store, slots}
+use Rattle.store.specs.Store.{store, slots}
 use Rattle.numbering.specs.Numbering.{numbering}
 use Rattle.export_nodes.specs.Lines.{lines_for}
 use Rattle.node_writers.specs.Encoded.{node_bytes}
@@ -16,8 +15,8 @@ use Rattle.export_nodes.specs.Tables.{lines_by}
 use Rattle.codes.proofs.LimitsNow.{limits-exports}
 use Rattle.export_nodes.proofs.ExportLines.{Filled}
 use Rattle.heading.specs.Heading.{head_text}
-use Rattle.heading.specs.Tables.{Lent, lent, heading_by}
-use Rattle.exported.specs.Settings.{Settings, settings}
+use Rattle.heading.specs.Tables.{lent, heading_by}
+use Rattle.exported.specs.Settings.{settings}
 use Rattle.exported.specs.Export.{heading_of, file_of}
 use Rattle.exported.proofs.Accepted.{Accepted, accepted}
 use Rattle.exported.proofs.Bare.{bare-walkable}

@@ -1,10 +1,7 @@
 -- `write_refusal` meets its contract: zeros, and the line's parts one after another over their front.
 use mathlib.Core.Path.{◌≡◌, ◌∙◌}
-use mathlib.Core.List.{List}
-use Prim.Native.Nat.{ℕ}
 use native.Mathlib.Omega.{arith}
 use lib.ListN.{drop, replicate}
-use borrow.Author.Rules.{rules}
 use Rattle.heading.proofs.Writing.{Writing, writing-room, writing_more, writing-end}
 use Rattle.recode_text.specs.Text.{refusal_text}
 use Rattle.recode_text.proofs.RefusalLine.{refusal_parts, refusal-start, refusal-end}

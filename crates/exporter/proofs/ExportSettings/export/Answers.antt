@@ -1,14 +1,11 @@
 -- `export` meets its contract: the output is cleared, so that a refusal leaves zeros; otherwise the file is written, and the marks are cleared
 -- again.
-use mathlib.Core.Path.{◌≡◌, refl, sym, ap, ◌∙◌}
-use mathlib.Core.List.{List}
-use Prim.Native.Nat.{ℕ}
+use mathlib.Core.Path.{◌≡◌, sym, ap, ◌∙◌}
 use lib.ListN.{length, replicate}
 use Rattle.codes.specs.Limits.{limits}
 use Rattle.header_values.specs.Kinds.{of_place}
-use Rattle.store.specs.Store.{Store, store}
-use Rattle.heading.specs.Tables.{Lent, lent}
-use Rattle.exporter.specs.declared.Exported.{Exported}
+use Rattle.store.specs.Store.{store}
+use Rattle.heading.specs.Tables.{lent}
 use Rattle.exporter.specs.declared.Exported.TheVariants.{Written, Refused}
 use Rattle.exporter.specs.Settings.{of_settings}
 use Rattle.exported.specs.Export.{export_fault, export_into, export_of}

@@ -93,9 +93,6 @@ write_nodes-end_at-requires-clause-fits_out c =
     (let h : head_text (heading_by d.args.version d.args.ascii (lent d.args.bytes.now d.args.starts.now d.args.lens.now d.args.rootstarts.now d.args.rootlens.now (of_place d.args.dd)) d.number_nodes-nnodes.result d.args.order.now (d.seat_levels-nsuppvars.new.seats) d.args.roots.now (d.number_nodes-nnodes.new.numbers)) ≡ head_text (heading_of (settings d.args.version d.args.ascii (of_place d.args.dd)) (store d.args.levels d.args.count d.args.level.now d.args.then.now d.args.els.now d.args.next.now d.args.heads.now) d.args.roots.now d.args.order.now (lent d.args.bytes.now d.args.starts.now d.args.lens.now d.args.rootstarts.now d.args.rootlens.now (of_place d.args.dd))) = let w = d.number_nodes-nnodes.ensures in ap head_text (heading-same (let h : Accepted limits (store d.args.levels d.args.count d.args.level.now d.args.then.now d.args.els.now d.args.next.now d.args.heads.now) d.args.roots.now d.args.order.now (lent d.args.bytes.now d.args.starts.now d.args.lens.now d.args.rootstarts.now d.args.rootlens.now (of_place d.args.dd)) (length d.args.slots.now) (length d.args.numbers.now) (length d.args.out.now) = accepted _ _ _ _ _ _ _ d.requires.taken in h) (let h : Filled (store d.args.levels d.args.count d.args.level.now d.args.then.now d.args.els.now d.args.next.now d.args.heads.now) (numbering (store d.args.levels d.args.count d.args.level.now d.args.then.now d.args.els.now d.args.next.now d.args.heads.now) d.args.roots.now) (d.number_nodes-nnodes.new.numbers) (d.seat_levels-nsuppvars.new.seats) = filled (let h : Accepted limits (store d.args.levels d.args.count d.args.level.now d.args.then.now d.args.els.now d.args.next.now d.args.heads.now) d.args.roots.now d.args.order.now (lent d.args.bytes.now d.args.starts.now d.args.lens.now d.args.rootstarts.now d.args.rootlens.now (of_place d.args.dd)) (length d.args.slots.now) (length d.args.numbers.now) (length d.args.out.now) = accepted _ _ _ _ _ _ _ d.requires.taken in h) d.number_nodes-nnodes.ensures.many d.number_nodes-nnodes.ensures.lies d.number_nodes-nnodes.ensures.numbered d.number_nodes-nnodes.auto.numbers d.seat_levels-nsuppvars.ensures.seats (omega (arith, d.seat_levels-nsuppvars.auto.seats)) in h) _ _ (nodes-many (let h : Accepted limits (store d.args.levels d.args.count d.args.level.now d.args.then.now d.args.els.now d.args.next.now d.args.heads.now) d.args.roots.now d.args.order.now (lent d.args.bytes.now d.args.starts.now d.args.lens.now d.args.rootstarts.now d.args.rootlens.now (of_place d.args.dd)) (length d.args.slots.now) (length d.args.numbers.now) (length d.args.out.now) = accepted _ _ _ _ _ _ _ d.requires.taken in h) w.many w.lies)) in h) (let h : node_bytes d.args.ascii (lines_by (slots d.args.level.now d.args.then.now d.args.els.now) (d.number_nodes-nnodes.new.numbers) (d.seat_levels-nsuppvars.new.seats) (take d.number_nodes-nnodes.result (d.number_nodes-nnodes.new.slots))) ≡ node_bytes d.args.ascii (lines_for (store d.args.levels d.args.count d.args.level.now d.args.then.now d.args.els.now d.args.next.now d.args.heads.now) (numbering (store d.args.levels d.args.count d.args.level.now d.args.then.now d.args.els.now d.args.next.now d.args.heads.now) d.args.roots.now)) = ap (node_bytes d.args.ascii) (lines_same (let h : Accepted limits (store d.args.levels d.args.count d.args.level.now d.args.then.now d.args.els.now d.args.next.now d.args.heads.now) d.args.roots.now d.args.order.now (lent d.args.bytes.now d.args.starts.now d.args.lens.now d.args.rootstarts.now d.args.rootlens.now (of_place d.args.dd)) (length d.args.slots.now) (length d.args.numbers.now) (length d.args.out.now) = accepted _ _ _ _ _ _ _ d.requires.taken in h) d.number_nodes-nnodes.ensures.many d.number_nodes-nnodes.ensures.lies (d.number_nodes-nnodes.new.numbers) (d.seat_levels-nsuppvars.new.seats) (let h : Filled (store d.args.levels d.args.count d.args.level.now d.args.then.now d.args.els.now d.args.next.now d.args.heads.now) (numbering (store d.args.levels d.args.count d.args.level.now d.args.then.now d.args.els.now d.args.next.now d.args.heads.now) d.args.roots.now) (d.number_nodes-nnodes.new.numbers) (d.seat_levels-nsuppvars.new.seats) = filled (let h : Accepted limits (store d.args.levels d.args.count d.args.level.now d.args.then.now d.args.els.now d.args.next.now d.args.heads.now) d.args.roots.now d.args.order.now (lent d.args.bytes.now d.args.starts.now d.args.lens.now d.args.rootstarts.now d.args.rootlens.now (of_place d.args.dd)) (length d.args.slots.now) (length d.args.numbers.now) (length d.args.out.now) = accepted _ _ _ _ _ _ _ d.requires.taken in h) d.number_nodes-nnodes.ensures.many d.number_nodes-nnodes.ensures.lies d.number_nodes-nnodes.ensures.numbered d.number_nodes-nnodes.auto.numbers d.seat_levels-nsuppvars.ensures.seats (omega (arith, d.seat_levels-nsuppvars.auto.seats)) in h)) in h) h.write_header-nodes_at.ensures.next
     h.write_header-nodes_at.auto.out
 
--- TODO slice-aggregate-put-bytes : tie.Need-slice-aggregate-put-bytes
--- slice-aggregate-put-bytes c = refl
-
 pub put_bytes-requires : goal.put_bytes-requires
 put_bytes-requires c =
     let w = c in

@@ -1,4 +1,4 @@
-/* Lists of calls on one store, `02/lists.tsv`: each call is made on the store that those before it left. */
+/* Lists of calls on one store, `02/lists.tsv` and `02/06_lists.tsv`: each call is made on the store that those before it left. */
 #include <stdlib.h>
 #include <string.h>
 
@@ -8,7 +8,7 @@
 enum { CALL_COLUMNS = 7, END_COLUMNS = 9 };
 enum kind { NEW, LOAD, JOIN, OPPOSITE, END };
 
-static const char lists[] = "02/lists.tsv";
+static const char *const tables[] = {"02/lists.tsv", "02/06_lists.tsv"};
 
 /* A line of the table. */
 struct listed {
@@ -157,9 +157,9 @@ static void hold_listed(const struct listed *c, struct store *s)
 /* What is done with each line; it leaves the store as the line's call does. */
 typedef void with_line(struct listed *c, struct store *s);
 
-static size_t go_through(with_line *each)
+static size_t go_through(const char *name, with_line *each)
 {
-    struct table t = open_table(vectors, lists);
+    struct table t = open_table(vectors, name);
     struct store s = empty_store(0, 1);
     struct listed c;
     size_t cases = 0;
@@ -180,7 +180,10 @@ static void only_hold(struct listed *c, struct store *s)
 
 void try_lists(void)
 {
-    group_done(lists, go_through(only_hold));
+    size_t i;
+
+    for (i = 0; i < sizeof tables / sizeof *tables; i++)
+        group_done(tables[i], go_through(tables[i], only_hold));
 }
 
 /* Changed lines are held on a copy of the store. */
@@ -251,5 +254,8 @@ static void hold_and_change(struct listed *c, struct store *s)
 
 void change_lists(void)
 {
-    go_through(hold_and_change);
+    size_t i;
+
+    for (i = 0; i < sizeof tables / sizeof *tables; i++)
+        go_through(tables[i], hold_and_change);
 }

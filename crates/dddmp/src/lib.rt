@@ -49,7 +49,8 @@ pub fn load(
     work: &mut [Index],
 ) -> Loaded
     ensures { LoadPromise (seen f) (seen list) levels (borrowed count) (borrowed level) (borrowed then) (borrowed els) (borrowed next) (borrowed heads)
-        (borrowed ids) (borrowed order) (borrowed permids) (borrowed auxids) (borrowed names) (borrowed lens) (borrowed roots) (borrowed rootnames) (borrowed rootlens) (borrowed edges) (borrowed seats) (borrowed work) result }
+        (borrowed ids) (borrowed order) (borrowed permids) (borrowed auxids) (borrowed names) (borrowed lens) (borrowed roots) (borrowed rootnames)
+        (borrowed rootlens) (borrowed edges) (borrowed seats) (borrowed work) result }
 {
     let lists = stages::lists_fault(
         ids.len(),
@@ -163,7 +164,8 @@ pub fn export(
     work: &mut [Index],
 ) -> Exported
     ensures { ExportPromise settings levels count (seen level) (seen then) (seen els) (seen next) (seen heads)
-        (seen roots) (seen order) (seen bytes) (seen starts) (seen lens) (seen rootstarts) (seen rootlens) (borrowed slots) (borrowed numbers) (borrowed out) (borrowed work) result }
+        (seen roots) (seen order) (seen bytes) (seen starts) (seen lens) (seen rootstarts) (seen rootlens) (borrowed slots) (borrowed numbers)
+        (borrowed out) (borrowed work) result }
 {
     settings.export(
         levels, count, level, then, els, next, heads, roots, order, bytes, starts, lens,
@@ -187,7 +189,8 @@ pub fn join(
     cache: &mut [Edge],
     work: &mut [Index],
 ) -> Joined
-    ensures { JoinPromise levels (borrowed count) (borrowed level) (borrowed then) (borrowed els) (borrowed next) (borrowed heads) op left right (borrowed cache) (borrowed work) result }
+    ensures { JoinPromise levels (borrowed count) (borrowed level) (borrowed then) (borrowed els) (borrowed next) (borrowed heads) op left right
+        (borrowed cache) (borrowed work) result }
 {
     joins::join(
         levels, count, level, then, els, next, heads, op, left, right, cache, work,

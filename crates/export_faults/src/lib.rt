@@ -102,7 +102,8 @@ pub fn export_fault(
     work: &mut [Index],
 ) -> u8
     requires { vars.old ≡ replicate var_limit 0 }
-    ensures { FaultPromise levels count (seen level) (seen then) (seen els) (seen next) (seen heads) (seen roots) (seen order) (seen bytes) (seen starts) (seen lens) (seen rootstarts) (seen rootlens) dd slots numbers out (borrowed vars) result }
+    ensures { FaultPromise levels count (seen level) (seen then) (seen els) (seen next) (seen heads) (seen roots) (seen order) (seen bytes)
+        (seen starts) (seen lens) (seen rootstarts) (seen rootlens) dd slots numbers out (borrowed vars) result }
 {
     if !long_enough(
         levels,

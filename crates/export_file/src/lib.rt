@@ -34,8 +34,10 @@ pub fn write_file(
     numbers: &mut [Index],
     out: &mut [u8],
 ) -> usize
-    requires { FileAsks dd levels count level.now then.now els.now next.now heads.now roots.now order.now vars.now bytes.now starts.now lens.now rootstarts.now rootlens.now slots.old numbers.old out.old }
-    ensures { FilePromise version ascii dd levels count (seen level) (seen then) (seen els) (seen next) (seen heads) (seen roots) (seen order) (seen bytes) (seen starts) (seen lens) (seen rootstarts) (seen rootlens) (borrowed out) result }
+    requires { FileAsks dd levels count level.now then.now els.now next.now heads.now roots.now order.now vars.now bytes.now starts.now lens.now
+        rootstarts.now rootlens.now slots.old numbers.old out.old }
+    ensures { FilePromise version ascii dd levels count (seen level) (seen then) (seen els) (seen next) (seen heads) (seen roots) (seen order)
+        (seen bytes) (seen starts) (seen lens) (seen rootstarts) (seen rootlens) (borrowed out) result }
 {
     let nnodes = numbering::number_nodes(levels, count, level, then, els, roots, slots, numbers);
     let mut seats = [0u16; VAR_LIMIT];

@@ -3,7 +3,16 @@
 #![tactic(auto)]
 
 ghost use Rattle.codes.specs.Lent.{borrowed, seen};
-ghost use Rattle.firmware.specs.Promises.{ZtLoadPromise, ZtEvaluatePromise, ZtExamplePromise, ZtTipPromise, ZtExportPromise, ZtJoinPromise, ZtNotPromise, ZtWidenPromise};
+ghost use Rattle.firmware.specs.Promises.{
+  ZtLoadPromise,
+  ZtEvaluatePromise,
+  ZtExamplePromise,
+  ZtTipPromise,
+  ZtExportPromise,
+  ZtJoinPromise,
+  ZtNotPromise,
+  ZtWidenPromise,
+};
 ghost use Rattle.joined.specs.declared.Op.TheVariants as op;
 
 use c_answers::{
@@ -37,7 +46,9 @@ pub fn zt2_load(
     seats: &mut [u16],
     work: &mut [Index],
 ) -> LoadAnswer
-    ensures { ZtLoadPromise (seen file) (seen list) levels (borrowed count) (borrowed level) (borrowed then) (borrowed els) (borrowed next) (borrowed heads) (borrowed ids) (borrowed order) (borrowed permids) (borrowed auxids) (borrowed names) (borrowed lens) (borrowed roots) (borrowed rootnames) (borrowed rootlens)
+    ensures { ZtLoadPromise (seen file) (seen list) levels (borrowed count) (borrowed level) (borrowed then) (borrowed els) (borrowed next)
+        (borrowed heads) (borrowed ids) (borrowed order) (borrowed permids) (borrowed auxids) (borrowed names) (borrowed lens) (borrowed roots)
+        (borrowed rootnames) (borrowed rootlens)
         (borrowed edges) (borrowed seats) (borrowed work) result }
 {
     c_answers::load_answer(dddmp::load(
@@ -142,7 +153,8 @@ pub fn zt2_export(
     out: &mut [u8],
     work: &mut [Index],
 ) -> ExportAnswer
-    ensures { ZtExportPromise version text ddstart ddlen levels count (seen level) (seen then) (seen els) (seen next) (seen heads) (seen roots) (seen order) (seen bytes) (seen starts) (seen lens) (seen rootstarts) (seen rootlens)
+    ensures { ZtExportPromise version text ddstart ddlen levels count (seen level) (seen then) (seen els) (seen next) (seen heads) (seen roots)
+        (seen order) (seen bytes) (seen starts) (seen lens) (seen rootstarts) (seen rootlens)
         (borrowed slots) (borrowed numbers) (borrowed out) (borrowed work) result }
 {
     let settings = c_answers::settings_of(version, text, ddstart, ddlen);
@@ -166,7 +178,8 @@ pub fn zt2_and(
     cache: &mut [Edge],
     work: &mut [Index],
 ) -> JoinAnswer
-    ensures { ZtJoinPromise op.And levels (borrowed count) (borrowed level) (borrowed then) (borrowed els) (borrowed next) (borrowed heads) left right (borrowed cache) (borrowed work) result }
+    ensures { ZtJoinPromise op.And levels (borrowed count) (borrowed level) (borrowed then) (borrowed els) (borrowed next) (borrowed heads) left right
+        (borrowed cache) (borrowed work) result }
 {
     c_answers::join_answer(dddmp::join(
         levels,
@@ -198,7 +211,8 @@ pub fn zt2_or(
     cache: &mut [Edge],
     work: &mut [Index],
 ) -> JoinAnswer
-    ensures { ZtJoinPromise op.Or levels (borrowed count) (borrowed level) (borrowed then) (borrowed els) (borrowed next) (borrowed heads) left right (borrowed cache) (borrowed work) result }
+    ensures { ZtJoinPromise op.Or levels (borrowed count) (borrowed level) (borrowed then) (borrowed els) (borrowed next) (borrowed heads) left right
+        (borrowed cache) (borrowed work) result }
 {
     c_answers::join_answer(dddmp::join(
         levels,
@@ -230,7 +244,8 @@ pub fn zt2_xor(
     cache: &mut [Edge],
     work: &mut [Index],
 ) -> JoinAnswer
-    ensures { ZtJoinPromise op.Xor levels (borrowed count) (borrowed level) (borrowed then) (borrowed els) (borrowed next) (borrowed heads) left right (borrowed cache) (borrowed work) result }
+    ensures { ZtJoinPromise op.Xor levels (borrowed count) (borrowed level) (borrowed then) (borrowed els) (borrowed next) (borrowed heads) left right
+        (borrowed cache) (borrowed work) result }
 {
     c_answers::join_answer(dddmp::join(
         levels,

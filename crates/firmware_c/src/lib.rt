@@ -4,7 +4,16 @@
 #![tactic(auto)]
 
 ghost use Rattle.codes.specs.Lent.{borrowed, seen};
-ghost use Rattle.firmware.specs.Promises.{ZtLoadPromise, ZtEvaluatePromise, ZtExamplePromise, ZtTipPromise, ZtExportPromise, ZtJoinPromise, ZtNotPromise, ZtWidenPromise};
+ghost use Rattle.firmware.specs.Promises.{
+  ZtLoadPromise,
+  ZtEvaluatePromise,
+  ZtExamplePromise,
+  ZtTipPromise,
+  ZtExportPromise,
+  ZtJoinPromise,
+  ZtNotPromise,
+  ZtWidenPromise,
+};
 ghost use Rattle.joined.specs.declared.Op.TheVariants as op;
 
 use c_answers::{
@@ -38,7 +47,9 @@ pub extern "C" fn zt2_load(
     seats: &mut [u16],
     work: &mut [Index],
 ) -> LoadAnswer
-    ensures { ZtLoadPromise (seen file) (seen list) levels (borrowed count) (borrowed level) (borrowed then) (borrowed els) (borrowed next) (borrowed heads) (borrowed ids) (borrowed order) (borrowed permids) (borrowed auxids) (borrowed names) (borrowed lens) (borrowed roots) (borrowed rootnames) (borrowed rootlens)
+    ensures { ZtLoadPromise (seen file) (seen list) levels (borrowed count) (borrowed level) (borrowed then) (borrowed els) (borrowed next)
+        (borrowed heads) (borrowed ids) (borrowed order) (borrowed permids) (borrowed auxids) (borrowed names) (borrowed lens) (borrowed roots)
+        (borrowed rootnames) (borrowed rootlens)
         (borrowed edges) (borrowed seats) (borrowed work) result }
 {
     firmware::zt2_load(
@@ -137,7 +148,8 @@ pub extern "C" fn zt2_export(
     out: &mut [u8],
     work: &mut [Index],
 ) -> ExportAnswer
-    ensures { ZtExportPromise version text ddstart ddlen levels count (seen level) (seen then) (seen els) (seen next) (seen heads) (seen roots) (seen order) (seen bytes) (seen starts) (seen lens) (seen rootstarts) (seen rootlens)
+    ensures { ZtExportPromise version text ddstart ddlen levels count (seen level) (seen then) (seen els) (seen next) (seen heads) (seen roots)
+        (seen order) (seen bytes) (seen starts) (seen lens) (seen rootstarts) (seen rootlens)
         (borrowed slots) (borrowed numbers) (borrowed out) (borrowed work) result }
 {
     firmware::zt2_export(
@@ -161,7 +173,8 @@ pub extern "C" fn zt2_and(
     cache: &mut [Edge],
     work: &mut [Index],
 ) -> JoinAnswer
-    ensures { ZtJoinPromise op.And levels (borrowed count) (borrowed level) (borrowed then) (borrowed els) (borrowed next) (borrowed heads) left right (borrowed cache) (borrowed work) result }
+    ensures { ZtJoinPromise op.And levels (borrowed count) (borrowed level) (borrowed then) (borrowed els) (borrowed next) (borrowed heads) left right
+        (borrowed cache) (borrowed work) result }
 {
     firmware::zt2_and(
         levels, count, level, then, els, next, heads, left, right, cache, work,
@@ -183,7 +196,8 @@ pub extern "C" fn zt2_or(
     cache: &mut [Edge],
     work: &mut [Index],
 ) -> JoinAnswer
-    ensures { ZtJoinPromise op.Or levels (borrowed count) (borrowed level) (borrowed then) (borrowed els) (borrowed next) (borrowed heads) left right (borrowed cache) (borrowed work) result }
+    ensures { ZtJoinPromise op.Or levels (borrowed count) (borrowed level) (borrowed then) (borrowed els) (borrowed next) (borrowed heads) left right
+        (borrowed cache) (borrowed work) result }
 {
     firmware::zt2_or(
         levels, count, level, then, els, next, heads, left, right, cache, work,
@@ -205,7 +219,8 @@ pub extern "C" fn zt2_xor(
     cache: &mut [Edge],
     work: &mut [Index],
 ) -> JoinAnswer
-    ensures { ZtJoinPromise op.Xor levels (borrowed count) (borrowed level) (borrowed then) (borrowed els) (borrowed next) (borrowed heads) left right (borrowed cache) (borrowed work) result }
+    ensures { ZtJoinPromise op.Xor levels (borrowed count) (borrowed level) (borrowed then) (borrowed els) (borrowed next) (borrowed heads) left right
+        (borrowed cache) (borrowed work) result }
 {
     firmware::zt2_xor(
         levels, count, level, then, els, next, heads, left, right, cache, work,

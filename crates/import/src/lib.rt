@@ -26,7 +26,8 @@ pub fn import(
     work: &mut [Index],
 ) -> Imported
     requires { ImportAsks setup list.now levels count.old level.old then.old els.old next.old heads.old edges.old seats.old work.old }
-    ensures { ImportPromise (seen f) from setup (seen list) levels (borrowed count) (borrowed level) (borrowed then) (borrowed els) (borrowed next) (borrowed heads) (borrowed edges) (borrowed seats) (borrowed roots) (borrowed work) result }
+    ensures { ImportPromise (seen f) from setup (seen list) levels (borrowed count) (borrowed level) (borrowed then) (borrowed els) (borrowed next)
+        (borrowed heads) (borrowed edges) (borrowed seats) (borrowed roots) (borrowed work) result }
 {
     let before = *count;
     let read = import_lines::import_lines(

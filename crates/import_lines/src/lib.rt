@@ -31,7 +31,8 @@ fn read_lines(
     width: usize,
 ) -> Imported
     requires { LinesAsks setup list.now levels count.old level.old then.old els.old next.old heads.old edges.old seats.old index.old width }
-    ensures { LinesPromise (seen f) from setup (seen list) levels (borrowed count) (borrowed level) (borrowed then) (borrowed els) (borrowed next) (borrowed heads) (borrowed edges) result }
+    ensures { LinesPromise (seen f) from setup (seen list) levels (borrowed count) (borrowed level) (borrowed then) (borrowed els) (borrowed next)
+        (borrowed heads) (borrowed edges) result }
 {
     let mut n: Index = 0;
     let mut at = from;
@@ -101,7 +102,8 @@ pub fn import_lines(
     work: &mut [Index],
 ) -> Imported
     requires { ImportAsks setup list.now levels count.old level.old then.old els.old next.old heads.old edges.old seats.old work.old }
-    ensures { LinesPromise (seen f) from setup (seen list) levels (borrowed count) (borrowed level) (borrowed then) (borrowed els) (borrowed next) (borrowed heads) (borrowed edges) result }
+    ensures { LinesPromise (seen f) from setup (seen list) levels (borrowed count) (borrowed level) (borrowed then) (borrowed els) (borrowed next)
+        (borrowed heads) (borrowed edges) result }
 {
     let width = unique_table::width_for(slots::most_nodes(level.len()), work.len());
     read_lines(

@@ -83,7 +83,8 @@ pub fn join(
     b: Edge,
 ) -> Making
     requires { JoiningAsks levels count.old level.old then.old els.old next.old heads.old index.old width cache.old a b }
-    ensures { JoiningPromise levels (borrowed count) (borrowed level) (borrowed then) (borrowed els) (borrowed next) (borrowed heads) (borrowed index) width (borrowed cache) op a b result }
+    ensures { JoiningPromise levels (borrowed count) (borrowed level) (borrowed then) (borrowed els) (borrowed next) (borrowed heads) (borrowed index)
+        width (borrowed cache) op a b result }
 {
     let mut waiting: [Waiting; LEVELS] = [Waiting {
         left: 0,

@@ -135,7 +135,8 @@ pub fn join(
     cache: &mut [Edge],
     work: &mut [Index],
 ) -> Joined
-    ensures { JoinPromise levels (borrowed count) (borrowed level) (borrowed then) (borrowed els) (borrowed next) (borrowed heads) op a b (borrowed cache) (borrowed work) result }
+    ensures { JoinPromise levels (borrowed count) (borrowed level) (borrowed then) (borrowed els) (borrowed next) (borrowed heads) op a b
+        (borrowed cache) (borrowed work) result }
 {
     zeros::clear_edges(cache);
     let found = join_fault(levels, *count, level, then, els, next, heads, a, b, work);

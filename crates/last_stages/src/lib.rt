@@ -56,9 +56,11 @@ pub fn load_nodes(
     seats: &mut [u16],
     work: &mut [Index],
 ) -> Loaded
-    requires readable { Readable (of_loaded ready) (store_now levels count.old level.old then.old els.old next.old heads.old) list.now (length edges.old) (length seats.old) }
+    requires readable { Readable (of_loaded ready) (store_now levels count.old level.old then.old els.old next.old heads.old) list.now
+        (length edges.old) (length seats.old) }
     requires searchable { Searchable (of_loaded ready) (store_now levels count.old level.old then.old els.old next.old heads.old) work.old }
-    ensures { LoadNodesPromise ready (seen f) levels (seen list) (borrowed count) (borrowed level) (borrowed then) (borrowed els) (borrowed next) (borrowed heads) (borrowed roots) (borrowed edges) (borrowed seats) (borrowed work) result }
+    ensures { LoadNodesPromise ready (seen f) levels (seen list) (borrowed count) (borrowed level) (borrowed then) (borrowed els) (borrowed next)
+        (borrowed heads) (borrowed roots) (borrowed edges) (borrowed seats) (borrowed work) result }
 {
     match ready {
         Loaded::Header(h) => {
@@ -115,7 +117,8 @@ pub fn finish(
     rootnames: &mut [u32],
     rootlens: &mut [u32],
 )
-    ensures { FinishPromise answer (borrowed ids) (borrowed order) (borrowed permids) (borrowed auxids) (borrowed names) (borrowed lens) (borrowed rootnames) (borrowed rootlens) }
+    ensures { FinishPromise answer (borrowed ids) (borrowed order) (borrowed permids) (borrowed auxids) (borrowed names) (borrowed lens)
+        (borrowed rootnames) (borrowed rootlens) }
 {
     let refused = is_refusal(answer);
     clear_if(refused, ids);

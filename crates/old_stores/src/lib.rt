@@ -230,7 +230,8 @@ pub fn copy_store(
     heads: &mut [Index],
 )
     requires { CopyAsks n buckets old_level.now old_then.now old_els.now old_next.now old_heads.now level.old then.old els.old next.old heads.old }
-    ensures { CopyPromise n buckets (seen old_level) (seen old_then) (seen old_els) (seen old_next) (seen old_heads) (borrowed level) (borrowed then) (borrowed els) (borrowed next) (borrowed heads) }
+    ensures { CopyPromise n buckets (seen old_level) (seen old_then) (seen old_els) (seen old_next) (seen old_heads) (borrowed level) (borrowed then)
+        (borrowed els) (borrowed next) (borrowed heads) }
 {
     copy_levels(n, old_level, level);
     copy_edges(n, old_then, then);

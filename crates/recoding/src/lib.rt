@@ -121,7 +121,8 @@ fn write_back(
 ) -> Recoded
     requires judged_levels { JudgedLevels h.nvars ids.now permids.now }
     requires names_len { (length names.now ≡ length lens.now) × (length rootnames.now ≡ length rootlens.now) }
-    ensures { WriteBackPromise (seen f) h levels count (seen level) (seen then) (seen els) (seen next) (seen heads) (seen roots) (seen ids) (seen permids) (seen names) (seen lens) (seen rootnames) (seen rootlens) (borrowed out) result }
+    ensures { WriteBackPromise (seen f) h levels count (seen level) (seen then) (seen els) (seen next) (seen heads) (seen roots) (seen ids)
+        (seen permids) (seen names) (seen lens) (seen rootnames) (seen rootlens) (borrowed out) result }
 {
     let dd = h.dd;
     let settings = ExportSettings::default()

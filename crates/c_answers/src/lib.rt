@@ -2,28 +2,19 @@
 #![tactic(auto)]
 
 ghost use Rattle.std.specs.Prelude.{◌≡◌};
-ghost use Rattle.evaluation.specs.Evaluated.{of_evaluation};
-ghost use Rattle.example_walk.specs.Promises.{of_found};
-ghost use Rattle.joins.specs.Kinds.{of_joined};
-ghost use Rattle.tipping.specs.Promises.{of_tipped};
-ghost use Rattle.widening.specs.Promises.{of_turned};
 ghost use Rattle.header_values.specs.Kinds.{of_var_info};
+ghost use Rattle.codes.specs.Refusals.{read_of};
 ghost use Rattle.header.specs.Kinds.{of_loaded};
 ghost use Rattle.exporter.specs.Settings.{of_settings};
-ghost use Rattle.exporter.specs.Promise.{of_exported};
 ghost use Rattle.evaluation.specs.SettingBytes.{byte_of};
 ghost use Rattle.c_answers.specs.Answers.{of_load_answer, of_evaluated, of_example, of_level, of_length, of_root, of_turn};
 ghost use Rattle.c_answers.specs.Settings.{version_of, settings_of, wanted_of};
 
+use codes::refusal::{Fault, Refusal};
 use codes::{DDDMPVersion, VarInfo};
 use edges::Edge;
-use evaluation::Evaluation;
-use example_walk::Found;
-use exporter::{ExportSettings, Exported};
-use header::Loaded;
-use joins::Joined;
-use tipping::Tipped;
-use widening::Turned;
+use exporter::ExportSettings;
+use header::DumpHeader;
 
 // The answer of a load: the number of a refusal, 0 of none, and its line; then the numbers of the header, zeros on a refusal.
 #[repr(C)]
@@ -99,90 +90,88 @@ pub struct JoinAnswer {
 fn byte_of(b: bool) -> u8
     ensures { result ≡ byte_of b }
 {
-    if b { 1 } else { 0 }
+    u8::from(b)
 }
 
 // The value of `.varinfo`.
 fn varinfo_of(v: VarInfo) -> u8
     ensures { result ≡ of_var_info v }
 {
-    match v {
-        VarInfo::VariableID => 0,
-        VarInfo::PermutationID => 1,
-        VarInfo::AuxiliaryID => 2,
-        VarInfo::VariableName => 3,
-        VarInfo::None => 4,
+    v as u8
+}
+
+impl From<Result<DumpHeader, Fault>> for LoadAnswer {
+    ghost from_gives = { λ loaded answer. answer ≡ of_load_answer (of_loaded loaded) };
+
+    fn from(loaded: Result<DumpHeader, Fault>) -> LoadAnswer {
+        match loaded {
+            Ok(h) => {
+                LoadAnswer {
+                    refusal: 0,
+                    line: 0,
+                    ascii: byte_of(h.ascii),
+                    varinfo: varinfo_of(h.varinfo),
+                    ddstart: h.dd.start,
+                    ddlen: h.dd.len,
+                    nnodes: h.nnodes,
+                    nvars: h.nvars,
+                    nsuppvars: h.nsuppvars,
+                    nroots: h.nroots,
+                    next: h.next,
+                    lines: h.lines,
+                }
+            }
+            Err(fault) => LoadAnswer {
+                refusal: fault.number,
+                line: fault.line,
+                ascii: 0,
+                varinfo: 0,
+                ddstart: 0,
+                ddlen: 0,
+                nnodes: 0,
+                nvars: 0,
+                nsuppvars: 0,
+                nroots: 0,
+                next: 0,
+                lines: 0,
+            },
+        }
     }
 }
 
-pub fn load_answer(loaded: Loaded) -> LoadAnswer
-    ensures { result ≡ of_load_answer (of_loaded loaded) }
-{
-    match loaded {
-        Loaded::Header(h) => {
-            let varinfo = h.varinfo;
-            let dd = h.dd;
-            LoadAnswer {
+impl From<Result<bool, Refusal>> for EvaluateAnswer {
+    ghost from_gives = { λ evaluation answer. answer ≡ of_evaluated (read_of evaluation) };
+
+    fn from(evaluation: Result<bool, Refusal>) -> EvaluateAnswer {
+        match evaluation {
+            Ok(yes) => EvaluateAnswer {
                 refusal: 0,
                 line: 0,
-                ascii: byte_of(h.ascii),
-                varinfo: varinfo_of(varinfo),
-                ddstart: dd.start,
-                ddlen: dd.len,
-                nnodes: h.nnodes,
-                nvars: h.nvars,
-                nsuppvars: h.nsuppvars,
-                nroots: h.nroots,
-                next: h.next,
-                lines: h.lines,
-            }
+                answer: byte_of(yes),
+            },
+            Err(r) => EvaluateAnswer {
+                refusal: r.number(),
+                line: 0,
+                answer: 0,
+            },
         }
-        Loaded::Refused(n, line) => LoadAnswer {
-            refusal: n,
-            line: line,
-            ascii: 0,
-            varinfo: 0,
-            ddstart: 0,
-            ddlen: 0,
-            nnodes: 0,
-            nvars: 0,
-            nsuppvars: 0,
-            nroots: 0,
-            next: 0,
-            lines: 0,
-        },
     }
 }
 
-pub fn evaluate_answer(evaluation: Evaluation) -> EvaluateAnswer
-    ensures { result ≡ of_evaluated (of_evaluation evaluation) }
-{
-    match evaluation {
-        Evaluation::Answer(yes) => EvaluateAnswer {
-            refusal: 0,
-            line: 0,
-            answer: byte_of(yes),
-        },
-        Evaluation::Refused(n) => EvaluateAnswer {
-            refusal: n,
-            line: 0,
-            answer: 0,
-        },
-    }
-}
+impl From<Result<(), Refusal>> for ExampleAnswer {
+    ghost from_gives = { λ found answer. answer ≡ of_example (read_of found) };
 
-pub fn example_answer(found: Found) -> ExampleAnswer
-    ensures { result ≡ of_example (of_found found) }
-{
-    match found {
-        Found::Setting => ExampleAnswer {
-            refusal: 0,
-            line: 0,
-        },
-        Found::Refused(n) => ExampleAnswer {
-            refusal: n,
-            line: 0,
-        },
+    fn from(found: Result<(), Refusal>) -> ExampleAnswer {
+        match found {
+            Ok(()) => ExampleAnswer {
+                refusal: 0,
+                line: 0,
+            },
+            Err(r) => ExampleAnswer {
+                refusal: r.number(),
+                line: 0,
+            },
+        }
     }
 }
 
@@ -193,69 +182,77 @@ pub fn wanted_of(b: u8) -> bool
     b != 0
 }
 
-pub fn tip_answer(tipped: Tipped) -> TipAnswer
-    ensures { result ≡ of_level (of_tipped tipped) }
-{
-    match tipped {
-        Tipped::Level(l) => TipAnswer {
-            refusal: 0,
-            line: 0,
-            level: l,
-        },
-        Tipped::Refused(n) => TipAnswer {
-            refusal: n,
-            line: 0,
-            level: 0,
-        },
+impl From<Result<u16, Refusal>> for TipAnswer {
+    ghost from_gives = { λ tipped answer. answer ≡ of_level (read_of tipped) };
+
+    fn from(tipped: Result<u16, Refusal>) -> TipAnswer {
+        match tipped {
+            Ok(l) => TipAnswer {
+                refusal: 0,
+                line: 0,
+                level: l,
+            },
+            Err(r) => TipAnswer {
+                refusal: r.number(),
+                line: 0,
+                level: 0,
+            },
+        }
     }
 }
 
-pub fn widen_answer(turned: Turned) -> WidenAnswer
-    ensures { result ≡ of_turn (of_turned turned) }
-{
-    match turned {
-        Turned::Done => WidenAnswer {
-            refusal: 0,
-            line: 0,
-        },
-        Turned::Refused(n) => WidenAnswer {
-            refusal: n,
-            line: 0,
-        },
+impl From<Result<(), Refusal>> for WidenAnswer {
+    ghost from_gives = { λ turned answer. answer ≡ of_turn (read_of turned) };
+
+    fn from(turned: Result<(), Refusal>) -> WidenAnswer {
+        match turned {
+            Ok(()) => WidenAnswer {
+                refusal: 0,
+                line: 0,
+            },
+            Err(r) => WidenAnswer {
+                refusal: r.number(),
+                line: 0,
+            },
+        }
     }
 }
 
-pub fn export_answer(exported: Exported) -> ExportAnswer
-    ensures { result ≡ of_length (of_exported exported) }
-{
-    match exported {
-        Exported::Written(n) => ExportAnswer {
-            refusal: 0,
-            line: 0,
-            len: n,
-        },
-        Exported::Refused(n) => ExportAnswer {
-            refusal: n,
-            line: 0,
-            len: 0,
-        },
+impl From<Result<usize, Refusal>> for ExportAnswer {
+    ghost from_gives = { λ exported answer. answer ≡ of_length (read_of exported) };
+
+    fn from(exported: Result<usize, Refusal>) -> ExportAnswer {
+        match exported {
+            Ok(n) => ExportAnswer {
+                refusal: 0,
+                line: 0,
+                len: n,
+            },
+            Err(r) => ExportAnswer {
+                refusal: r.number(),
+                line: 0,
+                len: 0,
+            },
+        }
     }
 }
 
-pub fn join_answer(joined: Joined) -> JoinAnswer
-    ensures { result ≡ of_root (of_joined joined) }
-{
-    match joined {
-        Joined::Root(x) => JoinAnswer {
-            refusal: 0,
-            line: 0,
-            root: x,
-        },
-        Joined::Refused(n) => JoinAnswer {
-            refusal: n,
-            line: 0,
-            root: 0,
-        },
+impl From<Result<Edge, Refusal>> for JoinAnswer {
+    ghost from_gives = { λ joined answer. answer ≡ of_root (read_of joined) };
+
+    fn from(joined: Result<Edge, Refusal>) -> JoinAnswer {
+        match joined {
+            Ok(x) => JoinAnswer {
+                refusal: 0,
+                line: 0,
+                root: x,
+            },
+            Err(r) => JoinAnswer {
+                refusal: r.number(),
+                line: 0,
+                root: 0,
+            },
+        }
     }
 }
 

@@ -1,11 +1,13 @@
 -- A search along a chain. A node that holds a level, a then and an else lies in the chain of their bucket, above both children; so a walk
 -- along that chain, newest first, meets it before it meets a number that isn't above both children.
-use mathlib.Core.Path.{◌≡◌, sym, ap, ◌∙◌}
+use mathlib.Core.Path.{◌≡◌, refl, sym, ap, ◌∙◌}
 use mathlib.Core.Bool.{Bool, true, false, true≢false}
-use Prim.Native.Nat.{ℕ, ◌-◌, ◌≤◌, ◌<◌}
+use Prim.Native.Nat.{ℕ, zero, suc, ◌-◌, ◌≤◌, ◌<◌, max}
 use native.Mathlib.Omega.{arith}
 use native.Mathlib.Decide.{ℕ_discrete, dec_lt}
 use lib.IntN.{ℤ, nat_abs}
+use Rattle.std.specs.Prelude.{None, Some}
+use Rattle.chains.specs.Found.{node_found}
 use Rattle.edges.specs.Edge.{bucket_of}
 use Rattle.store.specs.Store.{Store, next_at, head_at}
 use Rattle.store.specs.Rules.{Nodes, bucket}
@@ -21,6 +23,12 @@ module _ (σ : Store) (l : ℕ) (t e : ℤ) (n : ℕ) where
 
   holds-above : Nodes σ → 2 ≤ n → n ≤ σ.count → Holds σ n l t e → (nat_abs t < n) × (nat_abs e < n)
   holds-above N p h a = (rw a.then at (N.fits n p h).then_low, rw a.els at (N.fits n p h).else_low)
+
+-- a number of a node is that of one that is found
+some-found : (n : ℕ) → 0 < n → Some n ≡ node_found n
+unfolding node_found
+some-found zero h = absurd (omega arith)
+some-found (suc n) h = refl
 
 -- A walk that has come to n: a node of the bucket or 0, and no newer node holds them.
 pub record Walking (σ : Store) (l : ℕ) (t e : ℤ) (n : ℕ) : Type 0 where
@@ -61,13 +69,12 @@ module _ (σ : Store) (l : ℕ) (t e : ℤ) where
     pub walking-less : Linked σ → next_at σ n < n
     walking-less L = omega (arith, L.next n (s.node h) s.high, newest-le σ (bucket σ n) (n - 1))
 
-    pub walking-hit : Nodes σ → (x : Bool) → x ≡ holds σ l t e n → x ≡ true → n ≡ find σ l t e
-    walking-hit N x r f = sym (find-is σ l t e N n (s.node h) s.high (holds-true σ l t e n (sym r ∙ f)))
+    pub walking-hit : Nodes σ → (x : Bool) → x ≡ holds σ l t e n → x ≡ true → Some n ≡ node_found (find σ l t e)
+    walking-hit N x r f = some-found n h ∙ ap node_found (sym (find-is σ l t e N n (s.node h) s.high (holds-true σ l t e n (sym r ∙ f))))
 
   -- a walk may end at a number that isn't above both children
-  pub walking-end : (n a b low : ℕ) → Walking σ l t e n → Nodes σ → a ≡ nat_abs t → b ≡ nat_abs e
-      → ((k : ℕ) → a ≤ k → b ≤ k → low ≤ k) → n ≤ low → 0 ≡ find σ l t e
-  walking-end n a b low s N p q g h = sym (absent-find σ l t e (λ i x y o.
+  pub walking-end : (n a b : ℕ) → Walking σ l t e n → Nodes σ → a ≡ nat_abs t → b ≡ nat_abs e → n ≤ max a b → None ≡ node_found (find σ l t e)
+  unfolding node_found
+  walking-end n a b s N p q h = ap node_found (sym (absent-find σ l t e (λ i x y o.
       let z = holds-above σ l t e i N x y o in
-      let r = g (i - 1) (omega arith) (omega arith) in
-      s.passed i (omega arith) x y o))
+      s.passed i (omega arith) x y o)))

@@ -1,5 +1,6 @@
 pub mod Machine
 pub mod Answer
+pub mod Refusals
 pub mod Lent
 pub mod Bytes
 pub mod Codes

@@ -1,109 +1,151 @@
-// The numbers of the refusals. Document 01, 'Answers, by who can cause them'; README.md lists all of them.
+// The refusals, each with its number. Document 01, 'Answers, by who can cause them'; README.md lists all of them.
 
-// A lent part is too short.
-pub const TOO_SHORT: u8 = 1;
+ghost use Rattle.std.specs.Prelude.{◌≡◌};
+ghost use Rattle.codes.specs.Refusals.{number_of, fault_at};
 
-// The level list isn't one level per support variable, strictly ascending, below the store's level count.
-pub const BAD_LEVELS: u8 = 2;
+#[derive(Clone, Copy, PartialEq, Eq)]
+pub enum Refusal {
+    // A lent part is too short.
+    TooShort = 1,
 
-// The store breaks its rules.
-pub const BROKEN_STORE: u8 = 3;
+    // The level list isn't one level per support variable, strictly ascending, below the store's level count.
+    BadLevels = 2,
 
-// A root is 0 or beyond the store's count, there are over 1,024 roots, or a setting isn't one byte 00 or 01 per level.
-pub const BAD_ROOT_OR_SETTING: u8 = 4;
+    // The store breaks its rules.
+    BrokenStore = 3,
 
-// A name list has neither no entry nor one per variable or root, or an export name is unfit.
-pub const BAD_NAME: u8 = 5;
+    // A root is 0 or beyond the store's count, there are over 1,024 roots, or a setting isn't one byte 00 or 01 per level.
+    BadRootOrSetting = 4,
 
-// The variable order isn't a permutation of the levels.
-pub const BAD_ORDER: u8 = 6;
+    // A name list has neither no entry nor one per variable or root, or an export name is unfit.
+    BadName = 5,
 
-// The input ends before `.nodes`.
-pub const NO_NODES: u8 = 10;
+    // The variable order isn't a permutation of the levels.
+    BadOrder = 6,
 
-// A key that there isn't.
-pub const UNKNOWN_KEY: u8 = 11;
+    // The input ends before `.nodes`.
+    NoNodes = 10,
 
-// A version other than DDDMP-2.0 or DDDMP-3.0.
-pub const BAD_VERSION: u8 = 12;
+    // A key that there isn't.
+    UnknownKey = 11,
 
-// An unknown value of `.mode` or `.varinfo`.
-pub const BAD_MODE: u8 = 13;
+    // A version other than DDDMP-2.0 or DDDMP-3.0.
+    BadVersion = 12,
 
-// A single number has a foreign character or no digit.
-pub const NOT_A_NUMBER: u8 = 14;
+    // An unknown value of `.mode` or `.varinfo`.
+    BadMode = 13,
 
-// A number is too large for its width.
-pub const TOO_LARGE: u8 = 15;
+    // A single number has a foreign character or no digit.
+    NotANumber = 14,
 
-// A list has a foreign character.
-pub const FOREIGN: u8 = 16;
+    // A number is too large for its width.
+    TooLarge = 15,
 
-// A second minus, a minus after a digit, or one without its digit.
-pub const MISPLACED_MINUS: u8 = 17;
+    // A list has a foreign character.
+    Foreign = 16,
 
-// A name or the `.dd` value isn't UTF-8.
-pub const NOT_UTF8: u8 = 18;
+    // A second minus, a minus after a digit, or one without its digit.
+    MisplacedMinus = 17,
 
-// Over a limit.
-pub const OVER_LIMIT: u8 = 19;
+    // A name or the `.dd` value isn't UTF-8.
+    NotUtf8 = 18,
 
-// `.nsuppvars` is above `.nvars`.
-pub const OVER_NVARS: u8 = 20;
+    // Over a limit.
+    OverLimit = 19,
 
-// A list of the header has the wrong number of entries.
-pub const WRONG_COUNT: u8 = 21;
+    // `.nsuppvars` is above `.nvars`.
+    OverNvars = 20,
 
-// `.ids` isn't strictly ascending, or its last entry isn't below `.nvars`.
-pub const BAD_IDS: u8 = 22;
+    // A list of the header has the wrong number of entries.
+    WrongCount = 21,
 
-// A permid isn't below `.nvars`, or stands twice.
-pub const BAD_PERMIDS: u8 = 23;
+    // `.ids` isn't strictly ascending, or its last entry isn't below `.nvars`.
+    BadIds = 22,
 
-// Two lists give a support variable unlike names.
-pub const UNLIKE_NAMES: u8 = 24;
+    // A permid isn't below `.nvars`, or stands twice.
+    BadPermids = 23,
 
-// A root is 0.
-pub const ZERO_ROOT: u8 = 25;
+    // Two lists give a support variable unlike names.
+    UnlikeNames = 24,
 
-// A root's magnitude is above `.nnodes`.
-pub const ROOT_OVER_NNODES: u8 = 26;
+    // A root is 0.
+    ZeroRoot = 25,
 
-// The nodes end early.
-pub const ENDS_EARLY: u8 = 30;
+    // A root's magnitude is above `.nnodes`.
+    RootOverNnodes = 26,
 
-// Not the expected node number.
-pub const WRONG_NODE: u8 = 31;
+    // The nodes end early.
+    EndsEarly = 30,
 
-// A missing blank, or not two children.
-pub const BAD_LINE: u8 = 32;
+    // Not the expected node number.
+    WrongNode = 31,
 
-// A terminal is described by other than `T`.
-pub const BAD_TERMINAL: u8 = 33;
+    // A missing blank, or not two children.
+    BadLine = 32,
 
-// A variable is out of range.
-pub const BAD_VARIABLE: u8 = 34;
+    // A terminal is described by other than `T`.
+    BadTerminal = 33,
 
-// A child is 0, or not below its node.
-pub const BAD_CHILD: u8 = 35;
+    // A variable is out of range.
+    BadVariable = 34,
 
-// A level isn't above both children's.
-pub const BAD_LEVEL: u8 = 36;
+    // A child is 0, or not below its node.
+    BadChild = 35,
 
-// A 00 is followed by no byte that an escape has.
-pub const BAD_ESCAPE: u8 = 37;
+    // A level isn't above both children's.
+    BadLevel = 36,
 
-// A binary number is over 64 bits.
-pub const OVER_64_BITS: u8 = 38;
+    // A 00 is followed by no byte that an escape has.
+    BadEscape = 37,
 
-// The nodes aren't followed by `.end` and white space.
-pub const NO_END: u8 = 39;
+    // A binary number is over 64 bits.
+    Over64Bits = 38,
 
-// A line needs a new node, and every slot is used.
-pub const NO_ROOM: u8 = 40;
+    // The nodes aren't followed by `.end` and white space.
+    NoEnd = 39,
 
-// No setting gives the wanted answer.
-pub const NO_SETTING: u8 = 41;
+    // A line needs a new node, and every slot is used.
+    NoRoom = 40,
 
-// No single flip turns the answer over.
-pub const NO_FLIP: u8 = 42;
+    // No setting gives the wanted answer.
+    NoSetting = 41,
+
+    // No single flip turns the answer over.
+    NoFlip = 42,
+}
+
+impl Refusal {
+    // Its number in document 01.
+    pub fn number(self) -> u8
+        ensures { result ≡ number_of self }
+    {
+        self as u8
+    }
+
+    // The refusal of a line of the file.
+    pub fn at(self, line: usize) -> Fault
+        ensures { result ≡ fault_at self line }
+    {
+        Fault {
+            number: self.number(),
+            line,
+        }
+    }
+}
+
+// What a load answers on a refusal: its number, and the line of the file that has it, counted from 1, or 0 where no line is at fault.
+// Stays a number: `DumpHeader::load` hands on whatever number was found before it.
+#[derive(Clone, Copy, PartialEq, Eq)]
+pub struct Fault {
+    pub number: u8,
+    pub line: usize,
+}
+
+// A refusal with no line.
+impl From<Refusal> for Fault {
+    ghost from_gives = { λ r f. f ≡ fault_at r 0 };
+
+    fn from(r: Refusal) -> Fault {
+        r.at(0)
+    }
+}

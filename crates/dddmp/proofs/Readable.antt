@@ -9,9 +9,9 @@ use lib.ListN.{length}
 use borrow.Author.Tests.{eqb-true}
 use Rattle.codes.proofs.Bytes.{both}
 use Rattle.read_lines.specs.Line.{line_of}
-use Rattle.header_keys.specs.Keys.{slot_of}
+use Rattle.header_keys.specs.Keys.{slot_of, entry_of}
 use Rattle.header_keys.specs.declared.Key.TheVariants.{Nodes}
-use Rattle.header_lines.specs.Sweep.{key_at, value_at, said}
+use Rattle.header_lines.specs.Sweep.{key_at, value_at, said_word}
 use Rattle.header_lines.specs.Sweep.{Lines, cut, nodes, line, Said, at_nodes, refused_at, fault_in, lines_from, lines_of, end_from, end_of}
 use Rattle.header_values.specs.Values.{nnodes_in, nsuppvars_in}
 use Rattle.header_checks.proofs.WholeRules.{whole-rules}
@@ -59,8 +59,8 @@ module _ (f : List ℕ) (next lines : ℕ) where
   lines-few zero n at q = no-nodes q
   lines-few (suc fuel) n at q =
       let after = (line_of f at).next in
-      let is_nodes = eqb (slot_of (key_at f at)) (slot_of Nodes) in
-      let here = said (key_at f at) (value_at f at) in
+      let is_nodes = eqb (entry_of (key_at f at)) (slot_of Nodes) in
+      let here = said_word (key_at f at) (value_at f at) in
       let rest = lines_from fuel f after in
       input-few fuel n (elim is_nodes [ true ↦ nodes after | false ↦ line here rest ]) (ltb at (length f))
       (key-few fuel n after here rest is_nodes (lines-few fuel (n + 1) (line_of f at).next)) q

@@ -4,6 +4,8 @@
 #![tactic(auto)]
 
 ghost use Rattle.codes.specs.Lent.{borrowed, seen};
+ghost use Rattle.store.specs.Held.{held, held_mut, SameLists};
+ghost use Rattle.old_stores.specs.Promises.{held_old};
 ghost use Rattle.example_walk.specs.Promises.{ExamplePromise};
 ghost use Rattle.exporter.specs.Promise.{ExportPromise};
 ghost use Rattle.joins.specs.Promises.{JoinPromise, OppositePromise};
@@ -11,16 +13,13 @@ ghost use Rattle.dddmp.specs.Promises.{LoadPromise, EvaluatePromise};
 ghost use Rattle.tipping.specs.Promises.{TipPromise};
 ghost use Rattle.widening.specs.Promises.{WidenPromise};
 
+use codes::refusal::{Fault, Refusal};
 use edges::{Edge, Index};
-use evaluation::Evaluation;
-use example_walk::Found;
-use exporter::{ExportSettings, Exported};
-use header::{DumpHeader, Loaded};
+use exporter::ExportSettings;
+use header::DumpHeader;
 use joined::Op;
-use joins::Joined;
-use old_stores::{OldEdge, OldIndex};
-use tipping::Tipped;
-use widening::Turned;
+use old_stores::OldStoreRef;
+use store::{StoreMut, StoreRef};
 
 // Loads a file into the store. `list` is the level list, one level of the store for each support variable. Beside the store are lent: the
 // lists of the header, that is `.ids`, the support order, `.permids`, `.auxids`, the variables' names as starts and lengths, the roots, the
@@ -28,13 +27,7 @@ use widening::Turned;
 pub fn load(
     f: &[u8],
     list: &[u16],
-    levels: u16,
-    count: &mut Index,
-    level: &mut [u16],
-    then: &mut [Edge],
-    els: &mut [Edge],
-    next: &mut [Index],
-    heads: &mut [Index],
+    store: &mut StoreMut,
     ids: &mut [u32],
     order: &mut [u32],
     permids: &mut [u32],
@@ -47,10 +40,11 @@ pub fn load(
     edges: &mut [Edge],
     seats: &mut [u16],
     work: &mut [Index],
-) -> Loaded
-    ensures { LoadPromise (seen f) (seen list) levels (borrowed count) (borrowed level) (borrowed then) (borrowed els) (borrowed next) (borrowed heads)
-        (borrowed ids) (borrowed order) (borrowed permids) (borrowed auxids) (borrowed names) (borrowed lens) (borrowed roots) (borrowed rootnames)
-        (borrowed rootlens) (borrowed edges) (borrowed seats) (borrowed work) result }
+) -> Result<DumpHeader, Fault>
+    ensures same { SameLists store.old store.new }
+    ensures loaded { LoadPromise (seen f) (seen list) (held_mut store.old) (held_mut store.new) (borrowed ids) (borrowed order) (borrowed permids)
+        (borrowed auxids) (borrowed names) (borrowed lens) (borrowed roots) (borrowed rootnames) (borrowed rootlens) (borrowed edges) (borrowed seats)
+        (borrowed work) result }
 {
     let lists = stages::lists_fault(
         ids.len(),
@@ -63,16 +57,15 @@ pub fn load(
         rootnames.len(),
         rootlens.len(),
     );
-    let found = stages::store_fault(lists, levels, *count, level, then, els, next, heads, work);
+    let now = store.as_ref();
+    let found = stages::store_fault(lists, &now, work);
     let before = stages::length_fault(found, f.len());
     let read = DumpHeader::load(
         f, before, ids, order, permids, auxids, names, lens, roots, rootnames, rootlens,
     );
     let room = stages::check_scratch(read, edges.len(), seats.len());
-    let ready = stages::check_list(room, levels, list);
-    let answer = last_stages::load_nodes(
-        ready, f, levels, list, count, level, then, els, next, heads, roots, edges, seats, work,
-    );
+    let ready = stages::check_list(room, store.levels, list);
+    let answer = last_stages::load_nodes(ready, f, list, store, roots, edges, seats, work);
     last_stages::finish(
         answer, ids, order, permids, auxids, names, lens, rootnames, rootlens,
     );
@@ -81,76 +74,41 @@ pub fn load(
 
 // What an edge of the store answers at a setting, one byte for each level.
 pub fn evaluate(
-    levels: u16,
-    count: Index,
-    level: &[u16],
-    then: &[Edge],
-    els: &[Edge],
-    next: &[Index],
-    heads: &[Index],
+    store: &StoreRef,
     root: Edge,
     setting: &[u8],
     work: &mut [Index],
-) -> Evaluation
-    ensures { EvaluatePromise levels count (seen level) (seen then) (seen els) (seen next) (seen heads) root (seen setting) (borrowed work) result }
+) -> Result<bool, Refusal>
+    ensures { EvaluatePromise (held store.now) root (seen setting) (borrowed work) result }
 {
-    evaluation::evaluate(
-        levels, count, level, then, els, next, heads, root, setting, work,
-    )
+    evaluation::evaluate(store, root, setting, work)
 }
 
 // The first setting at which an edge of the store answers as wanted, level 0 compared first and no before yes: a byte for each level, zeros beyond.
 pub fn example(
-    levels: u16,
-    count: Index,
-    level: &[u16],
-    then: &[Edge],
-    els: &[Edge],
-    next: &[Index],
-    heads: &[Index],
+    store: &StoreRef,
     root: Edge,
     wanted: bool,
     setting: &mut [u8],
     work: &mut [Index],
-) -> Found
-    ensures { ExamplePromise levels count (seen level) (seen then) (seen els) (seen next) (seen heads) root wanted (borrowed setting) (borrowed work) result }
+) -> Result<(), Refusal>
+    ensures { ExamplePromise (held store.now) root wanted (borrowed setting) (borrowed work) result }
 {
-    example_walk::example(
-        levels, count, level, then, els, next, heads, root, wanted, setting, work,
-    )
+    example_walk::example(store, root, wanted, setting, work)
 }
 
 // The lowest level whose flip alone turns an edge's answer at a setting over.
-pub fn tip(
-    levels: u16,
-    count: Index,
-    level: &[u16],
-    then: &[Edge],
-    els: &[Edge],
-    next: &[Index],
-    heads: &[Index],
-    root: Edge,
-    setting: &[u8],
-    work: &mut [Index],
-) -> Tipped
-    ensures { TipPromise levels count (seen level) (seen then) (seen els) (seen next) (seen heads) root (seen setting) (borrowed work) result }
+pub fn tip(store: &StoreRef, root: Edge, setting: &[u8], work: &mut [Index]) -> Result<u16, Refusal>
+    ensures { TipPromise (held store.now) root (seen setting) (borrowed work) result }
 {
-    tipping::tip(
-        levels, count, level, then, els, next, heads, root, setting, work,
-    )
+    tipping::tip(store, root, setting, work)
 }
 
 // Exports the diagrams of roots of the store into `out`. `order` has each variable's level; `bytes` holds the names, `starts` and `lens`
 // the places of the variables', `rootstarts` and `rootlens` of the roots'. `slots` and `numbers` are marks, one for each node.
 pub fn export(
     settings: ExportSettings,
-    levels: u16,
-    count: Index,
-    level: &[u16],
-    then: &[Edge],
-    els: &[Edge],
-    next: &[Index],
-    heads: &[Index],
+    store: &StoreRef,
     roots: &[Edge],
     order: &[u16],
     bytes: &[u8],
@@ -162,81 +120,43 @@ pub fn export(
     numbers: &mut [Index],
     out: &mut [u8],
     work: &mut [Index],
-) -> Exported
-    ensures { ExportPromise settings levels count (seen level) (seen then) (seen els) (seen next) (seen heads)
-        (seen roots) (seen order) (seen bytes) (seen starts) (seen lens) (seen rootstarts) (seen rootlens) (borrowed slots) (borrowed numbers)
-        (borrowed out) (borrowed work) result }
+) -> Result<usize, Refusal>
+    ensures { ExportPromise settings (held store.now) (seen roots) (seen order) (seen bytes) (seen starts) (seen lens) (seen rootstarts) (seen rootlens)
+        (borrowed slots) (borrowed numbers) (borrowed out) (borrowed work) result }
 {
     settings.export(
-        levels, count, level, then, els, next, heads, roots, order, bytes, starts, lens,
-        rootstarts, rootlens, slots, numbers, out, work,
+        store, roots, order, bytes, starts, lens, rootstarts, rootlens, slots, numbers, out, work,
     )
 }
 
 // The root of an operation on two roots of the store: their and, their or, or their exclusive or. `cache`, of any length too, remembers results
 // while they are joined.
 pub fn join(
-    levels: u16,
-    count: &mut Index,
-    level: &mut [u16],
-    then: &mut [Edge],
-    els: &mut [Edge],
-    next: &mut [Index],
-    heads: &mut [Index],
+    store: &mut StoreMut,
     op: Op,
     left: Edge,
     right: Edge,
     cache: &mut [Edge],
     work: &mut [Index],
-) -> Joined
-    ensures { JoinPromise levels (borrowed count) (borrowed level) (borrowed then) (borrowed els) (borrowed next) (borrowed heads) op left right
-        (borrowed cache) (borrowed work) result }
+) -> Result<Edge, Refusal>
+    ensures same { SameLists store.old store.new }
+    ensures joined { JoinPromise (held_mut store.old) (held_mut store.new) op left right (borrowed cache) (borrowed work) result }
 {
-    joins::join(
-        levels, count, level, then, els, next, heads, op, left, right, cache, work,
-    )
+    joins::join(store, op, left, right, cache, work)
 }
 
 // The opposite of a root of the store.
-pub fn opposite(
-    levels: u16,
-    count: Index,
-    level: &[u16],
-    then: &[Edge],
-    els: &[Edge],
-    next: &[Index],
-    heads: &[Index],
-    root: Edge,
-    work: &mut [Index],
-) -> Joined
-    ensures { OppositePromise levels count (seen level) (seen then) (seen els) (seen next) (seen heads) root (borrowed work) result }
+pub fn opposite(store: &StoreRef, root: Edge, work: &mut [Index]) -> Result<Edge, Refusal>
+    ensures { OppositePromise (held store.now) root (borrowed work) result }
 {
-    joins::opposite(levels, count, level, then, els, next, heads, root, work)
+    joins::opposite(store, root, work)
 }
 
 // Turns an old store, whose edges have 16 bits, into a new one with its level count and every node, chain and root number kept. The old store is only
 // read, and judged by the old rules; the new one is output.
-pub fn widen(
-    levels: u16,
-    old_count: OldIndex,
-    old_level: &[u16],
-    old_then: &[OldEdge],
-    old_els: &[OldEdge],
-    old_next: &[OldIndex],
-    old_heads: &[OldIndex],
-    count: &mut Index,
-    level: &mut [u16],
-    then: &mut [Edge],
-    els: &mut [Edge],
-    next: &mut [Index],
-    heads: &mut [Index],
-    work: &mut [Index],
-) -> Turned
-    ensures { WidenPromise levels old_count (seen old_level) (seen old_then) (seen old_els) (seen old_next) (seen old_heads)
-        (borrowed count) (borrowed level) (borrowed then) (borrowed els) (borrowed next) (borrowed heads) (borrowed work) result }
+pub fn widen(old: &OldStoreRef, new: &mut StoreMut, work: &mut [Index]) -> Result<(), Refusal>
+    ensures same { SameLists new.old new.new }
+    ensures turned { WidenPromise (held_old old.now) (held_mut new.old) (held_mut new.new) (borrowed work) result }
 {
-    widening::widen(
-        levels, old_count, old_level, old_then, old_els, old_next, old_heads, count, level, then,
-        els, next, heads, work,
-    )
+    widening::widen(old, new, work)
 }

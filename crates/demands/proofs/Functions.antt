@@ -5,18 +5,16 @@ use contract.Lifetimes.{Lfts}
 use Rattle.std.specs.Borrow.{Bor, MutBor}
 use denote.Triple.Clauses.{AtExit}
 use Rattle.codes.specs.Lent.{Part}
-use Rattle.evaluation.specs.declared.Evaluation.{Evaluation}
-use Rattle.header.specs.declared.Loaded.{Loaded}
-use Rattle.example_walk.specs.declared.Found.{Found}
+use Rattle.std.specs.Prelude.{ℕ, ℤ, Bool, Result}
+use Rattle.codes.specs.declared.refusal.Refusal.{Refusal}
+use Rattle.store.specs.Held.{held, held_mut, SameLists}
+use Rattle.old_stores.specs.Promises.{held_old}
+use Rattle.header.specs.Kinds.{Loaded}
 use Rattle.example_walk.specs.Promises.{ExamplePromise}
-use Rattle.tipping.specs.declared.Tipped.{Tipped}
 use Rattle.tipping.specs.Promises.{TipPromise}
-use Rattle.exporter.specs.declared.Exported.{Exported}
 use Rattle.exporter.specs.Promise.{ExportPromise}
 use Rattle.joined.specs.declared.Op.TheVariants as op
-use Rattle.joins.specs.declared.Joined.{Joined}
 use Rattle.joins.specs.Promises.{JoinPromise, OppositePromise}
-use Rattle.widening.specs.declared.Turned.{Turned}
 use Rattle.widening.specs.Promises.{WidenPromise}
 use Rattle.dddmp.specs.Promises.{LoadPromise, EvaluatePromise}
 use Rattle.dddmp.proofs.load.Reads as load
@@ -35,7 +33,8 @@ use Rattle.dddmp.proofs.opposite.Reads as opposite
 use Rattle.dddmp.proofs.opposite.Kinds as opposite-kinds
 use Rattle.dddmp.proofs.widen.Reads as widen
 use Rattle.dddmp.proofs.widen.Kinds as widen-kinds
-use Rattle.firmware.specs.Promises.{ZtLoadPromise, ZtEvaluatePromise, ZtExamplePromise, ZtTipPromise, ZtExportPromise, ZtJoinPromise, ZtNotPromise, ZtWidenPromise}
+use Rattle.firmware.specs.Promises.{ZtLoadPromise, ZtEvaluatePromise, ZtExamplePromise, ZtTipPromise, ZtExportPromise, ZtJoinPromise, ZtNotPromise}
+use Rattle.firmware.specs.Promises.{ZtWidenPromise}
 use Rattle.c_answers.specs.declared.LoadAnswer.{LoadAnswer}
 use Rattle.c_answers.specs.declared.EvaluateAnswer.{EvaluateAnswer}
 use Rattle.c_answers.specs.declared.ExampleAnswer.{ExampleAnswer}
@@ -71,12 +70,13 @@ part e x = record { at_start = e.now; at_end = x.now }
 abbrev part_mut : {X : Type 0} → MutBor X → MutBor X → Part X
 part_mut e x = record { at_start = e.now; at_end = x.now }
 
-module _ (κs : Lfts 20) (a : Dens κs load-kinds.ps) (r : Loaded) (s : AtExit (ended_of 20 load-kinds.ps load-kinds.r) κs) where
+module _ (κs : Lfts 16) (a : Dens κs load-kinds.ps) (r : Loaded) (s : AtExit (ended_of 16 load-kinds.ps load-kinds.r) κs) where
   pub load-promises : load.Post κs a r s
-      → LoadPromise
+      → (LoadPromise
       (part a.0 s.0)
       (part a.1.0 s.1.0)
-      a.1.1.0
+      (held_mut a.1.1.0.now)
+      (held_mut s.1.1.0.now)
       (part_mut a.1.1.1.0 s.1.1.1.0)
       (part_mut a.1.1.1.1.0 s.1.1.1.1.0)
       (part_mut a.1.1.1.1.1.0 s.1.1.1.1.1.0)
@@ -89,141 +89,93 @@ module _ (κs : Lfts 20) (a : Dens κs load-kinds.ps) (r : Loaded) (s : AtExit (
       (part_mut a.1.1.1.1.1.1.1.1.1.1.1.1.0 s.1.1.1.1.1.1.1.1.1.1.1.1.0)
       (part_mut a.1.1.1.1.1.1.1.1.1.1.1.1.1.0 s.1.1.1.1.1.1.1.1.1.1.1.1.1.0)
       (part_mut a.1.1.1.1.1.1.1.1.1.1.1.1.1.1.0 s.1.1.1.1.1.1.1.1.1.1.1.1.1.1.0)
-      (part_mut a.1.1.1.1.1.1.1.1.1.1.1.1.1.1.1.0 s.1.1.1.1.1.1.1.1.1.1.1.1.1.1.1.0)
-      (part_mut a.1.1.1.1.1.1.1.1.1.1.1.1.1.1.1.1.0 s.1.1.1.1.1.1.1.1.1.1.1.1.1.1.1.1.0)
-      (part_mut a.1.1.1.1.1.1.1.1.1.1.1.1.1.1.1.1.1.0 s.1.1.1.1.1.1.1.1.1.1.1.1.1.1.1.1.1.0)
-      (part_mut a.1.1.1.1.1.1.1.1.1.1.1.1.1.1.1.1.1.1.0 s.1.1.1.1.1.1.1.1.1.1.1.1.1.1.1.1.1.1.0)
-      (part_mut a.1.1.1.1.1.1.1.1.1.1.1.1.1.1.1.1.1.1.1.0 s.1.1.1.1.1.1.1.1.1.1.1.1.1.1.1.1.1.1.1.0)
-      (part_mut a.1.1.1.1.1.1.1.1.1.1.1.1.1.1.1.1.1.1.1.1.0 s.1.1.1.1.1.1.1.1.1.1.1.1.1.1.1.1.1.1.1.1.0)
-      r
-  load-promises p = p
+      r)
+      × SameLists a.1.1.0.now s.1.1.0.now
+  load-promises p = (p.1, p.0)
 
-module _ (κs : Lfts 7) (a : Dens κs evaluate-kinds.ps) (r : Evaluation) (s : AtExit (ended_of 7 evaluate-kinds.ps evaluate-kinds.r) κs) where
+module _ (κs : Lfts 4) (a : Dens κs evaluate-kinds.ps) (r : Result Bool Refusal) (s : AtExit (ended_of 4 evaluate-kinds.ps evaluate-kinds.r) κs) where
   pub evaluate-promises : evaluate.Post κs a r s
       → EvaluatePromise
-      a.0
+      (held a.0.now)
       a.1.0
       (part a.1.1.0 s.1.1.0)
-      (part a.1.1.1.0 s.1.1.1.0)
-      (part a.1.1.1.1.0 s.1.1.1.1.0)
-      (part a.1.1.1.1.1.0 s.1.1.1.1.1.0)
-      (part a.1.1.1.1.1.1.0 s.1.1.1.1.1.1.0)
-      a.1.1.1.1.1.1.1.0
-      (part a.1.1.1.1.1.1.1.1.0 s.1.1.1.1.1.1.1.1.0)
-      (part_mut a.1.1.1.1.1.1.1.1.1.0 s.1.1.1.1.1.1.1.1.1.0)
+      (part_mut a.1.1.1.0 s.1.1.1.0)
       r
   evaluate-promises p = p
 
-module _ (κs : Lfts 7) (a : Dens κs tip-kinds.ps) (r : Tipped) (s : AtExit (ended_of 7 tip-kinds.ps tip-kinds.r) κs) where
+module _ (κs : Lfts 4) (a : Dens κs tip-kinds.ps) (r : Result ℕ Refusal) (s : AtExit (ended_of 4 tip-kinds.ps tip-kinds.r) κs) where
   pub tip-promises : tip.Post κs a r s
       → TipPromise
-      a.0
+      (held a.0.now)
       a.1.0
       (part a.1.1.0 s.1.1.0)
-      (part a.1.1.1.0 s.1.1.1.0)
-      (part a.1.1.1.1.0 s.1.1.1.1.0)
-      (part a.1.1.1.1.1.0 s.1.1.1.1.1.0)
-      (part a.1.1.1.1.1.1.0 s.1.1.1.1.1.1.0)
-      a.1.1.1.1.1.1.1.0
-      (part a.1.1.1.1.1.1.1.1.0 s.1.1.1.1.1.1.1.1.0)
-      (part_mut a.1.1.1.1.1.1.1.1.1.0 s.1.1.1.1.1.1.1.1.1.0)
+      (part_mut a.1.1.1.0 s.1.1.1.0)
       r
   tip-promises p = p
 
-module _ (κs : Lfts 16) (a : Dens κs export-kinds.ps) (r : Exported) (s : AtExit (ended_of 16 export-kinds.ps export-kinds.r) κs) where
+module _ (κs : Lfts 13) (a : Dens κs export-kinds.ps) (r : Result ℕ Refusal) (s : AtExit (ended_of 13 export-kinds.ps export-kinds.r) κs) where
   pub export-promises : export.Post κs a r s
       → ExportPromise
       a.0
-      a.1.0
-      a.1.1.0
+      (held a.1.0.now)
+      (part a.1.1.0 s.1.1.0)
       (part a.1.1.1.0 s.1.1.1.0)
       (part a.1.1.1.1.0 s.1.1.1.1.0)
       (part a.1.1.1.1.1.0 s.1.1.1.1.1.0)
       (part a.1.1.1.1.1.1.0 s.1.1.1.1.1.1.0)
       (part a.1.1.1.1.1.1.1.0 s.1.1.1.1.1.1.1.0)
       (part a.1.1.1.1.1.1.1.1.0 s.1.1.1.1.1.1.1.1.0)
-      (part a.1.1.1.1.1.1.1.1.1.0 s.1.1.1.1.1.1.1.1.1.0)
-      (part a.1.1.1.1.1.1.1.1.1.1.0 s.1.1.1.1.1.1.1.1.1.1.0)
-      (part a.1.1.1.1.1.1.1.1.1.1.1.0 s.1.1.1.1.1.1.1.1.1.1.1.0)
-      (part a.1.1.1.1.1.1.1.1.1.1.1.1.0 s.1.1.1.1.1.1.1.1.1.1.1.1.0)
-      (part a.1.1.1.1.1.1.1.1.1.1.1.1.1.0 s.1.1.1.1.1.1.1.1.1.1.1.1.1.0)
-      (part a.1.1.1.1.1.1.1.1.1.1.1.1.1.1.0 s.1.1.1.1.1.1.1.1.1.1.1.1.1.1.0)
-      (part_mut a.1.1.1.1.1.1.1.1.1.1.1.1.1.1.1.0 s.1.1.1.1.1.1.1.1.1.1.1.1.1.1.1.0)
-      (part_mut a.1.1.1.1.1.1.1.1.1.1.1.1.1.1.1.1.0 s.1.1.1.1.1.1.1.1.1.1.1.1.1.1.1.1.0)
-      (part_mut a.1.1.1.1.1.1.1.1.1.1.1.1.1.1.1.1.1.0 s.1.1.1.1.1.1.1.1.1.1.1.1.1.1.1.1.1.0)
-      (part_mut a.1.1.1.1.1.1.1.1.1.1.1.1.1.1.1.1.1.1.0 s.1.1.1.1.1.1.1.1.1.1.1.1.1.1.1.1.1.1.0)
-      r
-  export-promises p = p
-
-module _ (κs : Lfts 8) (a : Dens κs join-kinds.ps) (r : Joined) (s : AtExit (ended_of 8 join-kinds.ps join-kinds.r) κs) where
-  pub join-promises : join.Post κs a r s
-      → JoinPromise
-      a.0
-      (part_mut a.1.0 s.1.0)
-      (part_mut a.1.1.0 s.1.1.0)
-      (part_mut a.1.1.1.0 s.1.1.1.0)
-      (part_mut a.1.1.1.1.0 s.1.1.1.1.0)
-      (part_mut a.1.1.1.1.1.0 s.1.1.1.1.1.0)
-      (part_mut a.1.1.1.1.1.1.0 s.1.1.1.1.1.1.0)
-      a.1.1.1.1.1.1.1.0
-      a.1.1.1.1.1.1.1.1.0
-      a.1.1.1.1.1.1.1.1.1.0
-      (part_mut a.1.1.1.1.1.1.1.1.1.1.0 s.1.1.1.1.1.1.1.1.1.1.0)
-      (part_mut a.1.1.1.1.1.1.1.1.1.1.1.0 s.1.1.1.1.1.1.1.1.1.1.1.0)
-      r
-  join-promises p = p
-
-module _ (κs : Lfts 7) (a : Dens κs example-kinds.ps) (r : Found) (s : AtExit (ended_of 7 example-kinds.ps example-kinds.r) κs) where
-  pub example-promises : example.Post κs a r s
-      → ExamplePromise
-      a.0
-      a.1.0
-      (part a.1.1.0 s.1.1.0)
-      (part a.1.1.1.0 s.1.1.1.0)
-      (part a.1.1.1.1.0 s.1.1.1.1.0)
-      (part a.1.1.1.1.1.0 s.1.1.1.1.1.0)
-      (part a.1.1.1.1.1.1.0 s.1.1.1.1.1.1.0)
-      a.1.1.1.1.1.1.1.0
-      a.1.1.1.1.1.1.1.1.0
-      (part_mut a.1.1.1.1.1.1.1.1.1.0 s.1.1.1.1.1.1.1.1.1.0)
-      (part_mut a.1.1.1.1.1.1.1.1.1.1.0 s.1.1.1.1.1.1.1.1.1.1.0)
-      r
-  example-promises p = p
-
-module _ (κs : Lfts 6) (a : Dens κs opposite-kinds.ps) (r : Joined) (s : AtExit (ended_of 6 opposite-kinds.ps opposite-kinds.r) κs) where
-  pub opposite-promises : opposite.Post κs a r s
-      → OppositePromise
-      a.0
-      a.1.0
-      (part a.1.1.0 s.1.1.0)
-      (part a.1.1.1.0 s.1.1.1.0)
-      (part a.1.1.1.1.0 s.1.1.1.1.0)
-      (part a.1.1.1.1.1.0 s.1.1.1.1.1.0)
-      (part a.1.1.1.1.1.1.0 s.1.1.1.1.1.1.0)
-      a.1.1.1.1.1.1.1.0
-      (part_mut a.1.1.1.1.1.1.1.1.0 s.1.1.1.1.1.1.1.1.0)
-      r
-  opposite-promises p = p
-
-module _ (κs : Lfts 12) (a : Dens κs widen-kinds.ps) (r : Turned) (s : AtExit (ended_of 12 widen-kinds.ps widen-kinds.r) κs) where
-  pub widen-promises : widen.Post κs a r s
-      → WidenPromise
-      a.0
-      a.1.0
-      (part a.1.1.0 s.1.1.0)
-      (part a.1.1.1.0 s.1.1.1.0)
-      (part a.1.1.1.1.0 s.1.1.1.1.0)
-      (part a.1.1.1.1.1.0 s.1.1.1.1.1.0)
-      (part a.1.1.1.1.1.1.0 s.1.1.1.1.1.1.0)
-      (part_mut a.1.1.1.1.1.1.1.0 s.1.1.1.1.1.1.1.0)
-      (part_mut a.1.1.1.1.1.1.1.1.0 s.1.1.1.1.1.1.1.1.0)
       (part_mut a.1.1.1.1.1.1.1.1.1.0 s.1.1.1.1.1.1.1.1.1.0)
       (part_mut a.1.1.1.1.1.1.1.1.1.1.0 s.1.1.1.1.1.1.1.1.1.1.0)
       (part_mut a.1.1.1.1.1.1.1.1.1.1.1.0 s.1.1.1.1.1.1.1.1.1.1.1.0)
       (part_mut a.1.1.1.1.1.1.1.1.1.1.1.1.0 s.1.1.1.1.1.1.1.1.1.1.1.1.0)
-      (part_mut a.1.1.1.1.1.1.1.1.1.1.1.1.1.0 s.1.1.1.1.1.1.1.1.1.1.1.1.1.0)
       r
-  widen-promises p = p
+  export-promises p = p
+
+module _ (κs : Lfts 4) (a : Dens κs join-kinds.ps) (r : Result ℤ Refusal) (s : AtExit (ended_of 4 join-kinds.ps join-kinds.r) κs) where
+  pub join-promises : join.Post κs a r s
+      → (JoinPromise
+      (held_mut a.0.now)
+      (held_mut s.0.now)
+      a.1.0
+      a.1.1.0
+      a.1.1.1.0
+      (part_mut a.1.1.1.1.0 s.1.1.1.1.0)
+      (part_mut a.1.1.1.1.1.0 s.1.1.1.1.1.0)
+      r)
+      × SameLists a.0.now s.0.now
+  join-promises p = (p.1, p.0)
+
+module _ (κs : Lfts 4) (a : Dens κs example-kinds.ps) (r : Result Unit Refusal) (s : AtExit (ended_of 4 example-kinds.ps example-kinds.r) κs) where
+  pub example-promises : example.Post κs a r s
+      → ExamplePromise
+      (held a.0.now)
+      a.1.0
+      a.1.1.0
+      (part_mut a.1.1.1.0 s.1.1.1.0)
+      (part_mut a.1.1.1.1.0 s.1.1.1.1.0)
+      r
+  example-promises p = p
+
+module _ (κs : Lfts 3) (a : Dens κs opposite-kinds.ps) (r : Result ℤ Refusal) (s : AtExit (ended_of 3 opposite-kinds.ps opposite-kinds.r) κs) where
+  pub opposite-promises : opposite.Post κs a r s
+      → OppositePromise
+      (held a.0.now)
+      a.1.0
+      (part_mut a.1.1.0 s.1.1.0)
+      r
+  opposite-promises p = p
+
+module _ (κs : Lfts 5) (a : Dens κs widen-kinds.ps) (r : Result Unit Refusal) (s : AtExit (ended_of 5 widen-kinds.ps widen-kinds.r) κs) where
+  pub widen-promises : widen.Post κs a r s
+      → (WidenPromise
+      (held_old a.0.now)
+      (held_mut a.1.0.now)
+      (held_mut s.1.0.now)
+      (part_mut a.1.1.0 s.1.1.0)
+      r)
+      × SameLists a.1.0.now s.1.0.now
+  widen-promises p = (p.1, p.0)
 
 module _ (κs : Lfts 20) (a : Dens κs zt-load-kinds.ps) (r : LoadAnswer) (s : AtExit (ended_of 20 zt-load-kinds.ps zt-load-kinds.r) κs) where
   pub zt-load-promises : zt-load.Post κs a r s

@@ -1,4 +1,4 @@
--- How wide an edge is. With the aliases and the two constants of src/lib.rt this is what a wider edge changes.
+-- How wide an edge is. With the aliases of src/lib.rt this is what a wider edge changes.
 use Rattle.std.specs.Prelude.{ℕ, ◌^◌}
 use Rattle.std.specs.Int.{Width, w32}
 

@@ -1,7 +1,7 @@
 -- The call: what refuses it, what the walk is given, and what the whole leaves.
 use Prim.Native.Nat.{ℕ, zero, suc, ◌-◌, ◌≤◌}
-use mathlib.Core.Path.{◌≡◌, refl, sym, ap, fun_ext, ◌∙◌}
-use mathlib.Core.Bool.{Bool, true, false, not, cond, xor}
+use mathlib.Core.Path.{◌≡◌, refl, sym, ap, ◌∙◌}
+use mathlib.Core.Bool.{Bool, true, false, cond}
 use mathlib.Core.List.{List, ◌∷◌, ◌++◌}
 use native.Mathlib.Omega.{arith}
 use lib.Dec.{ltb}
@@ -10,18 +10,19 @@ use lib.IntN.{ℤ, nat_abs}
 use mir.Val.{SFits, to_z, of_z}
 use mir.ValLaws.{to_z-of_z}
 use borrow.Author.Tests.{ltb-false, le-ltb}
+use Rattle.codes.proofs.Numbered.{number-not-none}
+use Rattle.codes.specs.Refusals.{number_of}
+use Rattle.codes.specs.declared.refusal.Refusal.{Refusal}
 use Rattle.codes.specs.Answer.{value, refused}
 use Rattle.codes.specs.Limits.{limits}
 use Rattle.edges.specs.Width.{edge_width}
-use Rattle.store.specs.Store.{Store, slots}
+use Rattle.store.specs.Store.{Store}
 use Rattle.store.specs.Keeps.{keeps, keeps-true, rules-keeps}
 use Rattle.store.specs.Rules.{Rules}
 use Rattle.store.specs.Growth.{is_root, EdgeOf}
-use Rattle.store.specs.Settings.{chosen}
 use Rattle.store.proofs.Growth.{root-edge, edge-root}
 use Rattle.evaluation.specs.SettingBytes.{bytes_of}
 use Rattle.evaluation.proofs.Evaluating.{rules-walk}
-use Rattle.evaluation.proofs.Walk.{slots-answer}
 use Rattle.example_walk.specs.Example.{settings, first_of, answers_as, example_of, left_setting}
 use Rattle.example_walk.specs.Course.{never, example_fault, WalkAsks}
 use Rattle.example_walk.specs.Promises.{told}
@@ -38,11 +39,6 @@ drop-zeros : (n m : ℕ) → drop {A = ℕ} n (replicate m 0) ≡ replicate (m -
 drop-zeros zero m = let k : m - 0 ≡ m = omega arith in rw k
 drop-zeros (suc n) zero = let k : 0 - suc n ≡ 0 = omega arith in rw k
 drop-zeros (suc n) (suc m) = let k : suc m - suc n ≡ m - n = omega arith in rw k (drop-zeros n m)
-
--- what refuses the call, as the code finds it
-pub fault-read : (σ : Store) (e : ℤ) (wanted : Bool) {l long n : ℕ} → SFits edge_width e → l ≡ long
-    → n ≡ example_fault limits σ (to_z edge_width (of_z edge_width e)) wanted l → n ≡ example_fault limits σ e wanted long
-fault-read σ e wanted f q h = h ∙ rw (to_z-of_z edge_width e f, q)
 
 -- and the call, as a caller reads its root and its wanted answer
 pub example-read : (σ : Store) (e : ℤ) → SFits edge_width e → {w v : Bool} → w ≡ v → (long : ℕ)
@@ -67,7 +63,10 @@ module _ (σ : Store) (e : ℤ) (wanted : Bool) (long : ℕ) where
   judged-by true b c d p q r s = (λ z. absurd (omega arith), λ z. rw p)
   judged-by false false c d p q r s = (λ z. absurd (omega arith), λ z. rw (p, q))
   judged-by false true false d p q r s = (λ z. absurd (omega arith), λ z. rw (p, q, r))
-  judged-by false true true true p q r s = (λ z. absurd (omega arith), λ z. rw (p, q, r) (none_first (answers_as σ e wanted) σ.levels (never-none σ e wanted σ.levels s)))
+  judged-by false true true true p q r s = (
+    λ z. absurd (omega arith),
+    λ z. rw (p, q, r) (none_first (answers_as σ e wanted) σ.levels (never-none σ e wanted σ.levels s)),
+  )
   judged-by false true true false p q r s =
       (λ z. record { room = ltb-false long σ.levels p; rules = keeps-true limits σ q; edge = root-edge σ e r; can = s }, λ z. absurd (z refl))
 
@@ -75,11 +74,11 @@ module _ (σ : Store) (e : ℤ) (wanted : Bool) (long : ℕ) where
   judged = judged-by (ltb long σ.levels) (keeps limits σ) (is_root σ e) (never e wanted) refl refl refl refl
 
   -- A refusal: the setting is zeros.
-  module _ {n : ℕ} (q : n ≡ example_fault limits σ e wanted long) (h : n ≡ 0 → ⊥) where
-    refused-so : example_of limits σ e wanted long ≡ refused n
-    refused-so = (rw q (judged.1 (λ z. h (q ∙ z))))
+  module _ (r : Refusal) (q : number_of r ≡ example_fault limits σ e wanted long) where
+    refused-so : example_of limits σ e wanted long ≡ refused (number_of r)
+    refused-so = rw q (judged.1 (λ z. number-not-none r (q ∙ z)))
 
-    pub refused-answer : refused n ≡ told (example_of limits σ e wanted long)
+    pub refused-answer : refused (number_of r) ≡ told (example_of limits σ e wanted long)
     refused-answer = rw refused-so
 
     pub refused-left : {b : List ℕ} → b ≡ replicate long 0 → b ≡ left_setting long (example_of limits σ e wanted long)
@@ -90,9 +89,6 @@ module _ (σ : Store) (e : ℤ) (wanted : Bool) (long : ℕ) where
     clear : Clear σ e wanted long
     clear = judged.0 (sym q)
 
-    pub clear_room : σ.levels ≤ long
-    clear_room = clear.room
-
     module _ {b : List ℕ} (z : b ≡ replicate long 0) where
       part : take σ.levels b ≡ replicate σ.levels 0
       part = ap (take σ.levels) z ∙ take-zeros σ.levels long clear.room
@@ -100,7 +96,7 @@ module _ (σ : Store) (e : ℤ) (wanted : Bool) (long : ℕ) where
       pub part-long : length (take σ.levels b) ≡ σ.levels
       part-long = ap length part ∙ length-replicate σ.levels 0
 
-      pub walk-asks : WalkAsks σ.level σ.then σ.els e wanted (take σ.levels b)
+      pub walk-asks : WalkAsks σ e wanted (take σ.levels b)
       walk-asks =
           record {
             walks = rules-walk clear.rules (nat_abs e) clear.edge.there part-long;
@@ -110,12 +106,10 @@ module _ (σ : Store) (e : ℤ) (wanted : Bool) (long : ℕ) where
           }
 
       -- and leaves the first setting, with zeros behind it.
-      module _ {s : List Bool} {w : List ℕ} (first : first_of (answers_as (slots σ.level σ.then σ.els) e wanted) (settings (length (take σ.levels b))) ≡ value s)
+      module _ {s : List Bool} {w : List ℕ} (first : first_of (answers_as σ e wanted) (settings (length (take σ.levels b))) ≡ value s)
           (left : w ≡ bytes_of s) where
         found : first_of (answers_as σ e wanted) (settings σ.levels) ≡ value s
-        found =
-            let p : answers_as σ e wanted ≡ answers_as (slots σ.level σ.then σ.els) e wanted = fun_ext (λ t. ap (λ a. not (xor a wanted)) (slots-answer σ (chosen t) e)) in
-            ap (λ f. first_of f (settings σ.levels)) p ∙ (rw part-long at first)
+        found = rw part-long at first
 
         example-found : example_of limits σ e wanted long ≡ value s
         unfolding example_of

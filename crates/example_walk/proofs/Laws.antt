@@ -91,7 +91,8 @@ module _ {m : Limits} {σ : Store} {e : ℤ} {wanted : Bool} {long : ℕ} {s : L
       of : (b : Bool) → chosen s l ≡ b → b ≡ false
       of false q = refl
       of true q =
-          let a : answer σ (chosen (set s l false)) e ≡ wanted = u (chosen (set s l false)) (chosen s) (λ j z. get_or-set_other s l j false false z) ∙ given-answers G in
+          let a : answer σ (chosen (set s l false)) e ≡ wanted = u (chosen (set s l false)) (chosen s) (λ j z. get_or-set_other s l j false false z)
+          ∙ given-answers G in
           let p : answers_as σ e wanted (set s l false) ≡ true = alike-yes _ _ a in
           absurd (true≢false (sym p ∙ G.first.least (set s l false) (length-set s l false ∙ G.first.long) (no-before s l q)))
 

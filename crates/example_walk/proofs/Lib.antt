@@ -1,6 +1,5 @@
 pub mod Calling
 pub mod Examples
-pub mod Faults
 pub mod First
 pub mod Laws
 pub mod Stepping

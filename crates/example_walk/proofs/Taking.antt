@@ -182,4 +182,6 @@ module _ (σ : Store) (e : ℤ) (wanted : Bool) where
         -- then and else differ
         can : (c : Bool) → b ≡ c → nat_abs (then_at σ n) ≡ 1 → c ≡ true
         can true q k = refl
-        can false q k = absurd (fits.differ (both_one (then_at σ n) (else_at σ n) fits.positive k (never-one (else_at σ n) b w) (never_other (else_at σ n) b w ∙ ap not q)))
+        can false q k =
+            let yes = never_other (else_at σ n) b w ∙ ap not q in
+            absurd (fits.differ (both_one (then_at σ n) (else_at σ n) fits.positive k (never-one (else_at σ n) b w) yes))

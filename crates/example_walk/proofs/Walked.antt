@@ -134,7 +134,8 @@ module _ (σ : Store) (e : ℤ) (wanted : Bool) {b : List ℕ} {asked : Bool} (W
       least t l d z true k =
           let here : setting_of b d.level ≡ true = ap (λ f. f d.level) z ∙ d.yes_there in
           let same : (j : ℕ) → j < d.level → chosen t j ≡ setting_of b j = λ j h. d.above j h ∙ sym (ap (λ f. f j) z) in
-          absurd (true≢false (sym (W.taking.least (chosen t) (yes-alike _ _ k) d.level (omega (arith, d.within, W.long, length-map s byte_of, ap length q)) same here) ∙ d.no_there))
+          let low : d.level < σ.levels = omega (arith, d.within, W.long, length-map s byte_of, ap length q) in
+          absurd (true≢false (sym (W.taking.least (chosen t) (yes-alike _ _ k) d.level low same here) ∙ d.no_there))
 
   pub walking-end : (s : List Bool) × (b ≡ bytes_of s) × (first_of (answers_as σ e wanted) (settings σ.levels) ≡ value s)
   walking-end =

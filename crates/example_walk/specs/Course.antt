@@ -17,10 +17,10 @@ abbrev pub example_fault : Limits → Store → ℤ → Bool → ℕ → ℕ
 example_fault m σ e wanted long =
     cond (ltb long σ.levels) 1 (cond (keeps m σ) (cond (is_root σ e) (cond (never e wanted) 41 0) 4) 3)
 
--- What a walk down from a root asks: the lists hold its nodes, which keep the rules of nodes for as many levels as the setting has bytes, the
+-- What a walk down from a root asks: the lists hold its nodes, which keep the rules of nodes, for as many levels as the setting has bytes; the
 -- root can answer as wanted, and the setting is all no.
-pub record WalkAsks (level : List ℕ) (then els : List ℤ) (root : ℤ) (wanted : Bool) (setting : List ℕ) : Type 0 where
-  pub walks : Walks level then els setting (nat_abs root)
+pub record WalkAsks (σ : Store) (root : ℤ) (wanted : Bool) (setting : List ℕ) : Type 0 where
+  pub walks : Walks σ setting (nat_abs root)
   pub some : 1 ≤ nat_abs root
   pub can : never root wanted ≡ false
   pub zeros : setting ≡ replicate (length setting) 0

@@ -1,22 +1,17 @@
 // A walk that would count: the first setting at which a root answers as wanted, level 0 compared first and no before yes.
 #![tactic(auto)]
 
-ghost use Rattle.codes.specs.Lent.{borrowed, seen};
+ghost use Rattle.codes.specs.Lent.{borrowed};
+ghost use Rattle.codes.specs.Limits.{limits};
+ghost use Rattle.codes.specs.Refusals.{fault_of};
 ghost use Rattle.std.specs.Prelude.{◌≡◌};
+ghost use Rattle.store.specs.Held.{held};
 ghost use Rattle.example_walk.specs.Course.{never, example_fault, WalkAsks};
 ghost use Rattle.example_walk.specs.Promises.{WalkPromise, ExamplePromise};
-ghost use Rattle.store.specs.Lent.{old_store};
-ghost use Rattle.codes.specs.Limits.{limits};
 
-use codes::refusal;
+use codes::refusal::Refusal;
 use edges::{Edge, Index};
-
-// That a setting was found, or a refusal.
-#[derive(Clone, Copy)]
-pub enum Found {
-    Setting,
-    Refused(u8),
-}
+use store::StoreRef;
 
 // Is this an edge that never answers so? Only one to node 1 is, since every other one answers yes at some settings and no at others.
 fn never_answers(e: Edge, wanted: bool) -> bool
@@ -27,19 +22,19 @@ fn never_answers(e: Edge, wanted: bool) -> bool
 
 // Walks down from a root to the first setting that answers as wanted: at each node it takes no, unless no's edge never answers so. Levels that
 // it doesn't meet stay no.
-fn walk(level: &[u16], then: &[Edge], els: &[Edge], root: Edge, wanted: bool, setting: &mut [u8])
-    requires { WalkAsks level.now then.now els.now root wanted setting.old }
-    ensures { WalkPromise (seen level) (seen then) (seen els) root wanted (borrowed setting) }
+fn walk(store: &StoreRef, root: Edge, wanted: bool, setting: &mut [u8])
+    requires { WalkAsks (held store.now) root wanted setting.old }
+    ensures { WalkPromise (held store.now) root wanted (borrowed setting) }
 {
     let mut n = edges::magnitude(root);
     // What node n is to answer.
     let mut asked = wanted != edges::is_minus(root);
     while n > 1 {
         let i = n as usize - 1;
-        let e = els[i];
+        let e = store.els[i];
         if never_answers(e, asked) {
-            setting[level[i] as usize] = 1;
-            n = edges::magnitude(then[i]);
+            setting[store.level[i] as usize] = 1;
+            n = edges::magnitude(store.then[i]);
         } else {
             n = edges::magnitude(e);
             asked = asked != edges::is_minus(e);
@@ -47,80 +42,47 @@ fn walk(level: &[u16], then: &[Edge], els: &[Edge], root: Edge, wanted: bool, se
     }
 }
 
-// What refuses the call, 0 for nothing: 1 where the setting is shorter than the levels, 3 where the store breaks its rules, 4 where the root isn't
-// one of it, 41 where it never answers as wanted.
+// What refuses the call: that the setting is shorter than the levels, the store breaks its rules, the root isn't one of it or it never answers as
+// wanted.
 fn example_fault(
-    levels: u16,
-    count: Index,
-    level: &[u16],
-    then: &[Edge],
-    els: &[Edge],
-    next: &[Index],
-    heads: &[Index],
+    store: &StoreRef,
     root: Edge,
     wanted: bool,
     long: usize,
     work: &mut [Index],
-) -> u8
-    ensures { result ≡ example_fault limits (old_store levels count (seen level) (seen then) (seen els) (seen next) (seen heads)) root wanted long }
+) -> Result<(), Refusal>
+    ensures { fault_of result ≡ example_fault limits (held store.now) root wanted long }
 {
-    if long < levels as usize {
-        return refusal::TOO_SHORT;
+    if long < store.levels as usize {
+        return Err(Refusal::TooShort);
     }
-    if !rules::keeps_rules(levels, count, level, then, els, next, heads, count, work) {
-        return refusal::BROKEN_STORE;
+    if !rules::keeps_rules(store, store.count, work) {
+        return Err(Refusal::BrokenStore);
     }
-    if !evaluation::is_root(count, root) {
-        return refusal::BAD_ROOT_OR_SETTING;
+    if !evaluation::is_root(store.count, root) {
+        return Err(Refusal::BadRootOrSetting);
     }
     if never_answers(root, wanted) {
-        return refusal::NO_SETTING;
+        return Err(Refusal::NoSetting);
     }
-    0
+    Ok(())
 }
 
 // The first setting at which a root of the store answers as wanted, one byte for each level, and zeros beyond them. `work` is for the check of the
 // store: of any length, and zeros afterwards.
 pub fn example(
-    levels: u16,
-    count: Index,
-    level: &[u16],
-    then: &[Edge],
-    els: &[Edge],
-    next: &[Index],
-    heads: &[Index],
+    store: &StoreRef,
     root: Edge,
     wanted: bool,
     setting: &mut [u8],
     work: &mut [Index],
-) -> Found
-    ensures { ExamplePromise levels count (seen level) (seen then) (seen els) (seen next) (seen heads) root wanted (borrowed setting) (borrowed work) result }
+) -> Result<(), Refusal>
+    ensures { ExamplePromise (held store.now) root wanted (borrowed setting) (borrowed work) result }
 {
-    zeros::clear_bytes(setting);
-    let fault = example_fault(
-        levels,
-        count,
-        level,
-        then,
-        els,
-        next,
-        heads,
-        root,
-        wanted,
-        setting.len(),
-        work,
-    );
-    zeros::clear_marks(work);
-    if fault != 0 {
-        return Found::Refused(fault);
-    }
-    walk(
-        level,
-        then,
-        els,
-        root,
-        wanted,
-        &mut setting[..levels as usize],
-    );
-    Found::Setting
+    setting.fill(0);
+    let checked = example_fault(store, root, wanted, setting.len(), work);
+    work.fill(0);
+    checked?;
+    walk(store, root, wanted, &mut setting[..store.levels as usize]);
+    Ok(())
 }

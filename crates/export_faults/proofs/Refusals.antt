@@ -1,6 +1,6 @@
 -- The refusals of an export, by the first of its tests that fails.
 use mathlib.Core.Path.{◌≡◌, ap, ◌∙◌}
-use mathlib.Core.Bool.{Bool, true, false, not}
+use mathlib.Core.Bool.{Bool, true, false}
 use mathlib.Core.List.{List}
 use Prim.Native.Nat.{ℕ, ◌≤◌}
 use native.Mathlib.Omega.{arith}
@@ -45,13 +45,11 @@ module _ (σ : Store) (roots : List ℤ) (order : List ℕ) (p : Lent) (slots nu
           refused_none e = rw (a, b, c, d, e)
 
 -- a store that keeps the rules has no more levels than a table of variables has room for
-pub vars_long : (σ : Store) (vars : List ℕ) → keeps limits σ ≡ true → vars ≡ replicate var_limit 0
-    → (σ.levels ≤ length vars) × (vars ≡ replicate (length vars) 0)
+pub vars_long : (σ : Store) (vars : List ℕ) → keeps limits σ ≡ true → vars ≡ replicate var_limit 0 → σ.levels ≤ length vars
 vars_long σ vars k z =
     let long : length vars ≡ var_limit = ap length z ∙ length-replicate {A = ℕ} var_limit 0 in
-    (omega (arith, (keeps-true limits σ k).sizes.levels_limit), rw long z)
+    omega (arith, (keeps-true limits σ k).sizes.levels_limit)
 
 -- the table of an order that is one
-pub seats-there : (r : Bool) (order vars : List ℕ) → not r ≡ false → SeatsIf r order vars → Seats order vars
-seats-there true order vars e h = h
-seats-there false order vars e h = absurd (let z : ◌≡◌ {A = ℕ} 0 1 = cc in omega arith)
+pub seats-there : {r : Bool} (order vars : List ℕ) → r ≡ true → SeatsIf r order vars → Seats order vars
+seats-there order vars e h = rw e at h

@@ -1,6 +1,6 @@
 -- The roots of an export, checked from the first to the last.
-use mathlib.Core.Path.{◌≡◌, sym, ap, ◌∙◌}
-use mathlib.Core.Bool.{Bool, true, false, not, ◌&&◌}
+use mathlib.Core.Path.{◌≡◌, sym, ◌∙◌}
+use mathlib.Core.Bool.{Bool, true, false, ◌&&◌}
 use mathlib.Core.List.{List}
 use Prim.Native.Nat.{ℕ, ◌+◌, ◌≤◌, ◌<◌}
 use native.Mathlib.Numerals.{add-one}
@@ -8,13 +8,9 @@ use lib.Dec.{leb}
 use lib.ListN.{length, get_or, drop, drop_of_length-le}
 use lib.Seq.{drop-cons}
 use lib.IntN.{ℤ, pos, nat_abs}
-use Rattle.edges.specs.Width.{edge_width}
-use mir.Val.{SFits, to_z, of_z}
-use mir.ValLaws.{to_z-of_z}
 use borrow.Author.Tests.{le-leb, lt-leb}
 use Rattle.codes.specs.Limits.{root_limit}
 use Rattle.exported.specs.Export.{all_roots, roots_fit}
-use Rattle.export_faults.proofs.Tests.{held, failed}
 
 -- an edge of a store with this count
 abbrev is_root : ℕ → ℤ → Bool
@@ -41,18 +37,13 @@ module _ (count : ℕ) (roots : List ℤ) where
     unfolding all_roots
     turned h = k.rest ∙ rw (add-one i, drop-cons roots i (pos 0) h)
 
-    -- the answer of its test, which is given its bits
-    module _ (h : i < length roots) (f : SFits edge_width (get_or roots i (pos 0))) {r : Bool} (e : r ≡ is_root count (to_z edge_width (of_z edge_width (get_or roots i (pos 0))))) where
-      tested : r ≡ is_root count (get_or roots i (pos 0))
-      tested = e ∙ ap (is_root count) (to_z-of_z edge_width (get_or roots i (pos 0)) f)
+    -- one root more is fit
+    pub roots-more : i < length roots → is_root count (get_or roots i (pos 0)) ≡ true → RootsFrom (i + 1)
+    roots-more h t = record { rest = turned h ∙ rw t }
 
-      -- one root more is fit
-      pub roots-more : not r ≡ false → RootsFrom (i + 1)
-      roots-more t = record { rest = turned h ∙ rw (held tested t) }
-
-      -- a root is unfit
-      pub roots-unfit : not r ≡ true → false ≡ roots_fit count roots
-      roots-unfit t = sym (turned h ∙ rw (failed tested t))
+    -- a root is unfit
+    pub roots-unfit : i < length roots → is_root count (get_or roots i (pos 0)) ≡ false → false ≡ roots_fit count roots
+    roots-unfit h t = sym (turned h ∙ rw t)
 
     -- all roots are fit
     pub roots-end : length roots ≤ i → true ≡ roots_fit count roots

@@ -8,11 +8,15 @@ ghost use Rattle.header_values.specs.Kinds.{of_place};
 ghost use Rattle.export_names.specs.Names.{fit_place, name_list_fits};
 ghost use Rattle.export_size.specs.Size.{export_size};
 ghost use Rattle.exported.specs.Export.{roots_fit};
+ghost use Rattle.codes.specs.Refusals.{fault_of};
+ghost use Rattle.store.specs.Held.{held};
 ghost use Rattle.export_faults.specs.Promise.{FaultPromise};
 
-use codes::{limits, refusal};
+use codes::limits;
+use codes::refusal::Refusal;
 use edges::{Edge, Index};
 use read_text::Place;
+use store::StoreRef;
 
 // Are the roots edges of a store with this count, and not too many?
 fn roots_fit(count: Index, roots: &[Edge]) -> bool
@@ -21,12 +25,10 @@ fn roots_fit(count: Index, roots: &[Edge]) -> bool
     if limits::ROOT_LIMIT < roots.len() {
         return false;
     }
-    let mut i: usize = 0;
-    while i < roots.len() {
-        if !evaluation::is_root(count, roots[i]) {
+    for root in roots {
+        if !evaluation::is_root(count, *root) {
             return false;
         }
-        i += 1;
     }
     true
 }
@@ -77,16 +79,10 @@ fn names_fit(
     export_names::diagram_fits(bytes, dd.start, dd.len)
 }
 
-// The refusal of an export, 0 of none; then `vars`, a list of zeros, is filled with each level's variable, counted from 1. `work` is for
+// The refusal of an export; where there is none, `vars`, a list of zeros, is filled with each level's variable, counted from 1. `work` is for
 // the check of the store, and isn't cleared after it.
 pub fn export_fault(
-    levels: u16,
-    count: Index,
-    level: &[u16],
-    then: &[Edge],
-    els: &[Edge],
-    next: &[Index],
-    heads: &[Index],
+    store: &StoreRef,
     roots: &[Edge],
     order: &[u16],
     bytes: &[u8],
@@ -100,11 +96,13 @@ pub fn export_fault(
     out: usize,
     vars: &mut [u16],
     work: &mut [Index],
-) -> u8
+) -> Result<(), Refusal>
     requires { vars.old ≡ replicate var_limit 0 }
-    ensures { FaultPromise levels count (seen level) (seen then) (seen els) (seen next) (seen heads) (seen roots) (seen order) (seen bytes)
-        (seen starts) (seen lens) (seen rootstarts) (seen rootlens) dd slots numbers out (borrowed vars) result }
+    ensures { FaultPromise (held store.now) (seen roots) (seen order) (seen bytes) (seen starts) (seen lens) (seen rootstarts) (seen rootlens) dd
+        slots numbers out (borrowed vars) (fault_of result) }
 {
+    let levels = store.levels;
+    let count = store.count;
     if !long_enough(
         levels,
         count,
@@ -116,16 +114,16 @@ pub fn export_fault(
         numbers,
         out,
     ) {
-        return refusal::TOO_SHORT;
+        return Err(Refusal::TooShort);
     }
-    if !rules::keeps_rules(levels, count, level, then, els, next, heads, count, work) {
-        return refusal::BROKEN_STORE;
+    if !rules::keeps_rules(store, count, work) {
+        return Err(Refusal::BrokenStore);
     }
     if !roots_fit(count, roots) {
-        return refusal::BAD_ROOT_OR_SETTING;
+        return Err(Refusal::BadRootOrSetting);
     }
     if !variable_order::is_order(levels, order, vars) {
-        return refusal::BAD_ORDER;
+        return Err(Refusal::BadOrder);
     }
     if !names_fit(
         levels,
@@ -137,7 +135,7 @@ pub fn export_fault(
         rootlens,
         dd,
     ) {
-        return refusal::BAD_NAME;
+        return Err(Refusal::BadName);
     }
-    0
+    Ok(())
 }

@@ -6,16 +6,14 @@ use Rattle.codes.specs.declared.DDDMPVersion.{DDDMPVersion}
 use Rattle.read_text.specs.declared.Place.{Place}
 use Rattle.header_values.specs.Kinds.{of_place}
 use Rattle.store.specs.Store.{Store}
-use Rattle.store.specs.Lent.{store_now, old_store}
 use Rattle.seats.specs.Seats.{Seats}
 use Rattle.heading.specs.Tables.{lent}
 use Rattle.exported.specs.Settings.{settings}
 use Rattle.exported.specs.Export.{export_fault, file_of}
 
--- `file::write_file`: nothing is refused of the call, each level's variable is known, and the lists that it fills are zeros
-pub record FileAsks (dd : Place) (levels count : ℕ) (level : List ℕ) (then els : List ℤ) (next heads : List ℕ)
-    (roots : List ℤ) (order vars bytes starts lens rootstarts rootlens slots numbers out : List ℕ) : Type 0 where
-  pub taken : export_fault limits (store_now levels count level then els next heads) roots order
+-- `write_file`: nothing is refused of the call, each level's variable is known, and the lists that it fills are zeros
+pub record FileAsks (dd : Place) (σ : Store) (roots : List ℤ) (order vars bytes starts lens rootstarts rootlens slots numbers out : List ℕ) : Type 0 where
+  pub taken : export_fault limits σ roots order
       (lent bytes starts lens rootstarts rootlens (of_place dd)) (length slots) (length numbers) (length out)
       ≡ 0
   pub seats : Seats order vars
@@ -24,15 +22,12 @@ pub record FileAsks (dd : Place) (levels count : ℕ) (level : List ℕ) (then e
   pub numbers_clear : numbers ≡ replicate (length numbers) 0
   pub out_clear : out ≡ replicate (length out) 0
 
-module _ (version : DDDMPVersion) (ascii : Bool) (dd : Place) (levels count : ℕ) (level : Part (List ℕ)) (then els : Part (List ℤ))
-    (next heads : Part (List ℕ)) (roots : Part (List ℤ)) (order bytes starts lens rootstarts rootlens : Part (List ℕ)) where
-  abbrev taken_store : Store
-  taken_store = old_store levels count level then els next heads
-
+module _ (version : DDDMPVersion) (ascii : Bool) (dd : Place) (σ : Store) (roots : Part (List ℤ))
+    (order bytes starts lens rootstarts rootlens : Part (List ℕ)) where
   -- the file
   abbrev written : List ℕ
   written =
-      file_of (settings version ascii (of_place dd)) taken_store (old roots) (old order)
+      file_of (settings version ascii (of_place dd)) σ (old roots) (old order)
       (lent (old bytes) (old starts) (old lens) (old rootstarts) (old rootlens) (of_place dd))
 
   -- the file, and zeros after it

@@ -15,6 +15,7 @@ use codes::DDDMPVersion;
 use edges::{Edge, Index};
 
 // Writes `.ver`.
+#[tactic(auto, unfolding(writers::specs::Words::spaced))]
 fn write_version(version: DDDMPVersion, out: &mut [u8], at: usize) -> usize
     requires { FitsOut out.old at (line_text (line Ver (version_text version ∷ []))) }
     ensures { Written (borrowed out) at (line_text (line Ver (version_text version ∷ []))) result }
@@ -26,6 +27,7 @@ fn write_version(version: DDDMPVersion, out: &mut [u8], at: usize) -> usize
 }
 
 // Writes `.mode`.
+#[tactic(auto, unfolding(writers::specs::Words::spaced))]
 fn write_mode(ascii: bool, out: &mut [u8], at: usize) -> usize
     requires { FitsOut out.old at (line_text (line Mode (mode_text ascii ∷ []))) }
     ensures { Written (borrowed out) at (line_text (line Mode (mode_text ascii ∷ []))) result }
@@ -37,6 +39,7 @@ fn write_mode(ascii: bool, out: &mut [u8], at: usize) -> usize
 }
 
 // Writes `.dd`, where the diagram has a name.
+#[tactic(auto, unfolding(heading::specs::Lines::lines_text, writers::specs::Words::spaced))]
 fn write_diagram(out: &mut [u8], at: usize, bytes: &[u8], start: u32, len: u32) -> usize
     requires { DiagramAsks out.old at bytes.now start len }
     ensures { DiagramPromise (borrowed out) at (seen bytes) start len result }
@@ -50,6 +53,7 @@ fn write_diagram(out: &mut [u8], at: usize, bytes: &[u8], start: u32, len: u32) 
 }
 
 // Writes `.ver`, `.mode`, `.varinfo` and, where the diagram has a name, `.dd`.
+#[tactic(auto, unfolding(heading::specs::Lines::lines_text, heading::specs::Heading::intro_lines, writers::specs::Words::spaced))]
 fn write_intro(
     version: DDDMPVersion,
     ascii: bool,
@@ -70,6 +74,7 @@ fn write_intro(
 }
 
 // Writes `.nroots`, `.rootids` and, where the roots have names, `.rootnames`.
+#[tactic(auto, unfolding(heading::specs::Lines::lines_text, heading::specs::Heading::root_lines))]
 fn write_roots(
     out: &mut [u8],
     at: usize,

@@ -7,91 +7,65 @@ ghost use Rattle.read_text.specs.Text.{place};
 ghost use Rattle.export_names.specs.Names.{fit_span, name_next, fit_place, fit_places, name_list_fits};
 ghost use Rattle.variable_names.specs.Names.{places};
 
-use read_text::{Utf8, Utf8Next};
+use read_text::Utf8;
 
 const NAME_LIMIT: usize = 255;
 
 // Does a name lie inside the lent bytes, with a length that a name may have? The diagram's may be empty.
-fn place_fits(diagram: bool, lent: usize, start: usize, len: usize) -> bool
+#[tactic(auto, unfolding(crate::specs::Names::fit_span))]
+fn place_fits(diagram: bool, lent: usize, start: u32, len: u32) -> bool
     ensures { result ≡ fit_span diagram lent (place start len) }
 {
-    if len == 0 {
-        if !diagram {
-            return false;
-        }
-    }
-    if NAME_LIMIT < len {
-        return false;
-    }
-    if lent < len {
-        return false;
-    }
-    start <= lent - len
+    (diagram || len != 0) && len as usize <= NAME_LIMIT && start as usize + len as usize <= lent
 }
 
 // One byte more of a name: a control byte is unfit, and so is a space but in the diagram's.
-fn name_next(diagram: bool, state: Utf8, b: u8) -> Utf8Next
+#[tactic(auto, unfolding(crate::specs::Names::name_next))]
+fn name_next(diagram: bool, state: Utf8, b: u8) -> Option<Utf8>
     ensures { of_utf8_next result ≡ name_next diagram state b }
 {
-    if codes::is_control(b) {
-        return Utf8Next::Bad;
-    }
-    if b == b' ' {
-        if !diagram {
-            return Utf8Next::Bad;
-        }
+    if codes::is_control(b) || (b == b' ' && !diagram) {
+        return None;
     }
     read_text::utf8_next(state, b)
 }
 
-// Is each name of a list fit? Starts and lengths are equally many.
+// Is each name of a list fit? The first unfit byte in any name ends the whole check. Starts and lengths are equally many.
 pub fn names_fit(diagram: bool, bytes: &[u8], starts: &[u32], lens: &[u32]) -> bool
     requires { length starts.now ≡ length lens.now }
     ensures { result ≡ fit_places diagram bytes.now (places starts.now lens.now) }
 {
     let mut fit = true;
-    let mut i: usize = 0;
-    'names: while i < lens.len() {
+    'names: for i in 0..lens.len() {
         let start = starts[i] as usize;
         let len = lens[i] as usize;
-        if !place_fits(diagram, bytes.len(), start, len) {
+        if !place_fits(diagram, bytes.len(), starts[i], lens[i]) {
             fit = false;
             break 'names;
         }
         let mut state = Utf8::Whole;
-        let mut k: usize = 0;
-        while k < len {
-            match name_next(diagram, state, bytes[start + k]) {
-                Utf8Next::Go(next) => {
-                    state = next;
-                    k += 1;
-                }
-                Utf8Next::Bad => {
-                    fit = false;
-                    break 'names;
-                }
-            }
+        for k in 0..len {
+            let Some(next) = name_next(diagram, state, bytes[start + k]) else {
+                fit = false;
+                break 'names;
+            };
+            state = next;
         }
         if let Utf8::Tail(_, _, _) = state {
             fit = false;
             break 'names;
         }
-        i += 1;
     }
     fit
 }
 
 // Is a list of names fit, with no entry or one for each of `want`?
+#[tactic(auto, unfolding(crate::specs::Names::name_list_fits, crate::specs::Names::counted))]
 pub fn list_fits(want: usize, bytes: &[u8], starts: &[u32], lens: &[u32]) -> bool
     ensures { result ≡ name_list_fits want bytes.now starts.now lens.now }
 {
-    if starts.len() != lens.len() {
+    if starts.len() != lens.len() || (lens.len() != 0 && lens.len() != want) {
         return false;
-    }
-    if lens.len() != 0 {
-        if lens.len() != want {
-            return false;
-        }
     }
     names_fit(false, bytes, starts, lens)
 }

@@ -3,9 +3,14 @@ use Rattle.std.specs.Prelude.{ℕ, ◌+◌, ◌-◌, ◌≤◌, ◌<◌, ◌≡�
 use Rattle.codes.specs.Limits.{node_limit}
 use Rattle.edges.specs.Edge.{minus}
 use Rattle.read_edges.specs.Edges.{signed}
-use Rattle.store.specs.Store.{Store, level_at, then_at, else_at}
+use Rattle.store.specs.Store.{Store, slots, level_at, then_at, else_at}
+use Rattle.store.specs.declared.StoreRef.{StoreRef}
 use Rattle.node_lines.specs.Line.{Line, terminal, inner}
 use Rattle.node_writers.specs.Encoded.{smaller, text_bytes, inner_bytes, line_bytes}
+
+-- a store by its slots alone: what the lines of nodes look at
+abbrev pub slots_of : StoreRef → Store
+slots_of s = slots s.level.now s.then.now s.els.now
 
 -- the table's number of an edge's node, with the edge's sign
 unfoldable pub line_number_of : List ℕ → ℤ → ℤ

@@ -7,11 +7,13 @@ ghost use Rattle.store.specs.Store.{slots};
 ghost use Rattle.codes.specs.Lent.{borrowed};
 ghost use Rattle.writers.specs.Written.{FitsOut, Written};
 ghost use Rattle.node_writers.specs.Encoded.{node_bytes};
-ghost use Rattle.export_nodes.specs.Tables.{line_number_of, Numbered, lines_by, seat_by, inner_by, node_line_by, Seated, Inner, Lined};
+ghost use Rattle.export_nodes.specs.Tables.{slots_of, line_number_of, Numbered, lines_by, seat_by, inner_by, node_line_by, Seated, Inner, Lined};
 
 use edges::{Edge, Index};
+use store::StoreRef;
 
 // An edge to a node, as an edge to that node's line.
+#[tactic(auto, unfolding(crate::specs::Tables::line_number_of))]
 pub fn number_of(numbers: &[Index], e: Edge) -> Edge
     requires { Numbered numbers.now (nat_abs e) }
     ensures { result ≡ line_number_of numbers.now e }
@@ -37,11 +39,10 @@ fn seat_of(level: &[u16], seats: &[u16], e: Edge) -> u16
 }
 
 // Writes an inner node as line n.
+#[tactic(auto, unfolding(crate::specs::Tables::inner_by))]
 fn put_inner(
     ascii: bool,
-    level: &[u16],
-    then: &[Edge],
-    els: &[Edge],
+    store: &StoreRef,
     numbers: &[Index],
     seats: &[u16],
     out: &mut [u8],
@@ -49,10 +50,16 @@ fn put_inner(
     n: Index,
     node: Index,
 ) -> usize
-    requires le_node { (2 ≤ node) × (n ≤ node_limit) × Inner (slots level.now then.now els.now) numbers.now seats.now n node }
-    requires fits_out { FitsOut out.old at (inner_by ascii (slots level.now then.now els.now) numbers.now seats.now n node) }
-    ensures { Written (borrowed out) at (inner_by ascii (slots level.now then.now els.now) numbers.now seats.now n node) result }
+    requires le_node { (2 ≤ node) × (n ≤ node_limit) × Inner (slots_of store.now) numbers.now seats.now n node }
+    requires fits_out { FitsOut out.old at (inner_by ascii (slots_of store.now) numbers.now seats.now n node) }
+    ensures { Written (borrowed out) at (inner_by ascii (slots_of store.now) numbers.now seats.now n node) result }
 {
+    let StoreRef {
+        level,
+        then,
+        els,
+        ..
+    } = *store;
     let i = node as usize - 1;
     let t = then[i];
     let e = els[i];
@@ -67,11 +74,10 @@ fn put_inner(
 }
 
 // Writes a node as line n.
+#[tactic(auto, unfolding(crate::specs::Tables::node_line_by, node_writers::specs::Encoded::bin_bytes))]
 fn put_node(
     ascii: bool,
-    level: &[u16],
-    then: &[Edge],
-    els: &[Edge],
+    store: &StoreRef,
     numbers: &[Index],
     seats: &[u16],
     out: &mut [u8],
@@ -79,12 +85,12 @@ fn put_node(
     n: Index,
     node: Index,
 ) -> usize
-    requires le_node { (1 ≤ node) × (n ≤ node_limit) × (2 ≤ node → Inner (slots level.now then.now els.now) numbers.now seats.now n node) }
-    requires fits_out { FitsOut out.old at (node_line_by ascii (slots level.now then.now els.now) numbers.now seats.now n node) }
-    ensures { Written (borrowed out) at (node_line_by ascii (slots level.now then.now els.now) numbers.now seats.now n node) result }
+    requires le_node { (1 ≤ node) × (n ≤ node_limit) × (2 ≤ node → Inner (slots_of store.now) numbers.now seats.now n node) }
+    requires fits_out { FitsOut out.old at (node_line_by ascii (slots_of store.now) numbers.now seats.now n node) }
+    ensures { Written (borrowed out) at (node_line_by ascii (slots_of store.now) numbers.now seats.now n node) result }
 {
     if node != 1 {
-        return put_inner(ascii, level, then, els, numbers, seats, out, at, n, node);
+        return put_inner(ascii, store, numbers, seats, out, at, n, node);
     }
     if ascii {
         return node_writers::text::put_terminal(out, at, n);
@@ -95,27 +101,21 @@ fn put_node(
 // Writes the lines of nodes, in their order, by the number of each node's line and the seat of each level in the support.
 pub fn write_nodes(
     ascii: bool,
-    level: &[u16],
-    then: &[Edge],
-    els: &[Edge],
+    store: &StoreRef,
     nodes: &[Index],
     numbers: &[Index],
     seats: &[u16],
     out: &mut [u8],
     at: usize,
 ) -> usize
-    requires lined { Lined (slots level.now then.now els.now) nodes.now numbers.now seats.now }
-    requires fits_out { FitsOut out.old at (node_bytes ascii (lines_by (slots level.now then.now els.now) numbers.now seats.now nodes.now)) }
-    ensures { Written (borrowed out) at (node_bytes ascii (lines_by (slots level.now then.now els.now) numbers.now seats.now nodes.now)) result }
+    requires lined { Lined (slots_of store.now) nodes.now numbers.now seats.now }
+    requires fits_out { FitsOut out.old at (node_bytes ascii (lines_by (slots_of store.now) numbers.now seats.now nodes.now)) }
+    ensures { Written (borrowed out) at (node_bytes ascii (lines_by (slots_of store.now) numbers.now seats.now nodes.now)) result }
 {
     let mut next = at;
-    let mut i: usize = 0;
-    while i < nodes.len() {
+    for (i, node) in nodes.iter().enumerate() {
         let n = (i + 1) as Index;
-        next = put_node(
-            ascii, level, then, els, numbers, seats, out, next, n, nodes[i],
-        );
-        i += 1;
+        next = put_node(ascii, store, numbers, seats, out, next, n, *node);
     }
     next
 }

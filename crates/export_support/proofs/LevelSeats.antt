@@ -7,8 +7,8 @@ use native.Mathlib.Numerals.{add-one}
 use native.Mathlib.Nat.{add-zero, zero-add, suc-add}
 use native.Mathlib.Omega.{arith}
 use native.Mathlib.Decide.{ℕ_discrete, dec_lt}
-use lib.ListN.{length, get_or, drop, set, replicate, length-set, get_or-replicate, length-append}
-use lib.Seq.{drop-cons, drop-length, get_or-set_same, get_or-set_other}
+use lib.ListN.{length, get_or, drop, set, replicate, length-set, get_or-replicate, length-append, drop_of_length-le}
+use lib.Seq.{drop-cons, get_or-set_same, get_or-set_other}
 use borrow.Author.Tests.{eq-eqb, ne_eqb}
 use Rattle.store.specs.Store.{Store}
 use Rattle.store.specs.Rules.{depth}
@@ -48,74 +48,58 @@ module _ (σ : Store) (levels : ℕ) where
       go (yes p) = from_in σ [] l levels 0 (omega arith) (omega arith)
       go (no p) = from-high σ [] l levels 0 (omega (arith, p))
 
--- the levels of the nodes from the i-th on are marked
+-- the levels of the nodes before the i-th are marked: with those of the others they are all
 pub record Marking (σ : Store) (levels : ℕ) (ns : List ℕ) (long : ℕ) (seats : List ℕ) (i : ℕ) : Type 0 where
   pub kept : length seats ≡ long
-  pub within : i ≤ length ns
-  pub marks : Marked (support_from levels 0 σ (drop i ns)) seats
+  pub marks : (l : ℕ) → l < length seats
+      → cond (is_in l (support_from levels 0 σ (drop i ns))) 1 (get_or seats l 0) ≡ cond (is_in l (support_from levels 0 σ ns)) 1 0
 
 module _ (σ : Store) (levels : ℕ) (ns seats : List ℕ) where
   -- at first none
-  pub marking-start : seats ≡ replicate (length seats) 0 → Marking σ levels ns (length seats) seats (length ns)
+  pub marking-start : seats ≡ replicate (length seats) 0 → Marking σ levels ns (length seats) seats 0
   marking-start z = record {
     kept = refl;
-    within = omega arith;
-    marks = λ l h.
-        rw (drop-length ns, level-none σ levels l) (ap (λ t. get_or t l 0) z ∙ get_or-replicate (length seats) l 0 0 h);
+    marks = λ l h. rw (ap (λ t. get_or t l 0) z ∙ get_or-replicate (length seats) l 0 0 h);
   }
 
-  module _ (long : ℕ) where
+  module _ (long i : ℕ) (m : Marking σ levels ns long seats i) where
     -- in the end all
-    pub marking-end : (i : ℕ) → Marking σ levels ns long seats i → i ≤ 0 → Marked (support_from levels 0 σ ns) seats
-    marking-end zero m h = m.marks
-    marking-end (suc i) m h = absurd (omega arith)
+    pub marking-end : length ns ≤ i → Marked (support_from levels 0 σ ns) seats
+    marking-end h l k = rw (drop_of_length-le ns h, level-none σ levels l) at (m.marks l k)
 
-    module _ (i : ℕ) (m : Marking σ levels ns long seats (suc i)) where
-      -- the marks of a list with the node before as well
+    module _ (h : i < length ns) (d : ℕ) (e : d ≡ depth σ (get_or ns i 0)) where
+      -- the marks of a list without the node at position i
       abbrev Next : List ℕ → ℕ → Type 0
-      Next table l = get_or table l 0 ≡ cond (is_in l (support_from levels 0 σ (drop i ns))) 1 0
+      Next table l = cond (is_in l (support_from levels 0 σ (drop (i + 1) ns))) 1 (get_or table l 0) ≡ cond (is_in l (support_from levels 0 σ ns)) 1 0
 
       -- a level that isn't that node's
-      mark-other : (l : ℕ) → l < length seats → (l < levels → depth σ (get_or ns i 0) ≡ l → ⊥) → Next seats l
-      mark-other l h f =
-          rw (drop-cons ns i 0 m.within, level-other σ levels l (get_or ns i 0) (drop (suc i) ns) f) (m.marks l h)
+      mark-other : (l : ℕ) → l < length seats → (l < levels → d ≡ l → ⊥) → Next seats l
+      mark-other l k f =
+          rw (drop-cons ns i 0 h, level-other σ levels l (get_or ns i 0) (drop (suc i) ns) (λ p q. f p (e ∙ q)), ← add-one i) at (m.marks l k)
 
       -- an inner node: its level gets a mark
-      mark-inner : depth σ (get_or ns i 0) < levels → Marking σ levels ns long (set seats (depth σ (get_or ns i 0)) 1) i
-      mark-inner h = record {
-        kept = length-set seats (depth σ (get_or ns i 0)) 1 ∙ m.kept;
-        within = omega (arith, m.within);
-        marks = λ l k. go l (rw (length-set seats (depth σ (get_or ns i 0)) 1) at k) (ℕ_discrete l (depth σ (get_or ns i 0)));
+      pub marking-inner : d < levels → Marking σ levels ns long (set seats d 1) (i + 1)
+      marking-inner low = record {
+        kept = length-set seats d 1 ∙ m.kept;
+        marks = λ l k. go l (rw (length-set seats d 1) at k) (ℕ_discrete l d);
       }
         where
-          go : (l : ℕ) → l < length seats → Dec (l ≡ depth σ (get_or ns i 0)) → Next (set seats (depth σ (get_or ns i 0)) 1) l
-          go l k (yes e) = rw (e, drop-cons ns i 0 m.within, level-here σ levels (get_or ns i 0) (drop (suc i) ns) h)
-              (get_or-set_same seats (depth σ (get_or ns i 0)) 1 0 (omega arith))
-          go l k (no e) = get_or-set_other seats (depth σ (get_or ns i 0)) l 1 0 e ∙ mark-other l k (λ p q. e (sym q))
+          marked : (b : Bool) → ◌≡◌ {A = ℕ} (cond b 1 1) 1
+          marked true = refl
+          marked false = refl
+
+          here : is_in d (support_from levels 0 σ (drop i ns)) ≡ true
+          here = rw (drop-cons ns i 0 h, e) (level-here σ levels (get_or ns i 0) (drop (suc i) ns) (omega arith))
+
+          go : (l : ℕ) → l < length seats → Dec (l ≡ d) → Next (set seats d 1) l
+          go l k (yes q) =
+              rw (q, get_or-set_same seats d 1 0 (omega arith), marked (is_in d (support_from levels 0 σ (drop (i + 1) ns))))
+              (rw here at (m.marks d (omega arith)))
+          go l k (no q) = rw (get_or-set_other seats d l 1 0 q) (mark-other l k (λ p r. q (sym r)))
 
       -- the terminal
-      mark-terminal : levels ≤ depth σ (get_or ns i 0) → Marking σ levels ns long seats i
-      mark-terminal h = record {
-        kept = m.kept;
-        within = omega (arith, m.within);
-        marks = λ l k. mark-other l k (λ p q. omega arith);
-      }
-
-    -- the node before position i, at a depth d, is an inner node ..
-    pub marking-inner : (i d : ℕ) → Marking σ levels ns long seats i → 0 < i → d ≡ depth σ (get_or ns (i - 1) 0) → d < levels
-        → Marking σ levels ns long (set seats d 1) (i - 1)
-    marking-inner zero d m p e h = absurd (omega arith)
-    marking-inner (suc i) d m p e h =
-        let z : suc i - 1 ≡ i = omega arith in
-        rw (e, z) (mark-inner i m (omega (arith, rw z at e)))
-
-    -- .. or the terminal
-    pub marking-terminal : (i d : ℕ) → Marking σ levels ns long seats i → 0 < i → d ≡ depth σ (get_or ns (i - 1) 0) → levels ≤ d
-        → Marking σ levels ns long seats (i - 1)
-    marking-terminal zero d m p e h = absurd (omega arith)
-    marking-terminal (suc i) d m p e h =
-        let z : suc i - 1 ≡ i = omega arith in
-        rw z (mark-terminal i m (omega (arith, rw z at e)))
+      pub marking-terminal : levels ≤ d → Marking σ levels ns long seats (i + 1)
+      marking-terminal low = record { kept = m.kept; marks = λ l k. mark-other l k (λ p q. omega arith) }
 
 module _ (σ : Store) (ns : List ℕ) where
   -- the levels of two ranges, one after the other

@@ -15,10 +15,8 @@ fn mark_levels(levels: u16, level: &[u16], nodes: &[Index], seats: &mut [u16])
     requires seats_value { seats.old ≡ replicate (length seats.old) 0 }
     ensures { Marked (support_of (store levels 0 level.now [] [] [] []) nodes.now) seats.new }
 {
-    let mut i = nodes.len();
-    while 0 < i {
-        i -= 1;
-        let d = numbering::depth_of(levels, level, nodes[i]);
+    for n in nodes {
+        let d = numbering::depth_of(levels, level, *n);
         if d < levels as usize {
             seats[d] = 1;
         }
@@ -35,13 +33,11 @@ pub fn seat_levels(levels: u16, level: &[u16], nodes: &[Index], seats: &mut [u16
 {
     mark_levels(levels, level, nodes, seats);
     let mut seat: u16 = 0;
-    let mut l: usize = 0;
-    while l < levels as usize {
+    for l in 0..levels as usize {
         if seats[l] != 0 {
             seat += 1;
             seats[l] = seat;
         }
-        l += 1;
     }
     seat
 }

@@ -1,23 +1,17 @@
 -- What an export promises.
-use Rattle.std.specs.Prelude.{ℕ, ◌≡◌, List, length, replicate, ℤ}
+use Rattle.std.specs.Prelude.{ℕ, ◌≡◌, List, Result, length, replicate, ℤ}
 use Rattle.codes.specs.Limits.{limits}
-use Rattle.codes.specs.Answer.{Read, value, refused}
+use Rattle.codes.specs.Refusals.{read_of}
+use Rattle.codes.specs.declared.refusal.Refusal.{Refusal}
 use Rattle.codes.specs.Lent.{Part, old, new}
-use Rattle.store.specs.Lent.{old_store}
+use Rattle.store.specs.Store.{Store}
 use Rattle.heading.specs.Tables.{lent}
 use Rattle.exported.specs.Settings.{Settings}
 use Rattle.exported.specs.Export.{Export, export_into, ExportLeft, export_of}
 use Rattle.exporter.specs.Settings.{of_settings}
 use Rattle.exporter.specs.declared.ExportSettings.{ExportSettings}
-use Rattle.exporter.specs.declared.Exported.{Exported}
-use Rattle.exporter.specs.declared.Exported.TheVariants as exported
 
--- the length of the file, or the number of a refusal
-abbrev pub of_exported : Exported → Read ℕ
-of_exported (exported.Written n) = value n
-of_exported (exported.Refused k) = refused k
-
-module _ (s : Settings) (levels count : ℕ) (level : Part (List ℕ)) (then els : Part (List ℤ)) (next heads : Part (List ℕ)) (roots : Part (List ℤ))
+module _ (s : Settings) (σ : Store) (roots : Part (List ℤ))
     (order bytes starts lens rootstarts rootlens slots numbers out : Part (List ℕ)) where
   -- an export by these settings, with everything that it is lent
   abbrev pub exporting : Export
@@ -27,18 +21,17 @@ module _ (s : Settings) (levels count : ℕ) (level : Part (List ℕ)) (then els
 
   -- what it leaves: 'Export gives 1, 3, 4, 6, 5'
   abbrev pub export_leaves : ExportLeft
-  export_leaves = export_of limits exporting (old_store levels count level then els next heads)
+  export_leaves = export_of limits exporting σ
 
 -- `ExportSettings::export`, and `dddmp::export`, which is the same call
-module _ (self : ExportSettings) (levels count : ℕ) (level : Part (List ℕ)) (then els : Part (List ℤ)) (next heads : Part (List ℕ))
-    (roots : Part (List ℤ)) (order bytes starts lens rootstarts rootlens slots numbers out : Part (List ℕ)) where
+module _ (self : ExportSettings) (σ : Store) (roots : Part (List ℤ)) (order bytes starts lens rootstarts rootlens slots numbers out : Part (List ℕ)) where
   abbrev left : ExportLeft
   left =
-      export_leaves (of_settings self) levels count level then els next heads roots order bytes starts lens rootstarts rootlens slots numbers out
+      export_leaves (of_settings self) σ roots order bytes starts lens rootstarts rootlens slots numbers out
 
-  pub record ExportPromise (work : Part (List ℕ)) (r : Exported) : Type 0 where
+  pub record ExportPromise (work : Part (List ℕ)) (r : Result ℕ Refusal) : Type 0 where
     -- the length of the file, or the number of a refusal
-    pub answer : of_exported r ≡ left.answer
+    pub answer : read_of r ≡ left.answer
     -- 'On any refusal outputs are all zeros ..; on success unused output is zero.'
     pub out_left : new out ≡ left.out
     -- 'Scratch ends as zeros.'

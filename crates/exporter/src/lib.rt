@@ -7,18 +7,14 @@ ghost use Rattle.read_text.specs.Text.{place};
 ghost use Rattle.exported.specs.Settings.{settings, defaults};
 ghost use Rattle.exporter.specs.Settings.{of_settings};
 ghost use Rattle.exporter.specs.Promise.{ExportPromise};
+ghost use Rattle.store.specs.Held.{held};
 
 use codes::DDDMPVersion;
 use codes::limits::VAR_LIMIT;
+use codes::refusal::Refusal;
 use edges::{Edge, Index};
 use read_text::Place;
-
-// The length of a file that was written, or a refusal.
-#[derive(Clone, Copy)]
-pub enum Exported {
-    Written(usize),
-    Refused(u8),
-}
+use store::StoreRef;
 
 // Settings for the DDDMP export: the version, text or binary, and the place of the diagram's name in the lent bytes. Strict is the one way
 // that there is: a name that can't be written as it is is refused.
@@ -30,15 +26,9 @@ pub struct ExportSettings {
     dd: Place,
 }
 
-impl ExportSettings {
-    pub const DEFAULT_VERSION: DDDMPVersion = DDDMPVersion::V2_0;
-
-    pub const DEFAULT_ASCII: bool = false;
-
-    pub const DEFAULT_STRICT: bool = true;
-
+impl Default for ExportSettings {
     // Version 2.0, binary, strict, and no name of the diagram.
-    pub fn default() -> ExportSettings
+    fn default() -> ExportSettings
         ensures result_value { of_settings result ≡ defaults }
         ensures strict_value { result.strict ≡ true }
     {
@@ -49,19 +39,22 @@ impl ExportSettings {
             dd: Place { start: 0, len: 0 },
         }
     }
+}
+
+impl ExportSettings {
+    pub const DEFAULT_VERSION: DDDMPVersion = DDDMPVersion::V2_0;
+
+    pub const DEFAULT_ASCII: bool = false;
+
+    pub const DEFAULT_STRICT: bool = true;
 
     // Sets the version of the format.
-    pub fn version(self, version: DDDMPVersion) -> ExportSettings
+    pub fn version(mut self, version: DDDMPVersion) -> ExportSettings
         ensures result_value { of_settings result ≡ settings version self.ascii (of_settings self).dd }
         ensures strict_value { result.strict ≡ self.strict }
     {
-        let dd = self.dd;
-        ExportSettings {
-            version: version,
-            ascii: self.ascii,
-            strict: self.strict,
-            dd: dd,
-        }
+        self.version = version;
+        self
     }
 
     // Nodes are written as text.
@@ -83,20 +76,12 @@ impl ExportSettings {
     }
 
     // Sets the place of the diagram's name.
-    pub fn diagram_name(self, start: u32, len: u32) -> ExportSettings
+    pub fn diagram_name(mut self, start: u32, len: u32) -> ExportSettings
         ensures result_value { of_settings result ≡ settings self.version self.ascii (place start len) }
         ensures strict_value { result.strict ≡ self.strict }
     {
-        let version = self.version;
-        ExportSettings {
-            version: version,
-            ascii: self.ascii,
-            strict: self.strict,
-            dd: Place {
-                start: start,
-                len: len,
-            },
-        }
+        self.dd = Place { start, len };
+        self
     }
 
     // Exports the diagrams of the roots into `out`. `order` has each variable's level; `bytes` holds the names, `starts` and `lens` the
@@ -104,13 +89,7 @@ impl ExportSettings {
     // the store.
     pub fn export(
         self,
-        levels: u16,
-        count: Index,
-        level: &[u16],
-        then: &[Edge],
-        els: &[Edge],
-        next: &[Index],
-        heads: &[Index],
+        store: &StoreRef,
         roots: &[Edge],
         order: &[u16],
         bytes: &[u8],
@@ -122,24 +101,16 @@ impl ExportSettings {
         numbers: &mut [Index],
         out: &mut [u8],
         work: &mut [Index],
-    ) -> Exported
-        ensures { ExportPromise self levels count (seen level) (seen then) (seen els) (seen next) (seen heads) (seen roots) (seen order)
-            (seen bytes) (seen starts) (seen lens) (seen rootstarts) (seen rootlens) (borrowed slots) (borrowed numbers) (borrowed out) (borrowed work) result }
+    ) -> Result<usize, Refusal>
+        ensures { ExportPromise self (held store.now) (seen roots) (seen order) (seen bytes) (seen starts) (seen lens) (seen rootstarts) (seen rootlens)
+            (borrowed slots) (borrowed numbers) (borrowed out) (borrowed work) result }
     {
-        let dd = self.dd;
-        let version = self.version;
-        zeros::clear_marks(slots);
-        zeros::clear_marks(numbers);
-        zeros::clear_bytes(out);
+        slots.fill(0);
+        numbers.fill(0);
+        out.fill(0);
         let mut vars = [0u16; VAR_LIMIT];
-        let refused = export_faults::export_fault(
-            levels,
-            count,
-            level,
-            then,
-            els,
-            next,
-            heads,
+        let judged = export_faults::export_fault(
+            store,
             roots,
             order,
             bytes,
@@ -147,23 +118,34 @@ impl ExportSettings {
             lens,
             rootstarts,
             rootlens,
-            dd,
+            self.dd,
             slots.len(),
             numbers.len(),
             out.len(),
             &mut vars,
             work,
         );
-        zeros::clear_marks(work);
-        if refused != 0 {
-            return Exported::Refused(refused);
-        }
+        work.fill(0);
+        judged?;
         let n = export_file::write_file(
-            version, self.ascii, dd, levels, count, level, then, els, next, heads, roots, order,
-            &vars, bytes, starts, lens, rootstarts, rootlens, slots, numbers, out,
+            self.version,
+            self.ascii,
+            self.dd,
+            store,
+            roots,
+            order,
+            &vars,
+            bytes,
+            starts,
+            lens,
+            rootstarts,
+            rootlens,
+            slots,
+            numbers,
+            out,
         );
-        zeros::clear_marks(slots);
-        zeros::clear_marks(numbers);
-        Exported::Written(n)
+        slots.fill(0);
+        numbers.fill(0);
+        Ok(n)
     }
 }

@@ -1,5 +1,5 @@
 // The public calls for C, as a library: `firmware_c` exports them under these names, with the same clauses, and `include/zonetweed.h` declares and
-// explains them.
+// explains them. The lists of a store are parameters one by one, as C lends them.
 #![tactic(auto)]
 
 ghost use Rattle.codes.specs.Lent.{borrowed, seen};
@@ -20,7 +20,8 @@ use c_answers::{
 };
 use edges::{Edge, Index};
 use joined::Op;
-use old_stores::{OldEdge, OldIndex};
+use old_stores::{OldEdge, OldIndex, OldStoreRef};
+use store::{StoreMut, StoreRef};
 
 // Loads a file into the store.
 pub fn zt2_load(
@@ -51,10 +52,21 @@ pub fn zt2_load(
         (borrowed rootnames) (borrowed rootlens)
         (borrowed edges) (borrowed seats) (borrowed work) result }
 {
-    c_answers::load_answer(dddmp::load(
-        file, list, levels, count, level, then, els, next, heads, ids, order, permids, auxids,
-        names, lens, roots, rootnames, rootlens, edges, seats, work,
-    ))
+    let mut store = StoreMut {
+        levels,
+        count: *count,
+        level,
+        then,
+        els,
+        next,
+        heads,
+    };
+    let answer = dddmp::load(
+        file, list, &mut store, ids, order, permids, auxids, names, lens, roots, rootnames,
+        rootlens, edges, seats, work,
+    );
+    *count = store.count;
+    LoadAnswer::from(answer)
 }
 
 // What an edge of the store answers at a setting.
@@ -72,9 +84,16 @@ pub fn zt2_evaluate(
 ) -> EvaluateAnswer
     ensures { ZtEvaluatePromise levels count (seen level) (seen then) (seen els) (seen next) (seen heads) root (seen setting) (borrowed work) result }
 {
-    c_answers::evaluate_answer(dddmp::evaluate(
-        levels, count, level, then, els, next, heads, root, setting, work,
-    ))
+    let store = StoreRef {
+        levels,
+        count,
+        level,
+        then,
+        els,
+        next,
+        heads,
+    };
+    EvaluateAnswer::from(dddmp::evaluate(&store, root, setting, work))
 }
 
 // The first setting at which an edge of the store answers as wanted.
@@ -93,7 +112,7 @@ pub fn zt2_example(
 ) -> ExampleAnswer
     ensures { ZtExamplePromise levels count (seen level) (seen then) (seen els) (seen next) (seen heads) root wanted (borrowed setting) (borrowed work) result }
 {
-    c_answers::example_answer(dddmp::example(
+    let store = StoreRef {
         levels,
         count,
         level,
@@ -101,11 +120,9 @@ pub fn zt2_example(
         els,
         next,
         heads,
-        root,
-        c_answers::wanted_of(wanted),
-        setting,
-        work,
-    ))
+    };
+    let wanted = c_answers::wanted_of(wanted);
+    ExampleAnswer::from(dddmp::example(&store, root, wanted, setting, work))
 }
 
 // The lowest level whose flip alone turns an edge's answer at a setting over.
@@ -123,9 +140,16 @@ pub fn zt2_tip(
 ) -> TipAnswer
     ensures { ZtTipPromise levels count (seen level) (seen then) (seen els) (seen next) (seen heads) root (seen setting) (borrowed work) result }
 {
-    c_answers::tip_answer(dddmp::tip(
-        levels, count, level, then, els, next, heads, root, setting, work,
-    ))
+    let store = StoreRef {
+        levels,
+        count,
+        level,
+        then,
+        els,
+        next,
+        heads,
+    };
+    TipAnswer::from(dddmp::tip(&store, root, setting, work))
 }
 
 // Exports the diagrams of roots of the store.
@@ -157,11 +181,52 @@ pub fn zt2_export(
         (seen order) (seen bytes) (seen starts) (seen lens) (seen rootstarts) (seen rootlens)
         (borrowed slots) (borrowed numbers) (borrowed out) (borrowed work) result }
 {
+    let store = StoreRef {
+        levels,
+        count,
+        level,
+        then,
+        els,
+        next,
+        heads,
+    };
     let settings = c_answers::settings_of(version, text, ddstart, ddlen);
-    c_answers::export_answer(dddmp::export(
-        settings, levels, count, level, then, els, next, heads, roots, order, bytes, starts, lens,
-        rootstarts, rootlens, slots, numbers, out, work,
+    ExportAnswer::from(dddmp::export(
+        settings, &store, roots, order, bytes, starts, lens, rootstarts, rootlens, slots, numbers,
+        out, work,
     ))
+}
+
+// The root of an operation on two roots of the store.
+fn join(
+    op: Op,
+    levels: u16,
+    count: &mut Index,
+    level: &mut [u16],
+    then: &mut [Edge],
+    els: &mut [Edge],
+    next: &mut [Index],
+    heads: &mut [Index],
+    left: Edge,
+    right: Edge,
+    cache: &mut [Edge],
+    work: &mut [Index],
+) -> JoinAnswer
+    ensures { ZtJoinPromise op levels (borrowed count) (borrowed level) (borrowed then) (borrowed els) (borrowed next) (borrowed heads) left right
+        (borrowed cache) (borrowed work) result }
+{
+    let mut store = StoreMut {
+        levels,
+        count: *count,
+        level,
+        then,
+        els,
+        next,
+        heads,
+    };
+    let answer = dddmp::join(&mut store, op, left, right, cache, work);
+    *count = store.count;
+    JoinAnswer::from(answer)
 }
 
 // The root of the and of two roots of the store.
@@ -181,7 +246,8 @@ pub fn zt2_and(
     ensures { ZtJoinPromise op.And levels (borrowed count) (borrowed level) (borrowed then) (borrowed els) (borrowed next) (borrowed heads) left right
         (borrowed cache) (borrowed work) result }
 {
-    c_answers::join_answer(dddmp::join(
+    join(
+        Op::And,
         levels,
         count,
         level,
@@ -189,12 +255,11 @@ pub fn zt2_and(
         els,
         next,
         heads,
-        Op::And,
         left,
         right,
         cache,
         work,
-    ))
+    )
 }
 
 // The root of the or of two roots of the store.
@@ -214,7 +279,8 @@ pub fn zt2_or(
     ensures { ZtJoinPromise op.Or levels (borrowed count) (borrowed level) (borrowed then) (borrowed els) (borrowed next) (borrowed heads) left right
         (borrowed cache) (borrowed work) result }
 {
-    c_answers::join_answer(dddmp::join(
+    join(
+        Op::Or,
         levels,
         count,
         level,
@@ -222,12 +288,11 @@ pub fn zt2_or(
         els,
         next,
         heads,
-        Op::Or,
         left,
         right,
         cache,
         work,
-    ))
+    )
 }
 
 // The root of the exclusive or of two roots of the store.
@@ -247,7 +312,8 @@ pub fn zt2_xor(
     ensures { ZtJoinPromise op.Xor levels (borrowed count) (borrowed level) (borrowed then) (borrowed els) (borrowed next) (borrowed heads) left right
         (borrowed cache) (borrowed work) result }
 {
-    c_answers::join_answer(dddmp::join(
+    join(
+        Op::Xor,
         levels,
         count,
         level,
@@ -255,12 +321,11 @@ pub fn zt2_xor(
         els,
         next,
         heads,
-        Op::Xor,
         left,
         right,
         cache,
         work,
-    ))
+    )
 }
 
 // The opposite of a root of the store.
@@ -277,9 +342,16 @@ pub fn zt2_not(
 ) -> JoinAnswer
     ensures { ZtNotPromise levels count (seen level) (seen then) (seen els) (seen next) (seen heads) root (borrowed work) result }
 {
-    c_answers::join_answer(dddmp::opposite(
-        levels, count, level, then, els, next, heads, root, work,
-    ))
+    let store = StoreRef {
+        levels,
+        count,
+        level,
+        then,
+        els,
+        next,
+        heads,
+    };
+    JoinAnswer::from(dddmp::opposite(&store, root, work))
 }
 
 // Turns an old store into a new one.
@@ -302,8 +374,25 @@ pub fn zt2_widen(
     ensures { ZtWidenPromise levels old_count (seen old_level) (seen old_then) (seen old_els) (seen old_next) (seen old_heads)
         (borrowed count) (borrowed level) (borrowed then) (borrowed els) (borrowed next) (borrowed heads) (borrowed work) result }
 {
-    c_answers::widen_answer(dddmp::widen(
-        levels, old_count, old_level, old_then, old_els, old_next, old_heads, count, level, then,
-        els, next, heads, work,
-    ))
+    let old = OldStoreRef {
+        levels,
+        count: old_count,
+        level: old_level,
+        then: old_then,
+        els: old_els,
+        next: old_next,
+        heads: old_heads,
+    };
+    let mut store = StoreMut {
+        levels,
+        count: *count,
+        level,
+        then,
+        els,
+        next,
+        heads,
+    };
+    let answer = dddmp::widen(&old, &mut store, work);
+    *count = store.count;
+    WidenAnswer::from(answer)
 }

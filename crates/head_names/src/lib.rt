@@ -50,10 +50,8 @@ fn put_names(out: &mut [u8], at: usize, bytes: &[u8], starts: &[u32], lens: &[u3
     ensures { Written (borrowed out) at (spaced (names_at bytes.now starts.now lens.now)) result }
 {
     let mut next = at;
-    let mut i: usize = 0;
-    while i < lens.len() {
+    for i in 0..lens.len() {
         next = put_name(out, next, bytes, starts, lens, i);
-        i += 1;
     }
     next
 }
@@ -90,12 +88,10 @@ fn put_supp_names(
     ensures { SuppNamesPromise (borrowed out) at (seen bytes) (seen starts) (seen lens) (seen order) (seen seats) result }
 {
     let mut next = at;
-    let mut v: usize = 0;
-    while v < order.len() {
+    for v in 0..order.len() {
         if head_numbers::in_support(order, seats, v) {
             next = put_name(out, next, bytes, starts, lens, v);
         }
-        v += 1;
     }
     next
 }
@@ -114,16 +110,15 @@ fn put_ordered_names(
     ensures { OrderedNamesPromise (borrowed out) at (seen bytes) (seen starts) (seen lens) (seen order) result }
 {
     let mut next = at;
-    let mut l: usize = 0;
-    while l < order.len() {
+    for l in 0..order.len() {
         let variable = vars[l] as usize - 1;
         next = put_name(out, next, bytes, starts, lens, variable);
-        l += 1;
     }
     next
 }
 
 // Writes `.varnames`, in version 3.0.
+#[tactic(auto, unfolding(heading::specs::Lines::lines_text))]
 fn write_varnames(
     version: DDDMPVersion,
     out: &mut [u8],
@@ -170,6 +165,7 @@ pub fn write_names(
 }
 
 // Writes `.rootnames`, where the roots have names.
+#[tactic(auto, unfolding(heading::specs::Lines::lines_text))]
 pub fn write_rootnames(
     out: &mut [u8],
     at: usize,

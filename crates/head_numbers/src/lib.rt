@@ -24,6 +24,7 @@ fn put_spaced(out: &mut [u8], at: usize, n: u64) -> usize
 }
 
 // Writes a line of a key and a number.
+#[tactic(auto, unfolding(writers::specs::Words::spaced))]
 pub fn write_count(out: &mut [u8], at: usize, key: &[u8], n: usize) -> usize
     requires { FitsOut out.old at (keyed_text key.now (decimal n ∷ [])) }
     ensures { Written (borrowed out) at (keyed_text key.now (decimal n ∷ [])) result }
@@ -34,6 +35,7 @@ pub fn write_count(out: &mut [u8], at: usize, key: &[u8], n: usize) -> usize
 }
 
 // Writes `.nnodes`, `.nvars` and `.nsuppvars`.
+#[tactic(auto, unfolding(heading::specs::Lines::lines_text, heading::specs::Heading::count_lines))]
 pub fn write_counts(
     out: &mut [u8],
     at: usize,
@@ -64,12 +66,10 @@ fn put_ids(out: &mut [u8], at: usize, order: &[u16], seats: &[u16]) -> usize
     ensures { Written (borrowed out) at (spaced (map decimal (ids_from (seated_levels seats.now) 0 order.now))) result }
 {
     let mut next = at;
-    let mut v: usize = 0;
-    while v < order.len() {
+    for v in 0..order.len() {
         if in_support(order, seats, v) {
             next = put_spaced(out, next, v as u64);
         }
-        v += 1;
     }
     next
 }
@@ -81,17 +81,16 @@ fn put_permids(out: &mut [u8], at: usize, order: &[u16], seats: &[u16]) -> usize
     ensures { Written (borrowed out) at (spaced (map decimal (permids_of (seated_levels seats.now) order.now))) result }
 {
     let mut next = at;
-    let mut v: usize = 0;
-    while v < order.len() {
+    for (v, level) in order.iter().enumerate() {
         if in_support(order, seats, v) {
-            next = put_spaced(out, next, order[v] as u64);
+            next = put_spaced(out, next, *level as u64);
         }
-        v += 1;
     }
     next
 }
 
 // Writes `.ids` and `.permids`. `vars` isn't read: it belongs to what `Ordered` says.
+#[tactic(auto, unfolding(heading::specs::Lines::lines_text, heading::specs::Heading::id_lines))]
 pub fn write_ids(out: &mut [u8], at: usize, order: &[u16], vars: &[u16], seats: &[u16]) -> usize
     requires ordered { Ordered order.now vars.now seats.now }
     requires fits_out { FitsOut out.old at (lines_text (id_lines (seated_levels seats.now) order.now)) }
@@ -121,10 +120,8 @@ pub fn put_roots(out: &mut [u8], at: usize, roots: &[Edge], numbers: &[Index]) -
     ensures { Written (borrowed out) at (spaced (map edge_text (map (line_number_of numbers.now) roots.now))) result }
 {
     let mut next = at;
-    let mut i: usize = 0;
-    while i < roots.len() {
-        next = put_root(out, next, roots[i], numbers);
-        i += 1;
+    for root in roots {
+        next = put_root(out, next, *root, numbers);
     }
     next
 }

@@ -15,6 +15,10 @@ use Rattle.header_values.specs.Kinds.{of_var_info, of_place}
 use Rattle.header_values.specs.Values.{spans, nnodes_in, nvars_in, nsuppvars_in, nroots_in, ascii_in, varinfo_in, dd_in}
 use Rattle.header_values.proofs.Spanned.{spans-parts}
 use Rattle.header_checks.specs.Whole.{whole_fault, whole_after}
+use Rattle.std.specs.Prelude.{Result}
+use Rattle.codes.specs.declared.refusal.Fault.{Fault}
+use Rattle.header_checks.specs.Promises.{whole_of}
+use Rattle.header.specs.Promises.{settled_of}
 use Rattle.header.specs.Kinds.{of_header}
 use Rattle.header.specs.Header.{Header, HeaderAnswer, header, refusal, header_in, table_of, settled, judged_header, read_of, after, table_by, NextWithin}
 use Rattle.header.specs.Header.{swept_after, found_in, refused_by, settled_by, left_by}
@@ -133,26 +137,9 @@ swept-found (suc n) f h = refl
 pub swept-first : (n : ℕ) (f : List ℕ) → n ≡ 0 → end_of f (lines_of f) ≡ swept_after n f
 swept-first n f z = rw z
 
--- the answer by the lines and by the header as a whole
-module _ (f : List ℕ) (t : List Span) (fault : ℕ) {sw : SweepEnd} where
-  -- a line is refused
-  pub settle-line : {k line : ℕ} → sw ≡ refused_at k line → refused_by sw ≡ settled_by f t fault sw
-  settle-line e = rw e
-
-  module _ {next lines : ℕ} (e : sw ≡ at_nodes next lines) where
-    -- the header as a whole is
-    pub settle-whole : (fault ≡ 0 → ⊥) → refusal fault 0 ≡ settled_by f t fault sw
-    settle-whole h = rw e (go fault h)
-      where
-        go : (k : ℕ) → (k ≡ 0 → ⊥) → refusal k 0 ≡ settled f t next lines k
-        go zero h = absurd (h refl)
-        go (suc k) h = refl
-
-    -- nothing is
-    pub settle-header : fault ≡ 0 → {x : Header} → x ≡ header_in f t next lines → header x ≡ settled_by f t fault sw
-    settle-header z q = rw (e, z, q)
-
--- a list of the table is zeros after a refusal of a line
-pub left-refused : (sw : SweepEnd) {a : HeaderAnswer} → a ≡ refused_by sw → (l : List ℕ) → replicate (length l) 0 ≡ left_by a l
-left-refused (at_nodes next lines) e l = rw e
-left-refused (refused_at n line) e l = rw e
+-- an answer by a number of the header as a whole, 0 of nothing
+pub settled-as : (f : List ℕ) (t : List Span) {r : Result Unit Fault} (n : ℕ) (sw : SweepEnd) {x : HeaderAnswer} → r ≡ whole_of n
+    → x ≡ settled_of f t r sw → x ≡ settled_by f t n sw
+settled-as f t zero (at_nodes next lines) e q = rw e at q
+settled-as f t (suc n) (at_nodes next lines) e q = rw e at q
+settled-as f t n (refused_at k line) e q = q

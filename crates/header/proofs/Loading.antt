@@ -19,8 +19,7 @@ use Rattle.header_values.proofs.Padded.{pad-none, length-pad}
 use Rattle.header_checks.specs.Names.{variable_names_in}
 use Rattle.header_checks.specs.Whole.{whole_fault}
 use Rattle.header.specs.Header.{Header, HeaderAnswer, header, refusal, table_of, settled, judged_header, read_of, after, lists_in, lists_by, load_header, table_by, settled_by, left_by}
-use Rattle.header.specs.declared.Loaded as code
-use Rattle.header.specs.Kinds.{of_loaded}
+use Rattle.header.specs.Kinds.{Loaded, of_loaded}
 use Rattle.header.specs.Promises.{LoadHeaderPromise}
 use Rattle.header_lists.specs.Settled.{Settled, HeldList, ListsRoom}
 use Rattle.header.proofs.NoValues.{no_values, no-lists, none-room}
@@ -124,7 +123,7 @@ lists-room n f (header h) {starts} {ends} w from sizes lens long =
 
 -- What a load leaves in its nine lists.
 module _ {f : Part (List ℕ)} {n : ℕ} {ids order permids auxids names lens : Part (List ℕ)} {roots : Part (List ℤ)}
-    {rootnames rootlens : Part (List ℕ)} {r : code.Loaded} {starts ends : List ℕ} (w : Promised n (old f) (of_loaded r) starts ends) where
+    {rootnames rootlens : Part (List ℕ)} {r : Loaded} {starts ends : List ℕ} (w : Promised n (old f) (of_loaded r) starts ends) where
   -- each list is that of the load
   pub load-leaves : new ids ≡ pad (length (old ids)) (u32s_in (old f) (spans starts ends) Ids)
       → new order

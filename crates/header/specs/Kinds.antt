@@ -2,8 +2,8 @@
 use Rattle.header.specs.Header as header
 use Rattle.header_values.specs.Kinds.{of_var_info, of_place}
 use Rattle.header.specs.declared.DumpHeader.{DumpHeader}
-use Rattle.header.specs.declared.Loaded.{Loaded}
-use Rattle.header.specs.declared.Loaded.TheVariants as loaded
+use Rattle.std.specs.Prelude.{Result, Ok, Err}
+use Rattle.codes.specs.declared.refusal.Fault.{Fault}
 
 abbrev pub of_header : DumpHeader → header.Header
 of_header h = record {
@@ -18,6 +18,10 @@ of_header h = record {
   lines = h.lines;
 }
 
+-- what a load of a header answers
+abbrev pub Loaded : Type 0
+Loaded = Result DumpHeader Fault
+
 abbrev pub of_loaded : Loaded → header.HeaderAnswer
-of_loaded (loaded.Header h) = header.header (of_header h)
-of_loaded (loaded.Refused n line) = header.refusal n line
+of_loaded (Ok h) = header.header (of_header h)
+of_loaded (Err t) = header.refusal t.number t.line

@@ -1,34 +1,34 @@
 -- What judging and loading a header promises, over the parts that are lent to it.
-use Rattle.std.specs.Prelude.{ℕ, ◌≡◌, List, map, ℤ, pos, length, replicate}
+use Rattle.std.specs.Prelude.{ℕ, ◌≡◌, List, Result, Ok, Err, map, ℤ, pos, length, replicate}
 use Rattle.codes.specs.Limits.{limits}
 use Rattle.codes.specs.Lent.{Part, old, new, laid}
 use Rattle.read_text.specs.Text.{start_of, len_of}
-use Rattle.header_lines.specs.Sweep.{Table, EndWithin, span_start, span_end, lines_of, sound, lasts}
-use Rattle.header_lines.specs.declared.Swept.{Swept}
+use Rattle.header_lines.specs.Sweep.{Span, SweepEnd, at_nodes, refused_at, Table, EndWithin, span_start, span_end, lines_of, sound, lasts}
+use Rattle.codes.specs.declared.refusal.Fault.{Fault}
 use Rattle.header_lines.specs.Kinds.{of_swept}
-use Rattle.header_values.specs.Promises.{table}
 use Rattle.header_values.specs.Values.{pad}
 use Rattle.header.specs.Header as meant
-use Rattle.header.specs.Header.{swept_after, settled_by, left_by, load_header, NextWithin}
-use Rattle.header.specs.declared.Loaded.{Loaded}
-use Rattle.header.specs.Kinds.{of_loaded}
+use Rattle.header.specs.Header.{HeaderAnswer, header, refusal, header_in, swept_after, left_by, load_header, NextWithin}
+use Rattle.header.specs.Kinds.{Loaded, of_loaded}
 
 -- The lines, where nothing was found before; each span of the table lies inside the file.
-pub record SweptPromise (f : Part (List ℕ)) (found : ℕ) (starts ends : Part (List ℕ)) (r : Swept) : Type 0 where
+pub record SweptPromise (f : Part (List ℕ)) (found : ℕ) (starts ends : Part (List ℕ)) (r : Result (ℕ × ℕ) Fault) : Type 0 where
   pub answer : of_swept r ≡ swept_after found (old f)
   pub within : EndWithin (old f) (of_swept r)
   pub table : Table (old f) (new starts) (new ends)
   pub starts_left : found ≡ 0 → new starts ≡ map span_start (lasts (sound (old f) (lines_of (old f))))
   pub ends_left : found ≡ 0 → new ends ≡ map span_end (lasts (sound (old f) (lines_of (old f))))
 
--- The answer by what the lines and the header as a whole gave, and the table; none on a refusal.
-pub record SettlePromise (f : Part (List ℕ)) (swept : Swept) (fault : ℕ) (starts ends : Part (List ℕ)) (r : Loaded) : Type 0 where
-  pub answer : of_loaded r ≡ settled_by (old f) (table starts ends) fault (of_swept swept)
-  pub starts_left : new starts ≡ left_by (of_loaded r) (old starts)
-  pub ends_left : new ends ≡ left_by (of_loaded r) (old ends)
+-- the answer by what the lines and the header as a whole gave
+abbrev pub settled_of : List ℕ → List Span → Result Unit Fault → SweepEnd → HeaderAnswer
+settled_of f t (Ok u) (at_nodes next lines) = header (header_in f t next lines)
+settled_of f t (Err r) (at_nodes next lines) = refusal r.number r.line
+settled_of f t w (refused_at n line) = refusal n line
 
 -- lists stay with a header; 'on any refusal outputs are all zeros'
-pub record KeepPromise (loaded : Loaded) (ids permids : Part (List ℕ)) : Type 0 where
+pub record KeepPromise (loaded : Loaded) (starts ends ids permids : Part (List ℕ)) : Type 0 where
+  pub starts_left : new starts ≡ left_by (of_loaded loaded) (old starts)
+  pub ends_left : new ends ≡ left_by (of_loaded loaded) (old ends)
   pub ids_left : new ids ≡ left_by (of_loaded loaded) (old ids)
   pub permids_left : new permids ≡ left_by (of_loaded loaded) (old permids)
 

@@ -11,13 +11,13 @@ ghost use Rattle.header_values.specs.Values.{spans};
 ghost use Rattle.header_lines.specs.Kinds.{of_swept};
 ghost use Rattle.header_checks.specs.Whole.{LongAfter};
 ghost use Rattle.header.specs.Kinds.{of_header, of_loaded};
-ghost use Rattle.header.specs.Header.{header_in, found_in, refused_by, MayRead};
-ghost use Rattle.header.specs.Promises.{SweptPromise, SettlePromise, KeepPromise, LoadHeaderPromise};
+ghost use Rattle.header.specs.Header.{header_in, found_in, MayRead};
+ghost use Rattle.header.specs.Promises.{SweptPromise, settled_of, KeepPromise, LoadHeaderPromise};
 
+use codes::refusal::Fault;
 use codes::{VarInfo, limits};
 use edges::Edge;
 use header_keys::Key;
-use header_lines::Swept;
 use read_text::Place;
 
 // The numbers of a header: mode, varinfo, the place of the diagram's name, the counts, the position after `.nodes`' line and the number
@@ -35,13 +35,6 @@ pub struct DumpHeader {
     pub lines: usize,
 }
 
-// A header, or a refusal and its line.
-#[derive(Clone, Copy)]
-pub enum Loaded {
-    Header(DumpHeader),
-    Refused(u8, usize),
-}
-
 // The numbers, by the last value of each key.
 fn header_in(f: &[u8], starts: &[u32], ends: &[u32], next: usize, lines: usize) -> DumpHeader
     requires { Table f.now starts.now ends.now }
@@ -51,81 +44,82 @@ fn header_in(f: &[u8], starts: &[u32], ends: &[u32], next: usize, lines: usize) 
         ascii: header_values::ascii_in(f, starts, ends),
         varinfo: header_values::varinfo_in(f, starts, ends),
         dd: header_values::dd_in(f, starts, ends),
-        nnodes: header_values::u64_in(f, starts, ends, Key::Nnodes),
-        nvars: header_values::u32_in(f, starts, ends, Key::Nvars),
-        nsuppvars: header_values::u32_in(f, starts, ends, Key::Nsuppvars),
-        nroots: header_values::u64_in(f, starts, ends, Key::Nroots),
+        nnodes: header_values::number_in::<u64>(f, starts, ends, Key::Nnodes),
+        nvars: header_values::number_in::<u32>(f, starts, ends, Key::Nvars),
+        nsuppvars: header_values::number_in::<u32>(f, starts, ends, Key::Nsuppvars),
+        nroots: header_values::number_in::<u64>(f, starts, ends, Key::Nroots),
         next,
         lines,
     }
 }
 
 // The lines of the header, where nothing was found before. The two lists, zeros at first, hold the span of each key's last value.
-fn swept_after(f: &[u8], found: u8, starts: &mut [u32], ends: &mut [u32]) -> Swept
+fn swept_after(
+    f: &[u8],
+    found: u8,
+    starts: &mut [u32],
+    ends: &mut [u32],
+) -> Result<(usize, usize), Fault>
     requires may_read { MayRead limits found f.now }
     requires starts_value { starts.old ≡ replicate keys 0 }
     requires ends_value { ends.old ≡ replicate keys 0 }
     ensures { SweptPromise (seen f) found (borrowed starts) (borrowed ends) result }
 {
     if found != 0 {
-        return Swept::Refused(found, 0);
+        return Err(Fault {
+            number: found,
+            line: 0,
+        });
     }
     header_lines::sweep(f, starts, ends)
 }
 
-// What was found wrong with the lines, 0 for nothing.
-fn found_in(swept: Swept) -> u8
+// The number of what was found wrong with the lines, 0 for nothing.
+fn found_in(swept: Result<(usize, usize), Fault>) -> u8
     ensures { result ≡ found_in (of_swept swept) }
 {
     match swept {
-        Swept::Nodes(next, lines) => 0,
-        Swept::Refused(n, line) => n,
+        Ok(_) => 0,
+        Err(fault) => fault.number,
     }
 }
 
-// A refusal of the lines, with its line.
-fn refused(swept: Swept) -> Loaded
-    ensures { of_loaded result ≡ refused_by (of_swept swept) }
+// The answer, by what the lines and then the header as a whole gave.
+fn settled(
+    f: &[u8],
+    swept: Result<(usize, usize), Fault>,
+    whole: Result<(), Fault>,
+    starts: &[u32],
+    ends: &[u32],
+) -> Result<DumpHeader, Fault>
+    requires { Table f.now starts.now ends.now }
+    ensures { of_loaded result ≡ settled_of f.now (spans starts.now ends.now) whole (of_swept swept) }
 {
-    match swept {
-        Swept::Nodes(next, lines) => Loaded::Refused(0, 0),
-        Swept::Refused(n, line) => Loaded::Refused(n, line),
-    }
+    let (next, lines) = swept?;
+    whole?;
+    Ok(header_in(f, starts, ends, next, lines))
 }
 
-// The answer, by what the lines and then the header as a whole gave: 0 for nothing wrong. On a refusal the two lists are zeros again.
-fn settle(f: &[u8], swept: Swept, fault: u8, starts: &mut [u32], ends: &mut [u32]) -> Loaded
-    requires { Table f.now starts.old ends.old }
-    ensures { SettlePromise (seen f) swept fault (borrowed starts) (borrowed ends) result }
+// On a refusal the lists are zeros again.
+fn keep(
+    loaded: Result<DumpHeader, Fault>,
+    starts: &mut [u32],
+    ends: &mut [u32],
+    ids: &mut [u32],
+    permids: &mut [u32],
+)
+    ensures { KeepPromise loaded (borrowed starts) (borrowed ends) (borrowed ids) (borrowed permids) }
 {
-    let Swept::Nodes(next, lines) = swept else {
-        zeros::clear_numbers(starts);
-        zeros::clear_numbers(ends);
-        return refused(swept);
-    };
-    if fault != 0 {
-        zeros::clear_numbers(starts);
-        zeros::clear_numbers(ends);
-        return Loaded::Refused(fault, 0);
-    }
-    Loaded::Header(header_in(f, starts, ends, next, lines))
-}
-
-// On a refusal two lists are zeros again.
-fn keep(loaded: Loaded, ids: &mut [u32], permids: &mut [u32])
-    ensures { KeepPromise loaded (borrowed ids) (borrowed permids) }
-{
-    match loaded {
-        Loaded::Header(h) => {}
-        Loaded::Refused(n, line) => {
-            zeros::clear_numbers(ids);
-            zeros::clear_numbers(permids);
-        }
+    if loaded.is_err() {
+        starts.fill(0);
+        ends.fill(0);
+        ids.fill(0);
+        permids.fill(0);
     }
 }
 
 impl DumpHeader {
-    // Loads the header of a file. `found` is what was found wrong before, 0 for nothing; the input's length is among what is judged there,
+    // Loads the header of a file. `found` is what was found wrong before, any number, and 0 for nothing; the input's length is among what is judged there,
     // by `length_fault` of `stages`. The lists: `.ids`, the support order, `.permids`, `.auxids`, the variables' names as starts and lengths,
     // `.rootids`, the roots' names as starts and lengths.
     pub fn load(
@@ -140,15 +134,16 @@ impl DumpHeader {
         roots: &mut [Edge],
         rootnames: &mut [u32],
         rootlens: &mut [u32],
-    ) -> Loaded
+    ) -> Result<DumpHeader, Fault>
         requires may_read { MayRead limits found f.now }
         requires long_after { LongAfter found ids.old permids.old order.old auxids.old names.old lens.old }
-        ensures { LoadHeaderPromise (seen f) found (borrowed ids) (borrowed order) (borrowed permids) (borrowed auxids) (borrowed names) (borrowed lens) (borrowed roots) (borrowed rootnames) (borrowed rootlens) result }
+        ensures { LoadHeaderPromise (seen f) found (borrowed ids) (borrowed order) (borrowed permids) (borrowed auxids) (borrowed names) (borrowed lens)
+            (borrowed roots) (borrowed rootnames) (borrowed rootlens) result }
     {
         let mut starts = [0u32; header_keys::KEYS];
         let mut ends = [0u32; header_keys::KEYS];
         let swept = swept_after(f, found, &mut starts, &mut ends);
-        let fault = header_checks::whole_fault(
+        let whole = header_checks::whole_fault(
             f,
             found_in(swept),
             &starts,
@@ -160,8 +155,8 @@ impl DumpHeader {
             names,
             lens,
         );
-        let loaded = settle(f, swept, fault, &mut starts, &mut ends);
-        keep(loaded, ids, permids);
+        let loaded = settled(f, swept, whole, &starts, &ends);
+        keep(loaded, &mut starts, &mut ends, ids, permids);
         header_lists::fill_lists(f, &starts, &ends, ids, permids, order, auxids, names, lens);
         header_lists::fill_roots(f, &starts, &ends, roots);
         header_values::names_in(

@@ -1,11 +1,13 @@
 -- Laws of the checks that the lists of names agree about the support variables.
 use mathlib.Core.Path.{◌≡◌, refl, sym, ap, ◌∙◌}
-use mathlib.Core.Bool.{Bool, true, false, not}
+use mathlib.Core.Bool.{Bool, true, false, true≢false}
+use mathlib.Core.Logic.{◌⊎◌, inl, inr}
 use mathlib.Core.List.{List, [], ◌∷◌, ◌++◌, map, append_assoc}
 use Prim.Native.Nat.{ℕ, zero, suc, ◌≤◌}
 use native.Mathlib.Omega.{arith}
 use lib.ListN.{length, take, length-map}
-use borrow.Author.Tests.{eq-eqb, ne_eqb, not-true, not-false}
+use lib.Dec.{eqb}
+use borrow.Author.Tests.{eq-eqb, ne_eqb}
 use Rattle.codes.specs.Limits.{var_limit}
 use Rattle.read_text.specs.Text.{Place, start_of, len_of}
 use Rattle.header_lines.specs.Sweep.{Span}
@@ -18,7 +20,8 @@ use Rattle.header_values.proofs.Counted.{names-most}
 use Rattle.header_checks.specs.Names.{up_from, agree, varnames_in, orderedvarnames_in, suppvarnames_in, varnames_agree, supp_by_varnames, supp_by_ordered}
 use Rattle.codes.specs.Faults.{first_fault, unless}
 use Rattle.header_checks.specs.Whole.{name_count_faults, name_faults, NamesHeld, NameCounts, IdsRead}
-use Rattle.codes.proofs.Faults.{refuses, passes, last-check, front-refuses, front-passes}
+use Rattle.codes.proofs.Faults.{last-check, front-refuses, front-passes}
+use Rattle.codes.proofs.Numbered.{passes-on}
 use Rattle.codes.proofs.Refusals.{unless_holds, unless-fails}
 use Rattle.header_checks.proofs.Rooted.{front-reach, front-count}
 use Rattle.header_checks.proofs.Checked.{first_then}
@@ -64,6 +67,10 @@ unfolding places
 places-long [] ns e = refl
 places-long (s ∷ ss) [] e = absurd (omega arith)
 places-long (s ∷ ss) (n ∷ ns) e = ap suc (places-long ss ns (omega arith))
+
+-- a list that isn't empty has a name
+pub not_empty : (n : ℕ) → false ≡ eqb n 0 → n ≡ 0 → ⊥
+not_empty n e z = true≢false (sym (eq-eqb n 0 z) ∙ sym e)
 
 module _ (f : List ℕ) (ps : List Place) (is : List ℕ) (qs : List Place) (js : List ℕ) where
   module _ {n : ℕ} (p : n ≡ length ps) where
@@ -118,49 +125,38 @@ module _ (f : List ℕ) (t : List Span) {names lens names2 lens2 : List ℕ} (o 
     pub supp-unlike : r ≡ false → 24 ≡ first_fault (name_count_faults f t ++ (unless supp_like 24 ∷ []))
     supp-unlike k = sym (unless-fails 24 (supp-answer ∙ k)) ∙ last-check _ ∙ front-passes _ _ e h
 
--- two answers about names
-module _ (a b : Bool) where
-  -- the first is no
-  pub first-unlike : not a ≡ true → 24 ≡ first_fault (unless a 24 ∷ unless b 24 ∷ [])
-  first-unlike h = refuses _ (sym (unless-fails 24 (not-true a h))) (λ z. omega arith)
+-- two answers about names: both are yes,
+pub both-like : {a b : Bool} → a ≡ true → b ≡ true → 0 ≡ first_fault (unless a 24 ∷ unless b 24 ∷ [])
+both-like h k = sym (unless_holds 24 k) ∙ last-check _ ∙ passes-on _ (sym (unless_holds 24 h))
 
-  module _ (h : not a ≡ false) where
-    -- the second is
-    pub second-unlike : not b ≡ true → 24 ≡ first_fault (unless a 24 ∷ unless b 24 ∷ [])
-    second-unlike k = sym (unless-fails 24 (not-true b k)) ∙ last-check _ ∙ passes _ refl (unless_holds 24 (not-false a h))
+-- or one is no
+pub one-unlike : {a b : Bool} → ((a ≡ true) × (b ≡ false)) ⊎ (a ≡ false) → 24 ≡ first_fault (unless a 24 ∷ unless b 24 ∷ [])
+unfolding first_fault
+one-unlike (inl w) = rw (w.0, w.1)
+one-unlike (inr e) = rw e
 
-    -- none is
-    pub both-like : not b ≡ false → 0 ≡ first_fault (unless a 24 ∷ unless b 24 ∷ [])
-    both-like k = sym (unless_holds 24 (not-false b k)) ∙ last-check _ ∙ passes _ refl (unless_holds 24 (not-false a h))
-
--- the answers about `.varnames` and each of the others, at some positions, after what was found before
-module _ (found : ℕ) (f : List ℕ) (t : List Span) (ids permids : List ℕ) where
+-- the answers about `.varnames` and each of the others, at some positions
+module _ (f : List ℕ) (t : List Span) (ids permids : List ℕ) where
   abbrev ordered_like : Bool
   ordered_like = agree f (varnames_in f t) ids (orderedvarnames_in f t) permids
 
   abbrev names_like : Bool
   names_like = agree f (varnames_in f t) ids (suppvarnames_in f t) (up_from (length ids) 0)
 
-  -- something was found
-  pub varnames-found : (found ≡ 0 → ⊥) → found ≡ first_fault (found ∷ unless ordered_like 24 ∷ unless names_like 24 ∷ [])
-  varnames-found h = refuses _ refl h
+  -- `.varnames` isn't given
+  pub varnames-missing : {n : ℕ} → n ≡ length (varnames_in f t) → n ≡ 0 → 0 ≡ first_fault (unless ordered_like 24 ∷ unless names_like 24 ∷ [])
+  varnames-missing e h =
+      both-like (sym (first-missing f (varnames_in f t) ids (orderedvarnames_in f t) permids e h))
+      (sym (first-missing f (varnames_in f t) ids (suppvarnames_in f t) (up_from (length ids) 0) e h))
 
-  module _ (z : found ≡ 0) where
-    -- `.varnames` isn't given
-    pub varnames-missing : {n : ℕ} → n ≡ length (varnames_in f t) → n ≡ 0 → 0 ≡ first_fault (found ∷ unless ordered_like 24 ∷ unless names_like 24 ∷ [])
-    varnames-missing e h =
-        let a = sym (first-missing f (varnames_in f t) ids (orderedvarnames_in f t) permids e h) in
-        let b = sym (first-missing f (varnames_in f t) ids (suppvarnames_in f t) (up_from (length ids) 0) e h) in
-        sym (unless_holds 24 b) ∙ last-check _ ∙ passes _ refl (unless_holds 24 a) ∙ passes _ refl z
-
-    -- it is, and the lists are held
-    pub varnames-judged : {names lens names2 lens2 names3 lens3 : List ℕ} → NamesHeld f t Varnames names lens
-        → NamesHeld f t Orderedvarnames names2 lens2 → NamesHeld f t Suppvarnames names3 lens3
-        → {a b : Bool} → a ≡ agree f (places names lens) ids (places names2 lens2) permids
-        → b ≡ agree f (places names lens) ids (places names3 lens3) (up_from (length ids) 0)
-        → {r : ℕ} → r ≡ first_fault (unless a 24 ∷ unless b 24 ∷ []) → r ≡ first_fault (found ∷ unless ordered_like 24 ∷ unless names_like 24 ∷ [])
-    varnames-judged v o s a b e =
-        rw (agree-held f ids permids v.names_are o.names_are a, agree-held f ids _ v.names_are s.names_are b) at e ∙ passes _ refl z
+  -- it is, and the lists are held
+  pub varnames-judged : {names lens names2 lens2 names3 lens3 : List ℕ} → NamesHeld f t Varnames names lens
+      → NamesHeld f t Orderedvarnames names2 lens2 → NamesHeld f t Suppvarnames names3 lens3
+      → {a b : Bool} → a ≡ agree f (places names lens) ids (places names2 lens2) permids
+      → b ≡ agree f (places names lens) ids (places names3 lens3) (up_from (length ids) 0)
+      → {r : ℕ} → r ≡ first_fault (unless a 24 ∷ unless b 24 ∷ []) → r ≡ first_fault (unless ordered_like 24 ∷ unless names_like 24 ∷ [])
+  varnames-judged v o s a b e =
+      rw (agree-held f ids permids v.names_are o.names_are a, agree-held f ids _ v.names_are s.names_are b) at e
 
 -- three answers about names, of which the last comes first
 turned : (a b c : Bool) → first_fault (unless c 24 ∷ unless a 24 ∷ unless b 24 ∷ []) ≡ first_fault (unless a 24 ∷ unless b 24 ∷ unless c 24 ∷ [])

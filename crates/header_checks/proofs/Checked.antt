@@ -5,8 +5,14 @@ use Prim.Native.Nat.{ℕ, zero, suc}
 use Rattle.codes.specs.Limits.{Limits}
 use Rattle.header_lines.specs.Sweep.{Span}
 use Rattle.header_values.specs.Values.{nnodes_in, nvars_in, nsuppvars_in}
+use Rattle.std.specs.Prelude.{Ok, Err}
 use Rattle.codes.specs.Faults.{first_fault}
-use Rattle.header_checks.specs.Whole.{number_faults, numbers_fault, support_faults, name_count_faults, name_faults, root_faults, whole_fault, whole_after, NumbersPass}
+use Rattle.codes.specs.Refusals.{number_of, fault_at}
+use Rattle.codes.specs.declared.refusal.Refusal.{Refusal}
+use Rattle.codes.proofs.Numbered.{number-not-none}
+use Rattle.header_checks.specs.Promises.{whole_of}
+use Rattle.header_checks.specs.Whole.{number_faults, numbers_fault, support_faults, name_count_faults, name_faults, root_faults}
+use Rattle.header_checks.specs.Whole.{whole_fault, whole_after, NumbersPass}
 use Rattle.codes.proofs.Faults.{front-refuses, front-passes}
 
 -- the first refusal of some checks, before others, is that of all
@@ -16,14 +22,24 @@ first_then [] ys = refl
 first_then (zero ∷ xs) ys = first_then xs ys
 first_then (suc n ∷ xs) ys = refl
 
+-- the answer of a refusal's number
+whole_err : (n : ℕ) → (n ≡ 0 → ⊥) → Err (record { number = n; line = 0 }) ≡ whole_of n
+whole_err zero h = absurd (h refl)
+whole_err (suc n) h = refl
+
 -- what was found before comes first
-pub whole-found : (m : Limits) (found : ℕ) (f : List ℕ) (t : List Span) → (found ≡ 0 → ⊥) → found ≡ whole_after m found f t
+pub whole-found : (m : Limits) (found : ℕ) (f : List ℕ) (t : List Span) → (found ≡ 0 → ⊥)
+    → Err (record { number = found; line = 0 }) ≡ whole_of (whole_after m found f t)
 whole-found m zero f t h = absurd (h refl)
 whole-found m (suc n) f t h = refl
 
 -- nothing was: the header as a whole decides
-pub whole-first : {found r : ℕ} (m : Limits) (f : List ℕ) (t : List Span) → found ≡ 0 → r ≡ whole_fault m f t → r ≡ whole_after m found f t
-whole-first m f t z e = rw z e
+module _ {found : ℕ} (m : Limits) (f : List ℕ) (t : List Span) (z : found ≡ 0) where
+  pub whole-refused : (r : Refusal) → number_of r ≡ whole_fault m f t → Err (fault_at r 0) ≡ whole_of (whole_after m found f t)
+  whole-refused r e = rw z (whole_err (number_of r) (number-not-none r) ∙ ap whole_of e)
+
+  pub whole-passes : 0 ≡ whole_fault m f t → Ok tt ≡ whole_of (whole_after m found f t)
+  whole-passes e = rw z (ap whole_of e)
 
 module _ (m : Limits) (f : List ℕ) (t : List Span) where
   -- the answer about the numbers, each as its reader gives it

@@ -15,10 +15,13 @@ use Rattle.header_values.specs.Values.{pad, nvars_in, nsuppvars_in, u32s_in}
 use Rattle.header_values.proofs.Counted.{u32s-most}
 use Rattle.header_values.proofs.Fronts.{front_fits, front-is, front_long}
 use Rattle.codes.specs.Faults.{first_fault, unless}
-use Rattle.header_checks.specs.Whole.{given_fault, support_faults, IdsListed, IdsRead}
+use Rattle.codes.specs.Refusals.{number_of}
+use Rattle.codes.specs.declared.refusal.Refusal.{Refusal}
+use Rattle.header_checks.specs.Whole.{count_fault, given_fault, support_faults, IdsListed}
 use Rattle.codes.proofs.Faults.{first-none, rest-none, refuses, passes, last-check}
+use Rattle.codes.proofs.Numbered.{refuses-with, passes-on}
 use Rattle.codes.proofs.Refusals.{unless_holds, unless-fails}
-use Rattle.header_checks.proofs.Refusals.{count-right, count-wrong, count_none}
+use Rattle.header_checks.proofs.Refusals.{count_none}
 
 -- the counts are right, so that the ids and the permids decide
 abbrev pub CountsPass : List ℕ → List Span → Type 0
@@ -50,23 +53,30 @@ module _ (f : List ℕ) (t : List Span) (k : Key) {n m : ℕ} {dst : List ℕ} (
 
 module _ (f : List ℕ) (t : List Span) where
   -- how many support variables, ids and permids there are
-  module _ {want n : ℕ} (w : want ≡ nsuppvars_in f t) (p : n ≡ length (u32s_in f t Ids)) where
+  module _ {want : ℕ} (w : want ≡ nsuppvars_in f t) {ids permids : List ℕ} (l : IdsListed f t ids permids) where
     -- too many ids or too few
-    pub ids-wrong : (n ≡ want → ⊥) → 21 ≡ first_fault (support_faults f t)
+    pub ids-wrong : (r : Refusal) → number_of r ≡ count_fault want (length ids) → number_of r ≡ first_fault (support_faults f t)
     unfolding support_faults
-    ids-wrong h = refuses _ (sym (count-wrong _ _ (λ q. h (p ∙ q ∙ sym w)))) (λ z. omega arith)
+    ids-wrong r e = refuses-with r _ (rw (w, l.ids_are) at e)
 
-    module _ (h : n ≡ want) {m : ℕ} (q : m ≡ length (u32s_in f t Permids)) where
+    module _ (n : 0 ≡ count_fault want (length ids)) where
       -- too many permids or too few
-      pub permids-wrong : (m ≡ want → ⊥) → 21 ≡ first_fault (support_faults f t)
+      pub permids-wrong : (r : Refusal) → number_of r ≡ count_fault want (length permids) → number_of r ≡ first_fault (support_faults f t)
       unfolding support_faults
-      permids-wrong k =
-          refuses _ (sym (count-wrong _ _ (λ e. k (q ∙ e ∙ sym w)))) (λ z. omega arith)
-          ∙ passes _ refl (count-right _ _ (sym p ∙ h ∙ w))
+      permids-wrong r e = refuses-with r _ (rw (w, l.permids_are) at e) ∙ passes-on _ (rw (w, l.ids_are) at n)
 
-      -- as many as there must be
-      pub counted : m ≡ want → {ids permids : List ℕ} → IdsListed f t ids permids → IdsRead f t ids permids
-      counted k l = record { listed = l; ids_counted = sym p ∙ h ∙ w; permids_counted = sym q ∙ k ∙ w }
+      -- as many as there must be: how many auxids there are
+      module _ (m : 0 ≡ count_fault want (length permids)) {a : ℕ} (u : a ≡ length (u32s_in f t Auxids)) where
+        -- too many or too few
+        pub auxids-wrong : (r : Refusal) → number_of r ≡ given_fault want a → number_of r ≡ first_fault (support_faults f t)
+        unfolding support_faults
+        auxids-wrong r e =
+            refuses-with r _ (rw (w, u) at e) ∙ passes-on _ (rw (w, l.permids_are) at m) ∙ passes-on _ (rw (w, l.ids_are) at n)
+
+        -- as many as there must be
+        pub counts-pass : 0 ≡ given_fault want a → CountsPass f t
+        unfolding support_faults
+        counts-pass e = passes-on _ (rw (w, u) at e) ∙ passes-on _ (rw (w, l.permids_are) at m) ∙ passes-on _ (rw (w, l.ids_are) at n)
 
   -- where no support variable has a fault, there are as many ids and permids as support variables
   module _ (h : first_fault (support_faults f t) ≡ 0) where
@@ -78,31 +88,12 @@ module _ (f : List ℕ) (t : List Span) where
     unfolding support_faults
     permids-number = count_none _ _ (first-none _ _ (rest-none _ _ h))
 
-  -- where the ids and the permids were read and counted: how many auxids there are
-  module _ {ids permids : List ℕ} (l : IdsRead f t ids permids) {want a x : ℕ} (w : want ≡ nsuppvars_in f t)
-      (u : a ≡ length (u32s_in f t Auxids)) (g : x ≡ given_fault want a) where
-    -- too many or too few
-    pub auxids-wrong : (x ≡ 0 → ⊥) → x ≡ first_fault (support_faults f t)
-    unfolding support_faults
-    auxids-wrong z =
-        refuses _ (rw (w, u) at g) z
-        ∙ passes _ refl (count-right _ _ l.permids_counted)
-        ∙ passes _ refl (count-right _ _ l.ids_counted)
-
-    -- as many as there must be
-    pub counts-pass : x ≡ 0 → CountsPass f t
-    unfolding support_faults
-    counts-pass z =
-        passes _ (rw (w, u) at g) z
-        ∙ passes _ refl (count-right _ _ l.permids_counted)
-        ∙ passes _ refl (count-right _ _ l.ids_counted)
-
   -- where the counts are right: the answer about the ids
-  module _ (pass : CountsPass f t) {ids permids : List ℕ} (l : IdsRead f t ids permids) {nvars : ℕ} (v : nvars ≡ nvars_in f t)
+  module _ (pass : CountsPass f t) {ids permids : List ℕ} (l : IdsListed f t ids permids) {nvars : ℕ} (v : nvars ≡ nvars_in f t)
       {a : Bool} (e : a ≡ ids_fit nvars ids) where
     -- it is about the header's ids
     ids-answer : ids_fit (nvars_in f t) (u32s_in f t Ids) ≡ a
-    ids-answer = sym (rw (v, l.listed.ids_are) at e)
+    ids-answer = sym (rw (v, l.ids_are) at e)
 
     -- the ids don't fit
     pub ids-unfit : not a ≡ true → 22 ≡ first_fault (support_faults f t)
@@ -112,7 +103,7 @@ module _ (f : List ℕ) (t : List Span) where
     module _ (h : not a ≡ false) {b : Bool} (d : b ≡ permids_fit nvars permids) where
       -- it is about the header's permids
       permids-answer : permids_fit (nvars_in f t) (u32s_in f t Permids) ≡ b
-      permids-answer = sym (rw (v, l.listed.permids_are) at d)
+      permids-answer = sym (rw (v, l.permids_are) at d)
 
       -- the permids don't fit
       pub permids-unfit : not b ≡ true → 23 ≡ first_fault (support_faults f t)

@@ -1,8 +1,9 @@
 -- What the checks of a header as a whole promise, over the parts that are lent to them.
-use Rattle.std.specs.Prelude.{ℕ, ◌≡◌, Bool, List, [], ◌∷◌, ◌++◌, length}
+use Rattle.std.specs.Prelude.{ℕ, zero, suc, ◌≡◌, Bool, List, [], ◌∷◌, ◌++◌, length, Result, Ok, Err}
 use Rattle.codes.specs.Limits.{limits}
 use Rattle.codes.specs.Faults.{first_fault, unless}
 use Rattle.codes.specs.Lent.{Part, old, new}
+use Rattle.codes.specs.declared.refusal.Fault.{Fault}
 use Rattle.header_keys.specs.declared.Key.TheVariants.{Ids, Permids}
 use Rattle.variable_names.specs.Names.{places, same_names, chosen_places}
 use Rattle.header_values.specs.Promises.{table}
@@ -38,11 +39,10 @@ module _ (f starts ends : Part (List ℕ)) where
         24 ∷ []))
 
   -- whether `.varnames` and the others, each at its positions, agree
-  pub record VarnamesPromise (found : ℕ) (ids permids : Part (List ℕ)) (r : ℕ) : Type 0 where
+  pub record VarnamesPromise (ids permids : Part (List ℕ)) (r : ℕ) : Type 0 where
     pub answer :
         r ≡ first_fault
-        (found
-        ∷ unless
+        (unless
         (agree (old f) (varnames_in (old f) (table starts ends)) (old ids) (orderedvarnames_in (old f) (table starts ends)) (old permids))
         24
         ∷ unless
@@ -60,8 +60,13 @@ module _ (f starts ends : Part (List ℕ)) where
     pub ids_left : new ids ≡ pad (length (old ids)) (u32s_in (old f) (table starts ends) Ids)
     pub permids_left : new permids ≡ pad (length (old permids)) (u32s_in (old f) (table starts ends) Permids)
 
+-- the answer of a number: nothing for 0, and else a refusal that has no line
+abbrev pub whole_of : ℕ → Result Unit Fault
+whole_of zero = Ok tt
+whole_of (suc n) = Err (record { number = suc n; line = 0 })
+
 -- the header as a whole, after what was found before; where there is no refusal, the ids and the permids were read into their lists
-pub record WholePromise (f : Part (List ℕ)) (found : ℕ) (starts ends ids permids : Part (List ℕ)) (r : ℕ) : Type 0 where
-  pub answer : r ≡ whole_after limits found (old f) (table starts ends)
-  pub ids_left : r ≡ 0 → new ids ≡ pad (length (old ids)) (u32s_in (old f) (table starts ends) Ids)
-  pub permids_left : r ≡ 0 → new permids ≡ pad (length (old permids)) (u32s_in (old f) (table starts ends) Permids)
+pub record WholePromise (f : Part (List ℕ)) (found : ℕ) (starts ends ids permids : Part (List ℕ)) (r : Result Unit Fault) : Type 0 where
+  pub answer : r ≡ whole_of (whole_after limits found (old f) (table starts ends))
+  pub ids_left : r ≡ Ok tt → new ids ≡ pad (length (old ids)) (u32s_in (old f) (table starts ends) Ids)
+  pub permids_left : r ≡ Ok tt → new permids ≡ pad (length (old permids)) (u32s_in (old f) (table starts ends) Permids)

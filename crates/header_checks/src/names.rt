@@ -1,7 +1,7 @@
 // Whether the lists of names agree about the support variables.
 ghost use Rattle.codes.specs.Lent.{seen};
-ghost use Rattle.std.specs.Prelude.{◌≡◌, length, [], ◌∷◌};
-ghost use Rattle.codes.specs.Faults.{first_fault, unless};
+ghost use Rattle.std.specs.Prelude.{◌≡◌, length};
+ghost use Rattle.codes.specs.Refusals.{fault_of};
 ghost use Rattle.header_keys.specs.declared.Key.TheVariants as Key;
 ghost use Rattle.header_lines.specs.Sweep.{Table};
 ghost use Rattle.header_checks.specs.Promises.{InOrderPromise, AgreePromise, SuppAgreesPromise};
@@ -9,7 +9,8 @@ ghost use Rattle.header_checks.specs.Promises.{GivenNamesPromise, VarnamesPromis
 ghost use Rattle.header_checks.specs.Whole.{IdsRead, NamesHeld, LongNames};
 ghost use Rattle.header_values.specs.Values.{spans};
 
-use codes::{limits, refusal};
+use codes::limits;
+use codes::refusal::Refusal;
 use header_keys::Key;
 use seats::entry;
 
@@ -26,9 +27,8 @@ fn same_in_order(
     requires lens2_len { length lens2.now ≡ length starts2.now }
     ensures { InOrderPromise (seen f) (seen index) (seen starts) (seen lens) (seen starts2) (seen lens2) result }
 {
-    let mut i = 0;
-    while i < index.len() {
-        let a = index[i] as usize;
+    for (i, a) in index.iter().enumerate() {
+        let a = *a as usize;
         if !variable_names::same_name(
             f,
             entry(starts, a),
@@ -38,7 +38,6 @@ fn same_in_order(
         ) {
             return false;
         }
-        i += 1;
     }
     true
 }
@@ -58,10 +57,7 @@ fn agree(
     requires lens2_len { length lens2.now ≡ length starts2.now }
     ensures { AgreePromise (seen f) (seen index) (seen starts) (seen lens) (seen index2) (seen starts2) (seen lens2) result }
 {
-    if starts.len() == 0 {
-        return true;
-    }
-    if starts2.len() == 0 {
+    if starts.is_empty() || starts2.is_empty() {
         return true;
     }
     variable_names::same_names(f, index, starts, lens, index2, starts2, lens2)
@@ -80,10 +76,7 @@ fn supp_agrees(
     requires lens2_len { length lens2.now ≡ length starts2.now }
     ensures { SuppAgreesPromise (seen f) (seen index) (seen starts) (seen lens) (seen starts2) (seen lens2) result }
 {
-    if starts.len() == 0 {
-        return true;
-    }
-    if starts2.len() == 0 {
+    if starts.is_empty() || starts2.is_empty() {
         return true;
     }
     same_in_order(f, index, starts, lens, starts2, lens2)
@@ -100,21 +93,18 @@ fn given_names_fault(
     lens: &[u32],
     names2: &[u32],
     lens2: &[u32],
-) -> u8
+) -> Result<(), Refusal>
     requires table { Table f.now starts.now ends.now }
     requires names_held { NamesHeld f.now (spans starts.now ends.now) Key.Orderedvarnames names.now lens.now }
     requires names_held_2 { NamesHeld f.now (spans starts.now ends.now) Key.Suppvarnames names2.now lens2.now }
-    ensures { GivenNamesPromise (seen f) (seen starts) (seen ends) (seen permids) result }
+    ensures { GivenNamesPromise (seen f) (seen starts) (seen ends) (seen permids) (fault_of result) }
 {
     let varnames = header_values::count_names(f, starts, ends, Key::Varnames, limits::VAR_LIMIT);
-    let count = crate::name_count_fault(f, starts, ends, names.len(), names2.len(), varnames);
-    if count != 0 {
-        return count;
-    }
+    crate::name_count_fault(f, starts, ends, names.len(), names2.len(), varnames)?;
     if supp_agrees(f, permids, names, lens, names2, lens2) {
-        return 0;
+        return Ok(());
     }
-    refusal::UNLIKE_NAMES
+    Err(Refusal::UnlikeNames)
 }
 
 // The same of the file's lists, which are read into lent lists. These are scratch.
@@ -127,10 +117,10 @@ fn ordered_fault(
     lens: &mut [u32],
     names2: &mut [u32],
     lens2: &mut [u32],
-) -> u8
+) -> Result<(), Refusal>
     requires table { Table f.now starts.now ends.now }
     requires long_names { LongNames names.old lens.old names2.old lens2.old }
-    ensures { GivenNamesPromise (seen f) (seen starts) (seen ends) (seen permids) result }
+    ensures { GivenNamesPromise (seen f) (seen starts) (seen ends) (seen permids) (fault_of result) }
 {
     let max = limits::VAR_LIMIT;
     let n = header_values::names_over(f, starts, ends, Key::Orderedvarnames, max, names, lens);
@@ -147,23 +137,9 @@ fn ordered_fault(
     )
 }
 
-// Two answers about lists of names.
-fn unlike_fault(first: bool, second: bool) -> u8
-    ensures { result ≡ first_fault (unless first 24 ∷ unless second 24 ∷ []) }
-{
-    if !first {
-        return refusal::UNLIKE_NAMES;
-    }
-    if !second {
-        return refusal::UNLIKE_NAMES;
-    }
-    0
-}
-
-// After what was found before, 0 for nothing: whether `.varnames` and the other two lists agree. The lent lists are scratch.
+// Whether `.varnames` and the other two lists agree. The lent lists are scratch.
 fn varnames_fault(
     f: &[u8],
-    found: u8,
     starts: &[u32],
     ends: &[u32],
     ids: &[u32],
@@ -172,18 +148,15 @@ fn varnames_fault(
     lens: &mut [u32],
     names2: &mut [u32],
     lens2: &mut [u32],
-) -> u8
+) -> Result<(), Refusal>
     requires table { Table f.now starts.now ends.now }
     requires permids_len { length permids.now ≡ length ids.now }
     requires long_names { LongNames names.old lens.old names2.old lens2.old }
-    ensures { VarnamesPromise (seen f) (seen starts) (seen ends) found (seen ids) (seen permids) result }
+    ensures { VarnamesPromise (seen f) (seen starts) (seen ends) (seen ids) (seen permids) (fault_of result) }
 {
-    if found != 0 {
-        return found;
-    }
     let max = limits::VAR_LIMIT;
     if header_values::count_names(f, starts, ends, Key::Varnames, max) == 0 {
-        return 0;
+        return Ok(());
     }
     let n = header_values::names_over(f, starts, ends, Key::Varnames, max, names, lens);
     let m = header_values::names_over(f, starts, ends, Key::Orderedvarnames, max, names2, lens2);
@@ -198,7 +171,10 @@ fn varnames_fault(
     );
     let k = header_values::names_over(f, starts, ends, Key::Suppvarnames, max, names2, lens2);
     let second = supp_agrees(f, ids, &names[..n], &lens[..n], &names2[..k], &lens2[..k]);
-    unlike_fault(first, second)
+    if first && second {
+        return Ok(());
+    }
+    Err(Refusal::UnlikeNames)
 }
 
 // The lists of names: how many entries they have, and whether they agree about the support variables. The lent lists are scratch.
@@ -212,14 +188,12 @@ pub fn name_fault(
     lens: &mut [u32],
     names2: &mut [u32],
     lens2: &mut [u32],
-) -> u8
+) -> Result<(), Refusal>
     requires table { Table f.now starts.now ends.now }
     requires ids_read { IdsRead f.now (spans starts.now ends.now) ids.now permids.now }
     requires long_names { LongNames names.old lens.old names2.old lens2.old }
-    ensures { NameFaultPromise (seen f) (seen starts) (seen ends) result }
+    ensures { NameFaultPromise (seen f) (seen starts) (seen ends) (fault_of result) }
 {
-    let found = ordered_fault(f, starts, ends, permids, names, lens, names2, lens2);
-    varnames_fault(
-        f, found, starts, ends, ids, permids, names2, lens2, names, lens,
-    )
+    ordered_fault(f, starts, ends, permids, names, lens, names2, lens2)?;
+    varnames_fault(f, starts, ends, ids, permids, names2, lens2, names, lens)
 }

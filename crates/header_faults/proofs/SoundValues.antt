@@ -6,6 +6,7 @@ use mathlib.Core.List.{List, [], ◌∷◌}
 use mathlib.Core.Logic.{◌⊎◌, inl, inr, ⊎_elim, ◌↔◌}
 use Prim.Native.Nat.{ℕ, ◌+◌, ◌-◌, ◌^◌, ◌≤◌}
 use native.Mathlib.Omega.{arith}
+use Rattle.std.specs.Prelude.{Option, Some, None}
 use lib.Dec.{leb}
 use borrow.Author.Tests.{le-leb, leb-true}
 use Rattle.codes.specs.Answer.{Read, value, refused}
@@ -16,9 +17,9 @@ use Rattle.read_edges.specs.Edges.{edge_list}
 use Rattle.read_text.specs.Text.{name_list, text_at}
 use Rattle.read_text.specs.Alike.{alike}
 use Rattle.header_keys.specs.declared.Key.{Key}
-use Rattle.header_keys.specs.declared.Key.TheVariants.{Ver, Mode, Varinfo, Dd, Nnodes, Nvars, Nsuppvars, Nroots, Nodes, Varnames, Suppvarnames, Orderedvarnames, Ids, Permids, Auxids, Rootids, Rootnames, Unknown}
-use Rattle.header_faults.specs.Judge.{why, version20, version30, version_fault, mode_a, mode_b, mode_fault, is_varinfo, varinfo_fault, text_fault, single_fault, u32_list_fault, root_list_fault, name_list_fault, fault_of}
-use Rattle.header_faults.specs.Sound.{SoundNumber, SoundNumbers, SoundNames, SoundValue}
+use Rattle.header_keys.specs.declared.Key.TheVariants.{Ver, Mode, Varinfo, Dd, Nnodes, Nvars, Nsuppvars, Nroots, Nodes, Varnames, Suppvarnames, Orderedvarnames, Ids, Permids, Auxids, Rootids, Rootnames}
+use Rattle.header_faults.specs.Judge.{why, version20, version30, version_fault, mode_a, mode_b, mode_fault, is_varinfo, varinfo_fault, text_fault, single_fault, u32_list_fault, root_list_fault, name_list_fault, fault_of, word_fault}
+use Rattle.header_faults.specs.Sound.{SoundNumber, SoundNumbers, SoundNames, SoundValue, SoundWord}
 use Rattle.read_numbers.proofs.Refusals.{single-refuses}
 use Rattle.read_lists.proofs.Refusals.{u32-list-refuses}
 use Rattle.read_edges.proofs.Refusals.{edge-list-refuses}
@@ -145,7 +146,11 @@ fault-sound Permids at s = numbers-sound s
 fault-sound Auxids at s = numbers-sound s
 fault-sound Rootids at s = roots-sound at s
 fault-sound Rootnames at s = names-sound root_limit at s
-fault-sound Unknown at s = (λ e. absurd (omega arith), λ z. absurd z)
+
+-- and so has a line's.
+pub word-sound : (k : Option Key) (at : ℕ) (s : List ℕ) → (word_fault k at s ≡ 0) ↔ SoundWord k at s
+word-sound (Some k) at s = fault-sound k at s
+word-sound None at s = (λ e. absurd (omega arith), λ z. absurd z)
 
 -- A fault is one of the numbers from 11 to 19.
 pub fault-numbers : (k : Key) (at : ℕ) (s : List ℕ) (n : ℕ) → fault_of k at s ≡ n → (n ≡ 0) ⊎ ((11 ≤ n) × (n ≤ 19))
@@ -167,4 +172,8 @@ fault-numbers Permids at s n e = why-numbers (u32_list var_limit s).answer (numb
 fault-numbers Auxids at s n e = why-numbers (u32_list var_limit s).answer (numbers-lined s) n e
 fault-numbers Rootids at s n e = why-numbers (edge_list root_limit s).answer (roots-lined s) n e
 fault-numbers Rootnames at s n e = why-numbers (name_list root_limit at s).answer (names-lined root_limit at s) n e
-fault-numbers Unknown at s n e = inr (omega arith)
+
+-- So is a line's.
+pub word-numbers : (k : Option Key) (at : ℕ) (s : List ℕ) (n : ℕ) → word_fault k at s ≡ n → (n ≡ 0) ⊎ ((11 ≤ n) × (n ≤ 19))
+word-numbers (Some k) at s n e = fault-numbers k at s n e
+word-numbers None at s n e = inr (omega arith)

@@ -1,5 +1,5 @@
 -- How the value of each key is judged. Document 01, 'The file's writer, line by line', and 'Limits' for the lists.
-use Rattle.std.specs.Prelude.{ℕ, ◌^◌, List, [], ◌∷◌, Bool, false, cond, ◌&&◌, ◌||◌, leb}
+use Rattle.std.specs.Prelude.{ℕ, ◌^◌, List, [], ◌∷◌, Bool, false, cond, ◌&&◌, ◌||◌, leb, Option, Some, None}
 use Rattle.codes.specs.Texts.{bytes}
 use Rattle.codes.specs.Answer.{Read, value, refused}
 use Rattle.codes.specs.Limits.{var_limit, root_limit}
@@ -9,7 +9,7 @@ use Rattle.read_edges.specs.Edges.{edge_list}
 use Rattle.read_text.specs.Text.{name_list, text_at}
 use Rattle.read_text.specs.Alike.{alike}
 use Rattle.header_keys.specs.declared.Key.{Key}
-use Rattle.header_keys.specs.declared.Key.TheVariants.{Ver, Mode, Varinfo, Dd, Nnodes, Nvars, Nsuppvars, Nroots, Nodes, Varnames, Suppvarnames, Orderedvarnames, Ids, Permids, Auxids, Rootids, Rootnames, Unknown}
+use Rattle.header_keys.specs.declared.Key.TheVariants.{Ver, Mode, Varinfo, Dd, Nnodes, Nvars, Nsuppvars, Nroots, Nodes, Varnames, Suppvarnames, Orderedvarnames, Ids, Permids, Auxids, Rootids, Rootnames}
 
 -- the number of a refusal, 0 of none
 abbrev pub why : {A : Type 0} → Read A → ℕ
@@ -66,7 +66,7 @@ unfoldable pub name_list_fault : ℕ → ℕ → List ℕ → ℕ
 name_list_fault max at s = why (name_list max at s).answer
 
 -- The refusal of a key's value, whose first byte stands at a position; 0 of none. '15 .. over 64 bits in `.nnodes`, `.nroots`, over
--- 32 in other unsigned ones'; 'the value of `.nodes` is ignored'; '11 unknown key'.
+-- 32 in other unsigned ones'; 'the value of `.nodes` is ignored'.
 unfoldable pub fault_of : Key → ℕ → List ℕ → ℕ
 fault_of Ver at s = version_fault s
 fault_of Mode at s = mode_fault s
@@ -85,4 +85,8 @@ fault_of Permids at s = u32_list_fault s
 fault_of Auxids at s = u32_list_fault s
 fault_of Rootids at s = root_list_fault s
 fault_of Rootnames at s = name_list_fault root_limit at s
-fault_of Unknown at s = 11
+
+-- of the word that is a line's key. '11 unknown key'.
+abbrev pub word_fault : Option Key → ℕ → List ℕ → ℕ
+word_fault (Some k) at s = fault_of k at s
+word_fault None at s = 11

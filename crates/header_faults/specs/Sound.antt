@@ -1,5 +1,5 @@
 -- What a sound value of each key is, with no word of how it is judged. Document 01, 'The file's writer, line by line', and 'Limits'.
-use Rattle.std.specs.Prelude.{◌≡◌, List, [], ◌∷◌, ◌⊎◌, ℕ, ◌+◌, ◌^◌, ◌≤◌}
+use Rattle.std.specs.Prelude.{◌≡◌, List, [], ◌∷◌, ◌⊎◌, ℕ, ◌+◌, ◌^◌, ◌≤◌, Option, Some, None}
 use Rattle.codes.specs.Answer.{value}
 use Rattle.codes.specs.Limits.{var_limit, root_limit}
 use Rattle.read_numbers.specs.Number.{single}
@@ -7,7 +7,7 @@ use Rattle.read_lists.specs.Lists.{u32_list}
 use Rattle.read_edges.specs.Edges.{edge_list}
 use Rattle.read_text.specs.Text.{Place, name_list, text_at}
 use Rattle.header_keys.specs.declared.Key.{Key}
-use Rattle.header_keys.specs.declared.Key.TheVariants.{Ver, Mode, Varinfo, Dd, Nnodes, Nvars, Nsuppvars, Nroots, Nodes, Varnames, Suppvarnames, Orderedvarnames, Ids, Permids, Auxids, Rootids, Rootnames, Unknown}
+use Rattle.header_keys.specs.declared.Key.TheVariants.{Ver, Mode, Varinfo, Dd, Nnodes, Nvars, Nsuppvars, Nroots, Nodes, Varnames, Suppvarnames, Orderedvarnames, Ids, Permids, Auxids, Rootids, Rootnames}
 use Rattle.header_faults.specs.Judge.{version20, version30, mode_a, mode_b}
 
 -- a single number below a limit: 'a number is too large: over 64 bits in `.nnodes`, `.nroots` .., over 32 in other unsigned ones'
@@ -24,7 +24,7 @@ SoundNames max at s = (n : ℕ) × ((name_list max at s).answer ≡ value n)
 
 -- The value s of a key, whose first byte stands at a position, is sound: it is not '12 version other than DDDMP-2.0 or DDDMP-3.0', nor '13
 -- unknown `.mode` or `.varinfo` value', where the modes are A and B and varinfo is one digit from 0 to 4; a text, a number or a list
--- is read, with no 14 to 19; 'the value of `.nodes` is ignored'. '11 unknown key': such a key has no sound value.
+-- is read, with no 14 to 19; 'the value of `.nodes` is ignored'.
 abbrev pub SoundValue : Key → ℕ → List ℕ → Type 0
 SoundValue Ver at s = (s ≡ version20) ⊎ (s ≡ version30)
 SoundValue Mode at s = (s ≡ mode_a) ⊎ (s ≡ mode_b)
@@ -43,4 +43,8 @@ SoundValue Permids at s = SoundNumbers s
 SoundValue Auxids at s = SoundNumbers s
 SoundValue Rootids at s = (n : ℕ) × ((edge_list root_limit s).answer ≡ value n)
 SoundValue Rootnames at s = SoundNames root_limit at s
-SoundValue Unknown at s = ⊥
+
+-- of the word that is a line's key. '11 unknown key': a word that is none has no sound value.
+abbrev pub SoundWord : Option Key → ℕ → List ℕ → Type 0
+SoundWord (Some k) at s = SoundValue k at s
+SoundWord None at s = ⊥

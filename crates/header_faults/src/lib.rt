@@ -2,140 +2,105 @@
 #![tactic(auto)]
 
 ghost use Rattle.std.specs.Prelude.{◌≡◌, ◌+◌, ◌<◌, ◌^◌, length};
+ghost use Rattle.codes.specs.Refusals.{fault_of as number_of_fault};
 ghost use Rattle.header_faults.specs.Judge.{version_fault, mode_fault, varinfo_fault, text_fault, single_fault, u32_list_fault, root_list_fault, name_list_fault, fault_of};
 
-use codes::{limits, refusal};
+use codes::limits::{ROOT_LIMIT, VAR_LIMIT};
+use codes::refusal::Refusal;
 use header_keys::Key;
-use read_lists::Count;
-use read_numbers::{Number32, Number64};
-use read_text::Str;
+use read_numbers::Width;
 
-// The refusal of each judge is its number, 0 where there is none.
-
-fn version_fault(value: &[u8]) -> u8
-    ensures { result ≡ version_fault value.now }
+#[tactic(auto, using(read_text::proofs::Alike::pointwise_alike), unfolding(crate::specs::Judge::version_fault))]
+fn version_fault(value: &[u8]) -> Result<(), Refusal>
+    ensures { number_of_fault result ≡ version_fault value.now }
 {
-    if read_text::same(value, b"DDDMP-2.0") {
-        return 0;
+    if value == b"DDDMP-2.0".as_slice() || value == b"DDDMP-3.0".as_slice() {
+        return Ok(());
     }
-    if read_text::same(value, b"DDDMP-3.0") {
-        return 0;
-    }
-    refusal::BAD_VERSION
+    Err(Refusal::BadVersion)
 }
 
-fn mode_fault(value: &[u8]) -> u8
-    ensures { result ≡ mode_fault value.now }
+#[tactic(auto, using(read_text::proofs::Alike::pointwise_alike), unfolding(crate::specs::Judge::mode_fault))]
+fn mode_fault(value: &[u8]) -> Result<(), Refusal>
+    ensures { number_of_fault result ≡ mode_fault value.now }
 {
-    if read_text::same(value, b"A") {
-        return 0;
+    if value == b"A".as_slice() || value == b"B".as_slice() {
+        return Ok(());
     }
-    if read_text::same(value, b"B") {
-        return 0;
-    }
-    refusal::BAD_MODE
+    Err(Refusal::BadMode)
 }
 
-fn varinfo_fault(value: &[u8]) -> u8
-    ensures { result ≡ varinfo_fault value.now }
+#[tactic(auto, unfolding(crate::specs::Judge::varinfo_fault))]
+fn varinfo_fault(value: &[u8]) -> Result<(), Refusal>
+    ensures { number_of_fault result ≡ varinfo_fault value.now }
 {
-    if value.len() != 1 {
-        return refusal::BAD_MODE;
+    match value {
+        [b'0'..=b'4'] => Ok(()),
+        _ => Err(Refusal::BadMode),
     }
-    if value[0] < b'0' {
-        return refusal::BAD_MODE;
-    }
-    if b'4' < value[0] {
-        return refusal::BAD_MODE;
-    }
-    0
 }
 
-fn text_fault(value: &[u8], base: u32) -> u8
+#[tactic(auto, using(std::proofs::lemmas::Result::err_from_is_err_and), unfolding(crate::specs::Judge::text_fault))]
+fn text_fault(value: &[u8], base: u32) -> Result<(), Refusal>
     requires { base + length value.now < 2 ^ 32 }
-    ensures { result ≡ text_fault base value.now }
+    ensures { number_of_fault result ≡ text_fault base value.now }
 {
-    let Str::Refused(n) = read_text::parse_str(value, base) else {
-        return 0;
-    };
-    n
+    read_text::parse_str(value, base)?;
+    Ok(())
 }
 
-fn u32_fault(value: &[u8]) -> u8
-    ensures { result ≡ single_fault (2 ^ 32) value.now }
+#[tactic(auto, using(std::proofs::lemmas::Result::err_from_is_err_and), unfolding(crate::specs::Judge::single_fault))]
+fn single_fault<N: Width>(value: &[u8]) -> Result<(), Refusal>
+    ensures { number_of_fault result ≡ single_fault (N.MAX + 1) value.now }
 {
-    let Number32::Refused(n) = read_numbers::parse_single_u32(value) else {
-        return 0;
-    };
-    n
+    read_numbers::parse_single::<N>(value)?;
+    Ok(())
 }
 
-fn u64_fault(value: &[u8]) -> u8
-    ensures { result ≡ single_fault (2 ^ 64) value.now }
+#[tactic(auto, using(std::proofs::lemmas::Result::err_from_is_err_and), unfolding(crate::specs::Judge::u32_list_fault))]
+fn u32_list_fault(value: &[u8]) -> Result<(), Refusal>
+    ensures { number_of_fault result ≡ u32_list_fault value.now }
 {
-    let Number64::Refused(n) = read_numbers::parse_single_u64(value) else {
-        return 0;
-    };
-    n
+    read_lists::parse_u32_list(value, VAR_LIMIT, &mut [0])?;
+    Ok(())
 }
 
-fn u32_list_fault(value: &[u8]) -> u8
-    ensures { result ≡ u32_list_fault value.now }
+#[tactic(auto, using(std::proofs::lemmas::Result::err_from_is_err_and), unfolding(crate::specs::Judge::root_list_fault))]
+fn root_list_fault(value: &[u8]) -> Result<(), Refusal>
+    ensures { number_of_fault result ≡ root_list_fault value.now }
 {
-    let mut unused = [0u32; 1];
-    let Count::Refused(n) = read_lists::parse_u32_list(value, limits::VAR_LIMIT, &mut unused) else {
-        return 0;
-    };
-    n
+    read_edges::parse_edge_list(value, ROOT_LIMIT, &mut [0])?;
+    Ok(())
 }
 
-fn root_list_fault(value: &[u8]) -> u8
-    ensures { result ≡ root_list_fault value.now }
-{
-    let mut unused = [0i64; 1];
-    let Count::Refused(n) = read_edges::parse_edge_list(value, limits::ROOT_LIMIT, &mut unused)
-    else {
-        return 0;
-    };
-    n
-}
-
-fn name_list_fault(value: &[u8], base: u32, max: usize) -> u8
+#[tactic(auto, using(std::proofs::lemmas::Result::err_from_is_err_and), unfolding(crate::specs::Judge::name_list_fault))]
+fn name_list_fault(value: &[u8], base: u32, max: usize) -> Result<(), Refusal>
     requires { base + length value.now < 2 ^ 32 }
-    ensures { result ≡ name_list_fault max base value.now }
+    ensures { number_of_fault result ≡ name_list_fault max base value.now }
 {
-    let mut starts = [0u32; 1];
-    let mut lens = [0u32; 1];
-    let Count::Refused(n) = read_text::parse_str_list(value, base, max, &mut starts, &mut lens)
-    else {
-        return 0;
-    };
-    n
+    read_text::parse_str_list(value, base, max, &mut [0], &mut [0])?;
+    Ok(())
 }
 
-// The refusal of a key's value, whose first byte stands at `base`.
-pub fn fault_of(key: Key, value: &[u8], base: u32) -> u8
+// Judges a key's value, whose first byte stands at `base`.
+#[tactic(auto, unfolding(crate::specs::Judge::fault_of))]
+pub fn fault_of(key: Key, value: &[u8], base: u32) -> Result<(), Refusal>
     requires { base + length value.now < 2 ^ 32 }
-    ensures { result ≡ fault_of key base value.now }
+    ensures { number_of_fault result ≡ fault_of key base value.now }
 {
     match key {
         Key::Ver => version_fault(value),
         Key::Mode => mode_fault(value),
         Key::Varinfo => varinfo_fault(value),
         Key::Dd => text_fault(value, base),
-        Key::Nnodes => u64_fault(value),
-        Key::Nvars => u32_fault(value),
-        Key::Nsuppvars => u32_fault(value),
-        Key::Nroots => u64_fault(value),
-        Key::Nodes => 0,
-        Key::Varnames => name_list_fault(value, base, limits::VAR_LIMIT),
-        Key::Suppvarnames => name_list_fault(value, base, limits::VAR_LIMIT),
-        Key::Orderedvarnames => name_list_fault(value, base, limits::VAR_LIMIT),
-        Key::Ids => u32_list_fault(value),
-        Key::Permids => u32_list_fault(value),
-        Key::Auxids => u32_list_fault(value),
+        Key::Nnodes | Key::Nroots => single_fault::<u64>(value),
+        Key::Nvars | Key::Nsuppvars => single_fault::<u32>(value),
+        Key::Nodes => Ok(()),
+        Key::Varnames | Key::Suppvarnames | Key::Orderedvarnames => name_list_fault(
+            value, base, VAR_LIMIT,
+        ),
+        Key::Ids | Key::Permids | Key::Auxids => u32_list_fault(value),
         Key::Rootids => root_list_fault(value),
-        Key::Rootnames => name_list_fault(value, base, limits::ROOT_LIMIT),
-        Key::Unknown => refusal::UNKNOWN_KEY,
+        Key::Rootnames => name_list_fault(value, base, ROOT_LIMIT),
     }
 }

@@ -1,8 +1,8 @@
 -- The keys of a header, as their bytes. They are those of the Rust's `DumpHeader::load`.
-use Rattle.std.specs.Prelude.{ℕ, List, [], ◌∷◌, ◌++◌, cond}
+use Rattle.std.specs.Prelude.{ℕ, List, [], ◌∷◌, ◌++◌, cond, Option, Some, None}
 use Rattle.codes.specs.Texts.{bytes}
 use Rattle.header_keys.specs.declared.Key.{Key}
-use Rattle.header_keys.specs.declared.Key.TheVariants.{Ver, Mode, Varinfo, Dd, Nnodes, Nvars, Nsuppvars, Nroots, Nodes, Varnames, Suppvarnames, Orderedvarnames, Ids, Permids, Auxids, Rootids, Rootnames, Unknown}
+use Rattle.header_keys.specs.declared.Key.TheVariants.{Ver, Mode, Varinfo, Dd, Nnodes, Nvars, Nsuppvars, Nroots, Nodes, Varnames, Suppvarnames, Orderedvarnames, Ids, Permids, Auxids, Rootids, Rootnames}
 use Rattle.read_text.specs.Alike.{alike}
 
 -- a key with its bytes
@@ -40,12 +40,13 @@ list_keys =
     ∷ name (bytes ".rootnames") Rootnames
     ∷ []
 
--- the first key of a table whose bytes these are. '11 unknown key'.
-unfoldable pub lookup : List ℕ → List Name → Key
-lookup w [] = Unknown
-lookup w (n ∷ ns) = cond (alike w n.bytes) n.key (lookup w ns)
+-- the first key of a table whose bytes these are, if there is one
+unfoldable pub lookup : List ℕ → List Name → Option Key
+lookup w [] = None
+lookup w (n ∷ ns) = cond (alike w n.bytes) (Some n.key) (lookup w ns)
 
-unfoldable pub key_of : List ℕ → Key
+-- '11 unknown key': the word is none.
+unfoldable pub key_of : List ℕ → Option Key
 key_of w = lookup w (single_keys ++ list_keys)
 
 -- The entry of a key in a table with one for each. Two keys are one exactly where they have one entry.
@@ -67,4 +68,8 @@ slot_of Permids = 13
 slot_of Auxids = 14
 slot_of Rootids = 15
 slot_of Rootnames = 16
-slot_of Unknown = 17
+
+-- that of what a word is; a word that is no key has none, and its number is that after the table's
+abbrev pub entry_of : Option Key → ℕ
+entry_of (Some k) = slot_of k
+entry_of None = 17

@@ -2,9 +2,10 @@
 #![tactic(auto)]
 
 ghost use Rattle.std.specs.Prelude.{◌≡◌};
-ghost use Rattle.header_keys.specs.Keys.{key_of, lookup, list_keys, slot_of};
+ghost use Rattle.header_keys.specs.Keys.{key_of, slot_of};
 
-#[derive(Clone, Copy)]
+// Each key's place is its entry in a table with one for each.
+#[derive(Clone, Copy, PartialEq, Eq)]
 pub enum Key {
     Ver,
     Mode,
@@ -23,102 +24,47 @@ pub enum Key {
     Auxids,
     Rootids,
     Rootnames,
-    Unknown,
 }
 
 // How many there are: the entries of a table with one for each.
 pub const KEYS: usize = 17;
 
-// The entry of `.nodes`.
-pub const NODES: usize = 8;
+// The keys with their words.
+const WORDS: [(&[u8], Key); KEYS] = [
+    (b".ver", Key::Ver),
+    (b".mode", Key::Mode),
+    (b".varinfo", Key::Varinfo),
+    (b".dd", Key::Dd),
+    (b".nnodes", Key::Nnodes),
+    (b".nvars", Key::Nvars),
+    (b".nsuppvars", Key::Nsuppvars),
+    (b".nroots", Key::Nroots),
+    (b".nodes", Key::Nodes),
+    (b".varnames", Key::Varnames),
+    (b".suppvarnames", Key::Suppvarnames),
+    (b".orderedvarnames", Key::Orderedvarnames),
+    (b".ids", Key::Ids),
+    (b".permids", Key::Permids),
+    (b".auxids", Key::Auxids),
+    (b".rootids", Key::Rootids),
+    (b".rootnames", Key::Rootnames),
+];
 
-// The keys of lists.
-fn list_key(word: &[u8]) -> Key
-    ensures { result ≡ lookup word.now list_keys }
-{
-    if read_text::same(word, b".varnames") {
-        return Key::Varnames;
-    }
-    if read_text::same(word, b".suppvarnames") {
-        return Key::Suppvarnames;
-    }
-    if read_text::same(word, b".orderedvarnames") {
-        return Key::Orderedvarnames;
-    }
-    if read_text::same(word, b".ids") {
-        return Key::Ids;
-    }
-    if read_text::same(word, b".permids") {
-        return Key::Permids;
-    }
-    if read_text::same(word, b".auxids") {
-        return Key::Auxids;
-    }
-    if read_text::same(word, b".rootids") {
-        return Key::Rootids;
-    }
-    if read_text::same(word, b".rootnames") {
-        return Key::Rootnames;
-    }
-    Key::Unknown
-}
-
-// The key that a word is.
-pub fn key_of(word: &[u8]) -> Key
+// The key that a word is, if it is one.
+pub fn key_of(word: &[u8]) -> Option<Key>
     ensures { result ≡ key_of word.now }
 {
-    if read_text::same(word, b".ver") {
-        return Key::Ver;
+    for (name, key) in &WORDS {
+        if word == *name {
+            return Some(*key);
+        }
     }
-    if read_text::same(word, b".mode") {
-        return Key::Mode;
-    }
-    if read_text::same(word, b".varinfo") {
-        return Key::Varinfo;
-    }
-    if read_text::same(word, b".dd") {
-        return Key::Dd;
-    }
-    if read_text::same(word, b".nnodes") {
-        return Key::Nnodes;
-    }
-    if read_text::same(word, b".nvars") {
-        return Key::Nvars;
-    }
-    if read_text::same(word, b".nsuppvars") {
-        return Key::Nsuppvars;
-    }
-    if read_text::same(word, b".nroots") {
-        return Key::Nroots;
-    }
-    if read_text::same(word, b".nodes") {
-        return Key::Nodes;
-    }
-    list_key(word)
+    None
 }
 
 // The entry of a key in a table with one for each.
 pub fn slot_of(key: Key) -> usize
     ensures { result ≡ slot_of key }
 {
-    match key {
-        Key::Ver => 0,
-        Key::Mode => 1,
-        Key::Varinfo => 2,
-        Key::Dd => 3,
-        Key::Nnodes => 4,
-        Key::Nvars => 5,
-        Key::Nsuppvars => 6,
-        Key::Nroots => 7,
-        Key::Nodes => 8,
-        Key::Varnames => 9,
-        Key::Suppvarnames => 10,
-        Key::Orderedvarnames => 11,
-        Key::Ids => 12,
-        Key::Permids => 13,
-        Key::Auxids => 14,
-        Key::Rootids => 15,
-        Key::Rootnames => 16,
-        Key::Unknown => 17,
-    }
+    key as usize
 }

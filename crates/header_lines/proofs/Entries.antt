@@ -6,33 +6,37 @@ use Prim.Native.Nat.{ℕ, ◌<◌}
 use native.Mathlib.Omega.{arith}
 use lib.Dec.{eqb}
 use lib.ListN.{get_or, set}
+use Rattle.std.specs.Prelude.{Option, Some, None}
 use Rattle.header_keys.specs.declared.Key.{Key}
-use Rattle.header_keys.specs.declared.Key.TheVariants.{Ver, Mode, Varinfo, Dd, Nnodes, Nvars, Nsuppvars, Nroots, Nodes, Varnames, Suppvarnames, Orderedvarnames, Ids, Permids, Auxids, Rootids, Rootnames, Unknown}
-use Rattle.header_keys.specs.Keys.{slot_of}
-use Rattle.header_faults.specs.Judge.{fault_of}
+use Rattle.header_keys.specs.declared.Key.TheVariants.{Ver, Mode, Varinfo, Dd, Nnodes, Nvars, Nsuppvars, Nroots, Nodes, Varnames, Suppvarnames, Orderedvarnames, Ids, Permids, Auxids, Rootids, Rootnames}
+use Rattle.header_keys.specs.Keys.{slot_of, entry_of}
+use Rattle.header_faults.specs.Judge.{word_fault}
 use Rattle.header_lines.specs.Sweep.{all, keys}
 
--- a key whose value has no fault has an entry
-pub entry_known : (k : Key) (at : ℕ) (s : List ℕ) → fault_of k at s ≡ 0 → slot_of k < keys
-unfolding fault_of
-entry_known Ver at s e = omega arith
-entry_known Mode at s e = omega arith
-entry_known Varinfo at s e = omega arith
-entry_known Dd at s e = omega arith
-entry_known Nnodes at s e = omega arith
-entry_known Nvars at s e = omega arith
-entry_known Nsuppvars at s e = omega arith
-entry_known Nroots at s e = omega arith
-entry_known Nodes at s e = omega arith
-entry_known Varnames at s e = omega arith
-entry_known Suppvarnames at s e = omega arith
-entry_known Orderedvarnames at s e = omega arith
-entry_known Ids at s e = omega arith
-entry_known Permids at s e = omega arith
-entry_known Auxids at s e = omega arith
-entry_known Rootids at s e = omega arith
-entry_known Rootnames at s e = omega arith
-entry_known Unknown at s e = omega arith
+-- a key has an entry,
+pub slot-known : (k : Key) → slot_of k < keys
+slot-known Ver = omega arith
+slot-known Mode = omega arith
+slot-known Varinfo = omega arith
+slot-known Dd = omega arith
+slot-known Nnodes = omega arith
+slot-known Nvars = omega arith
+slot-known Nsuppvars = omega arith
+slot-known Nroots = omega arith
+slot-known Nodes = omega arith
+slot-known Varnames = omega arith
+slot-known Suppvarnames = omega arith
+slot-known Orderedvarnames = omega arith
+slot-known Ids = omega arith
+slot-known Permids = omega arith
+slot-known Auxids = omega arith
+slot-known Rootids = omega arith
+slot-known Rootnames = omega arith
+
+-- and so has the key of a line without a fault
+pub entry_known : (k : Option Key) (at : ℕ) (s : List ℕ) → word_fault k at s ≡ 0 → entry_of k < keys
+entry_known (Some k) at s e = slot-known k
+entry_known None at s e = absurd (omega arith)
 
 -- a table's element at a key's entry is the key's own
 pub entry_at : {A : Type 0} (g : Key → A) (d : A) (k : Key) → slot_of k < keys → get_or (map g all) (slot_of k) d ≡ g k
@@ -53,26 +57,25 @@ entry_at g d Permids h = refl
 entry_at g d Auxids h = refl
 entry_at g d Rootids h = refl
 entry_at g d Rootnames h = refl
-entry_at g d Unknown h = absurd (omega arith)
 
 -- to set the entry of a key changes the element of that key alone; a word that is no key has none
-pub entry_set : {A B : Type 0} (part : A → B) (g : Key → A) (k : Key) (a : A)
-    → set (map part (map g all)) (slot_of k) (part a) ≡ map part (map (λ j. cond (eqb (slot_of j) (slot_of k)) a (g j)) all)
-entry_set part g Ver a = refl
-entry_set part g Mode a = refl
-entry_set part g Varinfo a = refl
-entry_set part g Dd a = refl
-entry_set part g Nnodes a = refl
-entry_set part g Nvars a = refl
-entry_set part g Nsuppvars a = refl
-entry_set part g Nroots a = refl
-entry_set part g Nodes a = refl
-entry_set part g Varnames a = refl
-entry_set part g Suppvarnames a = refl
-entry_set part g Orderedvarnames a = refl
-entry_set part g Ids a = refl
-entry_set part g Permids a = refl
-entry_set part g Auxids a = refl
-entry_set part g Rootids a = refl
-entry_set part g Rootnames a = refl
-entry_set part g Unknown a = refl
+pub entry_set : {A B : Type 0} (part : A → B) (g : Key → A) (k : Option Key) (a : A)
+    → set (map part (map g all)) (entry_of k) (part a) ≡ map part (map (λ j. cond (eqb (slot_of j) (entry_of k)) a (g j)) all)
+entry_set part g (Some Ver) a = refl
+entry_set part g (Some Mode) a = refl
+entry_set part g (Some Varinfo) a = refl
+entry_set part g (Some Dd) a = refl
+entry_set part g (Some Nnodes) a = refl
+entry_set part g (Some Nvars) a = refl
+entry_set part g (Some Nsuppvars) a = refl
+entry_set part g (Some Nroots) a = refl
+entry_set part g (Some Nodes) a = refl
+entry_set part g (Some Varnames) a = refl
+entry_set part g (Some Suppvarnames) a = refl
+entry_set part g (Some Orderedvarnames) a = refl
+entry_set part g (Some Ids) a = refl
+entry_set part g (Some Permids) a = refl
+entry_set part g (Some Auxids) a = refl
+entry_set part g (Some Rootids) a = refl
+entry_set part g (Some Rootnames) a = refl
+entry_set part g None a = refl

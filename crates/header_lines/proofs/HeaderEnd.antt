@@ -7,18 +7,18 @@ use native.Mathlib.Omega.{arith}
 use lib.ListN.{length}
 use mathlib.Core.Option.{none, some}
 use Rattle.read_lines.specs.Each.{Each, each}
-use Rattle.header_faults.proofs.SoundValues.{fault-sound, fault-numbers}
+use Rattle.header_faults.proofs.SoundValues.{word-sound, word-numbers}
 use Rattle.header_lines.specs.Sweep.{part, Said, Lines, cut, nodes, line, fault_in, SweepEnd, at_nodes, refused_at, end_from, end_of, all_of}
 use Rattle.header_lines.specs.SoundLines.{nodes_next, SoundLine, SoundLines, RefusedLines, cut_short, faulty}
 
 -- A line has no fault exactly where it is sound,
 pub line-sound : (f : List ℕ) (s : Said) → (fault_in f s ≡ 0) ↔ SoundLine f s
-line-sound f s = fault-sound s.key s.value.start (part f s.value.start s.value.end)
+line-sound f s = word-sound s.key s.value.start (part f s.value.start s.value.end)
 
 -- and its fault is one of the numbers from 11 to 19.
 pub line-numbers : (f : List ℕ) (s : Said) (n : ℕ) → fault_in f s ≡ n → 1 ≤ n → (11 ≤ n) × (n ≤ 19)
 line-numbers f s n e h =
-    ⊎_elim (λ z. absurd (omega arith)) (λ z. z) (fault-numbers s.key s.value.start (part f s.value.start s.value.end) n e)
+    ⊎_elim (λ z. absurd (omega arith)) (λ z. z) (word-numbers s.key s.value.start (part f s.value.start s.value.end) n e)
 
 -- How lines end, the first of which is the m-th.
 data Ending (f : List ℕ) (m : ℕ) (ls : Lines) : SweepEnd → Type 0 where

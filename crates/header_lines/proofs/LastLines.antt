@@ -8,15 +8,18 @@ use native.Mathlib.Decide.{ℕ_discrete}
 use lib.Dec.{eqb}
 use lib.ListN.{get_or}
 use borrow.Author.Tests.{eq-eqb, ne_eqb}
+use native.Mathlib.Omega.{arith}
+use Rattle.std.specs.Prelude.{Option, Some, None}
 use Rattle.read_lines.specs.Each.{Each, none, each}
 use Rattle.header_keys.specs.declared.Key.{Key}
-use Rattle.header_keys.specs.declared.Key.TheVariants.{Ver, Mode, Varinfo, Dd, Nnodes, Nvars, Nsuppvars, Nroots, Nodes, Varnames, Suppvarnames, Orderedvarnames, Ids, Permids, Auxids, Rootids, Rootnames, Unknown}
-use Rattle.header_keys.specs.Keys.{slot_of}
-use Rattle.header_lines.specs.Sweep.{Span, no_span, Said, said, all, last_from, last_of}
+use Rattle.header_keys.specs.declared.Key.TheVariants.{Ver, Mode, Varinfo, Dd, Nnodes, Nvars, Nsuppvars, Nroots, Nodes, Varnames, Suppvarnames, Orderedvarnames, Ids, Permids, Auxids, Rootids, Rootnames}
+use Rattle.header_keys.specs.Keys.{slot_of, entry_of}
+use Rattle.header_lines.specs.Sweep.{Span, no_span, Said, said, said_word, all, last_from, last_of}
 use Rattle.header_lines.specs.Last.{OtherKey, Missing, LastLine, SaidOf, missing, last}
+use Rattle.header_lines.proofs.Entries.{slot-known}
 
 -- the key of an entry
-key-at : (k : Key) → get_or all (slot_of k) Unknown ≡ k
+key-at : (k : Key) → get_or all (slot_of k) Ver ≡ k
 key-at Ver = refl
 key-at Mode = refl
 key-at Varinfo = refl
@@ -34,29 +37,33 @@ key-at Permids = refl
 key-at Auxids = refl
 key-at Rootids = refl
 key-at Rootnames = refl
-key-at Unknown = refl
 
 -- 'Two keys are one exactly where they have one entry.'
 pub one_key : (j k : Key) → slot_of j ≡ slot_of k → j ≡ k
-one_key j k q = sym (key-at j) ∙ ap (λ (n : ℕ). get_or all n Unknown) q ∙ key-at k
+one_key j k q = sym (key-at j) ∙ ap (λ (n : ℕ). get_or all n Ver) q ∙ key-at k
+
+-- and so is a line's, if its word is one
+one-word : (k : Key) (o : Option Key) → slot_of k ≡ entry_of o → o ≡ Some k
+one-word k (Some j) q = ap Some (sym (one_key k j q))
+one-word k None q = absurd (omega (arith, slot-known k))
 
 -- a line with another key changes nothing
-other-slot : (k : Key) (s : Said) → OtherKey k s → slot_of k ≡ slot_of s.key → ⊥
-other-slot k s h q = h (sym (one_key k s.key q))
+other-slot : (k : Key) (s : Said) → OtherKey k s → slot_of k ≡ entry_of s.key → ⊥
+other-slot k s h q = h (one-word k s.key q)
 
 -- after lines with other keys the last value is the one before them
 missing-from : (v : Span) (k : Key) (ss : List Said) → Missing k ss → last_from v k ss ≡ v
 unfolding last_from
 missing-from v k [] none = refl
 missing-from v k (s ∷ ss) (each h m) =
-    ap (λ b. last_from (cond b s.value v) k ss) (ne_eqb (slot_of k) (slot_of s.key) (other-slot k s h)) ∙ missing-from v k ss m
+    ap (λ b. last_from (cond b s.value v) k ss) (ne_eqb (slot_of k) (entry_of s.key) (other-slot k s h)) ∙ missing-from v k ss m
 
 -- a line with the key makes its value the last so far
 stands_from : (v w : Span) (k : Key) (before rest : List Said) → Missing k rest → last_from v k (before ++ (said k w ∷ rest)) ≡ w
 unfolding last_from
 stands_from v w k [] rest m =
     ap (λ b. last_from (cond b w v) k rest) (eq-eqb (slot_of k) (slot_of k) refl) ∙ missing-from w k rest m
-stands_from v w k (s ∷ before) rest m = stands_from (cond (eqb (slot_of k) (slot_of s.key)) s.value v) w k before rest m
+stands_from v w k (s ∷ before) rest m = stands_from (cond (eqb (slot_of k) (entry_of s.key)) s.value v) w k before rest m
 
 module _ (k : Key) (ss : List Said) where
   -- of a missing key the table has no span
@@ -76,14 +83,14 @@ further s l = record { before = s ∷ l.before; rest = l.rest; stands = ap (λ t
 -- A key is missing, or has a last line.
 pub missing-or-last : (k : Key) (ss : List Said) → Missing k ss ⊎ ((v : Span) × LastLine k ss v)
 missing-or-last k [] = inl none
-missing-or-last k (s ∷ ss) = go (missing-or-last k ss) (ℕ_discrete (slot_of s.key) (slot_of k))
+missing-or-last k (s ∷ ss) = go (missing-or-last k ss) (ℕ_discrete (slot_of k) (entry_of s.key))
   where
-    go : Missing k ss ⊎ ((v : Span) × LastLine k ss v) → Dec (slot_of s.key ≡ slot_of k) → Missing k (s ∷ ss) ⊎ ((v : Span) × LastLine k (s ∷ ss) v)
+    go : Missing k ss ⊎ ((v : Span) × LastLine k ss v) → Dec (slot_of k ≡ entry_of s.key) → Missing k (s ∷ ss) ⊎ ((v : Span) × LastLine k (s ∷ ss) v)
     go (inr l) d = inr (l.0, further s l.1)
     go (inl m) (yes q) =
-        let e = one_key s.key k q in
-        inr (s.value, record { before = []; rest = ss; stands = ap (λ j. said j s.value ∷ ss) e; last = m })
-    go (inl m) (no q) = inl (each (λ e. q (ap slot_of e)) m)
+        let e = one-word k s.key q in
+        inr (s.value, record { before = []; rest = ss; stands = ap (λ j. said_word j s.value ∷ ss) e; last = m })
+    go (inl m) (no q) = inl (each (λ e. q (sym (ap entry_of e))) m)
 
 -- what holds of each line holds of one of them
 each_at : {P : Said → Type 0} (before : List Said) (s : Said) (rest : List Said) → Each P (before ++ (s ∷ rest)) → P s

@@ -6,7 +6,9 @@ use Prim.Native.Nat.{ℕ, zero, suc, ◌+◌, ◌-◌, ◌≤◌, ◌<◌}
 use native.Mathlib.Omega.{arith}
 use lib.Dec.{eqb}
 use lib.ListN.{length}
-use borrow.Author.Tests.{lt-ltb, le-ltb, eq-eqb, ne_eqb}
+use borrow.Author.Tests.{lt-ltb, le-ltb, ne_eqb}
+use Rattle.std.specs.Prelude.{Option, Some, None}
+use Rattle.codes.specs.Answer.{Read, value, refused}
 use Rattle.read_lines.specs.Line.{line_of, field_of}
 use Rattle.read_lines.specs.declared.Line.{Line}
 use Rattle.read_lines.specs.declared.Field.{Field}
@@ -14,11 +16,11 @@ use Rattle.header_keys.specs.declared.Key.{Key}
 use Rattle.header_keys.specs.declared.Key.TheVariants.{Nodes}
 use Rattle.header_lines.specs.declared.Step.{Step}
 use Rattle.header_lines.specs.declared.Step.TheVariants as step
-use Rattle.header_keys.specs.Keys.{key_of, slot_of}
+use Rattle.header_keys.specs.Keys.{key_of, slot_of, entry_of}
 use Rattle.header_faults.specs.Judge.{fault_of}
-use Rattle.header_lines.specs.Sweep.{keys, part, span_start, span_end, Said, said, field_at, key_at, value_at, step_at}
+use Rattle.header_lines.specs.Sweep.{part, span_start, span_end, Said, said_word, field_at, key_at, value_at, step_at}
 use Rattle.header_lines.specs.Sweep.{Lines, cut, nodes, line, lines_from, fault_in, SweepEnd, at_nodes, refused_at, end_from, end_of, all_of, sound}
-use Rattle.header_lines.proofs.Entries.{entry_known}
+use Rattle.header_lines.proofs.LastLines.{one_key}
 
 -- a line before others, of which the law holds
 sound-by : (f : List ℕ) (m : ℕ) (s : Said) (ls : Lines) (next n k : ℕ) → fault_in f s ≡ k
@@ -51,69 +53,72 @@ lines_cut (suc n) f at h = rw (le-ltb at (length f) h, lines_from)
 module _ (f : List ℕ) (at : ℕ) where
   -- whether the key of the line here is `.nodes`
   abbrev at_end : Bool
-  at_end = eqb (slot_of (key_at f at)) (slot_of Nodes)
+  at_end = eqb (entry_of (key_at f at)) (slot_of Nodes)
 
   -- what the line here says
   abbrev pub here : Said
-  here = said (key_at f at) (value_at f at)
+  here = said_word (key_at f at) (value_at f at)
 
   -- the step, by the line's key and its fault: the line of `.nodes`
-  step-nodes : at_end ≡ true → step_at f at ≡ step.Nodes (line_of f at).next
+  step-nodes : at_end ≡ true → step_at f at ≡ value (step.Nodes (line_of f at).next)
   unfolding step_at
   step-nodes e = rw (e, step_at)
 
   -- a line with a fault
-  step-refused : {k : ℕ} → at_end ≡ false → fault_in f here ≡ suc k → step_at f at ≡ step.Refused (suc k)
+  step-refused : {k : ℕ} → at_end ≡ false → fault_in f here ≡ suc k → step_at f at ≡ refused (suc k)
   unfolding step_at
   step-refused e q = rw (e, q, step_at)
 
   -- a line with none
   step_value : at_end ≡ false → fault_in f here ≡ 0
-      → step_at f at ≡ step.Value (slot_of (key_at f at)) (value_at f at).start (value_at f at).end (line_of f at).next
+      → step_at f at ≡ value (step.Value (entry_of (key_at f at)) (value_at f at).start (value_at f at).end (line_of f at).next)
   unfolding step_at
   step_value e q = rw (e, q, step_at)
 
-  -- The code reads the line, its parts, its key and the key's entry one after the other.
-  module _ {l : Line} {d : Field} {key : Key} {slot : ℕ} (a : l ≡ line_of f at) (b : d ≡ field_of f at l.end)
-      (k : key ≡ key_of (part f at d.key)) (s : slot ≡ slot_of key) where
+  -- The code reads the line, its parts and its key one after the other.
+  module _ {l : Line} {d : Field} {o : Option Key} (a : l ≡ line_of f at) (b : d ≡ field_of f at l.end) (k : o ≡ key_of (part f at d.key)) where
     -- the parts are those of the line here
     field-read : d ≡ field_at f at
     field-read = b ∙ rw a
 
     -- so is the key
-    key-read : key ≡ key_at f at
+    key-read : o ≡ key_at f at
     key-read = k ∙ rw field-read
 
-    -- so is the entry
-    slot_read : slot ≡ slot_of (key_at f at)
-    slot_read = s ∙ ap slot_of key-read
-
     -- the test of the entry is that of the key
-    end_read : {t : Bool} → eqb slot 8 ≡ t → at_end ≡ t
-    end_read e = rw (← slot_read) e
+    end_read : {t : Bool} → eqb (entry_of o) 8 ≡ t → at_end ≡ t
+    end_read e = rw (← key-read) e
 
-    -- the step at the entry of `.nodes`
-    pub read-nodes : slot ≡ 8 → step.Nodes l.next ≡ step_at f at
-    read-nodes h = rw a (sym (step-nodes (end_read (eq-eqb slot 8 h))))
+    -- the step at a word that is no key
+    pub read-unknown : o ≡ None → refused 11 ≡ step_at f at
+    read-unknown e =
+        let n : key_at f at ≡ None = sym key-read ∙ e in
+        sym (step-refused (end_read (rw e)) (rw n))
 
-    module _ {n : ℕ} (g : n ≡ fault_of key d.start (part f d.start d.end)) (h : slot ≡ 8 → ⊥) where
+    -- the step at `.nodes`
+    pub read-nodes : o ≡ Some Nodes → value (step.Nodes l.next) ≡ step_at f at
+    read-nodes e = rw a (sym (step-nodes (end_read (rw e))))
+
+    -- at another key
+    module _ {key : Key} (e : o ≡ Some key) (h : key ≡ Nodes → ⊥) {n : ℕ} (g : n ≡ fault_of key d.start (part f d.start d.end)) where
+      not-nodes : at_end ≡ false
+      not-nodes = end_read (rw e (ne_eqb (slot_of key) 8 (λ q. h (one_key key Nodes q))))
+
       -- the fault is that of the line here
       fault-read : n ≡ fault_in f here
-      fault-read = g ∙ rw (key-read, field-read)
+      fault-read = let m : key_at f at ≡ Some key = sym key-read ∙ e in g ∙ rw (m, field-read)
 
       -- the step at a fault
-      pub read-refused : (n ≡ 0 → ⊥) → step.Refused n ≡ step_at f at
+      pub read-refused : (n ≡ 0 → ⊥) → refused n ≡ step_at f at
       read-refused u =
           let m : n ≡ suc (n - 1) = omega arith in
-          ap step.Refused m ∙ sym (step-refused (end_read (ne_eqb slot 8 h)) (sym fault-read ∙ m))
+          ap refused m ∙ sym (step-refused not-nodes (sym fault-read ∙ m))
 
       -- the step at no fault
-      pub read-value : n ≡ 0 → step.Value slot d.start d.end l.next ≡ step_at f at
-      read-value u = rw (a, slot_read, field-read) (sym (step_value (end_read (ne_eqb slot 8 h)) (sym fault-read ∙ u)))
-
-      -- where there is no fault the entry is one of the table
-      pub read_known : n ≡ 0 → slot < keys
-      read_known u = rw s (entry_known key d.start (part f d.start d.end) (sym g ∙ u))
+      pub read-value : n ≡ 0 → value (step.Value (slot_of key) d.start d.end l.next) ≡ step_at f at
+      read-value u =
+          let m : key_at f at ≡ Some key = sym key-read ∙ e in
+          rw (a, field-read) (sym (step_value not-nodes (sym fault-read ∙ u) ∙ rw m))
 
   -- the lines from that of `.nodes` on
   lines-nodes : (n : ℕ) → at < length f → at_end ≡ true → lines_from (suc n) f at ≡ nodes (line_of f at).next
@@ -131,7 +136,7 @@ module _ (f : List ℕ) (at : ℕ) where
     pub record Valued (slot start end next : ℕ) : Type 0 where
       pub rest_end : end_from n f (lines_from fuel f at) ≡ end_from (n + 1) f (lines_from (fuel - 1) f next)
       pub rest_lines : sound f (lines_from fuel f at) ≡ here ∷ sound f (lines_from (fuel - 1) f next)
-      pub slot_is : slot ≡ slot_of here.key
+      pub slot_is : slot ≡ entry_of here.key
       pub start_is : start ≡ span_start here.value
       pub end_is : end ≡ span_end here.value
 
@@ -141,10 +146,10 @@ module _ (f : List ℕ) (at : ℕ) where
       pub rest_lines : sound f (lines_from fuel f at) ≡ []
 
     -- what each step says of the rest
-    abbrev pub Turn : Step → Type 0
-    Turn (step.Value slot start end next) = Valued slot start end next
-    Turn (step.Nodes next) = Last (at_nodes next n)
-    Turn (step.Refused k) = Last (refused_at k n)
+    abbrev pub Turn : Read Step → Type 0
+    Turn (value (step.Value slot start end next)) = Valued slot start end next
+    Turn (value (step.Nodes next)) = Last (at_nodes next n)
+    Turn (refused k) = Last (refused_at k n)
 
     module _ (h : at < length f) (m : length f ≤ at + fuel) where
       -- the bound leaves room for a line
@@ -179,5 +184,5 @@ module _ (f : List ℕ) (at : ℕ) where
       turn_by false e = turn-line (fault_in f here) refl e (ap (λ i. lines_from i f at) one_more ∙ lines_more (fuel - 1) h e)
 
       -- the step here, once it is known, says what is left
-      pub turned : {s v : Step} → s ≡ step_at f at → s ≡ v → Turn v
+      pub turned : {s v : Read Step} → s ≡ step_at f at → s ≡ v → Turn v
       turned {s} p q = let t : Turn s = rw p (turn_by at_end refl) in rw q at t

@@ -4,10 +4,15 @@ use mathlib.Core.List.{List, [], ◌∷◌, ◌++◌, map, append_assoc, append-
 use Prim.Native.Nat.{ℕ, ◌+◌, ◌-◌, ◌≤◌, ◌<◌}
 use native.Mathlib.Omega.{arith}
 use lib.ListN.{length, set, replicate}
+use Rattle.std.specs.Prelude.{Result, Err}
+use Rattle.codes.specs.Answer.{value, refused}
+use Rattle.codes.specs.Refusals.{read_of, fault_at}
+use Rattle.codes.specs.declared.refusal.Refusal.{Refusal}
+use Rattle.codes.specs.declared.refusal.Fault.{Fault}
 use Rattle.header_lines.specs.declared.Step.{Step}
 use Rattle.header_lines.specs.declared.Step.TheVariants as step
 use Rattle.header_lines.specs.Sweep.{Said, SweepEnd, at_nodes, refused_at, lines_from, lines_of, end_from, end_of, sound, step_at}
-use Rattle.header_lines.specs.Sweep.{keys, lasts, span_start, span_end, Within, StepWithin, Table, EndWithin}
+use Rattle.header_lines.specs.Sweep.{keys, lasts, span_start, span_end, Within, Table, EndWithin}
 use Rattle.header_lines.proofs.Lasts.{lasts-more}
 use Rattle.header_lines.proofs.Tables.{table_none, zeros-none, table_more}
 use Rattle.header_lines.proofs.Lines.{lines_cut, here, Valued, Last, turned}
@@ -80,20 +85,21 @@ module _ {f starts ends : List ℕ} {at line : ℕ} (p : Progress f starts ends 
       }
 
   -- At a line its step says how the sweep goes on.
-  module _ (h : at < length f) {s : Step} (a : s ≡ step_at f at) (w : StepWithin f at s) where
+  module _ (h : at < length f) where
     -- after a line without a fault
-    pub progress-value : {slot start end next : ℕ} → s ≡ step.Value slot start end next
+    pub progress-value : {slot start end next : ℕ} → value (step.Value slot start end next) ≡ step_at f at → Within f at slot start end next
         → Progress f (set starts slot start) (set ends slot end) next (line + 1)
-    progress-value e = progress-more (turned f at line p.fuel h p.enough a e) (rw e at w)
-
-    -- the rest is shorter then
-    pub progress-less : {slot start end next : ℕ} → s ≡ step.Value slot start end next → length f - next < length f - at
-    progress-less {slot} {start} {end} {next} e = let u : Within f at slot start end next = rw e at w in omega arith
+    progress-value a w = progress-more (turned f at line p.fuel h p.enough a refl) w
 
     -- at `.nodes`
-    pub progress-nodes : {next : ℕ} → s ≡ step.Nodes next → Outcome f starts ends (at_nodes next line)
-    progress-nodes e = progress-last (turned f at line p.fuel h p.enough a e) (rw e at w)
+    pub progress-nodes : {next : ℕ} → value (step.Nodes next) ≡ step_at f at → next ≤ length f → Outcome f starts ends (at_nodes next line)
+    progress-nodes a w = progress-last (turned f at line p.fuel h p.enough a refl) w
 
     -- at a fault
-    pub progress-refused : {n : ℕ} → s ≡ step.Refused n → Outcome f starts ends (refused_at n line)
-    progress-refused e = progress-last (turned f at line p.fuel h p.enough a e) tt
+    pub progress-refused : {n : ℕ} → refused n ≡ step_at f at → Outcome f starts ends (refused_at n line)
+    progress-refused a = progress-last (turned f at line p.fuel h p.enough a refl) tt
+
+    -- which the code hands on as that of the line
+    pub progress-fault : {r : Result Step Refusal} {t : Fault} → read_of r ≡ step_at f at → (e : Refusal) × (r ≡ Err e) × (t ≡ fault_at e line)
+        → Outcome f starts ends (refused_at t.number t.line)
+    progress-fault a (e, q, k) = rw k (progress-refused (rw q at a))

@@ -1,8 +1,8 @@
 -- What the sweep's answer stands for.
+use Rattle.std.specs.Prelude.{ℕ, Result, Ok, Err}
+use Rattle.codes.specs.declared.refusal.Fault.{Fault}
 use Rattle.header_lines.specs.Sweep.{SweepEnd, at_nodes, refused_at}
-use Rattle.header_lines.specs.declared.Swept.{Swept}
-use Rattle.header_lines.specs.declared.Swept.TheVariants as swept
 
-abbrev pub of_swept : Swept → SweepEnd
-of_swept (swept.Nodes next n) = at_nodes next n
-of_swept (swept.Refused k n) = refused_at k n
+abbrev pub of_swept : Result (ℕ × ℕ) Fault → SweepEnd
+of_swept (Ok (next, n)) = at_nodes next n
+of_swept (Err t) = refused_at t.number t.line

@@ -1,6 +1,6 @@
 -- The last value of a key among the lines of a header, with no word of how it is found. Document 01, 'Header': 'A repeated key: the last
 -- counts, but each is read.'
-use Rattle.std.specs.Prelude.{◌≡◌, List, ◌∷◌, ◌++◌, ℕ}
+use Rattle.std.specs.Prelude.{◌≡◌, List, ◌∷◌, ◌++◌, ℕ, Some}
 use Rattle.read_lines.specs.Each.{Each}
 use Rattle.header_keys.specs.declared.Key.{Key}
 use Rattle.header_lines.specs.Sweep.{Span, part, Said, said}
@@ -11,7 +11,7 @@ bytes_at f v = part f v.start v.end
 
 -- a line that has another key
 abbrev pub OtherKey : Key → Said → Type 0
-OtherKey k s = s.key ≡ k → ⊥
+OtherKey k s = s.key ≡ Some k → ⊥
 
 -- no line has the key
 abbrev pub Missing : Key → List Said → Type 0

@@ -3,7 +3,7 @@
 use Rattle.std.specs.Prelude.{◌≡◌, List, ◌∷◌, ◌++◌, ℕ, ◌+◌, ◌≤◌, length}
 use Rattle.std.proofs.Math.Option.{Option, none, some}
 use Rattle.read_lines.specs.Each.{Each}
-use Rattle.header_faults.specs.Sound.{SoundValue}
+use Rattle.header_faults.specs.Sound.{SoundWord}
 use Rattle.header_lines.specs.Sweep.{part, Said, Lines, cut, nodes, line, fault_in, all_of}
 
 -- the position after `.nodes`' line; none where the input is cut: '10° input ends before `.nodes`'
@@ -14,7 +14,7 @@ nodes_next (line s ls) = nodes_next ls
 
 -- a line whose key is known and whose value is sound for it
 abbrev pub SoundLine : List ℕ → Said → Type 0
-SoundLine f s = SoundValue s.key s.value.start (part f s.value.start s.value.end)
+SoundLine f s = SoundWord s.key s.value.start (part f s.value.start s.value.end)
 
 -- The lines of a header are sound: `.nodes` is there, with the position after its line; each line before it is sound; and it is the
 -- line after these, where 'the line counts from 1 at the top of the file'.

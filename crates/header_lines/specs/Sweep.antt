@@ -1,9 +1,10 @@
 -- The lines of a header, and the last value of each key. Document 01, 'Header'.
-use Rattle.std.specs.Prelude.{◌≡◌, ℕ, zero, suc, ◌+◌, ◌-◌, ◌≤◌, ◌<◌, List, [], ◌∷◌, map, true, false, cond, length, take, drop, get_or, ltb, eqb}
+use Rattle.std.specs.Prelude.{◌≡◌, ℕ, zero, suc, ◌+◌, ◌-◌, ◌≤◌, ◌<◌, List, [], ◌∷◌, map, true, false, cond, length, take, drop, get_or, ltb, eqb, Option, Some}
+use Rattle.codes.specs.Answer.{Read, value, refused}
 use Rattle.read_lines.specs.Line.{line_of, field_of}
 use Rattle.read_lines.specs.declared.Field.{Field}
-use Rattle.header_keys.specs.Keys.{key_of, slot_of}
-use Rattle.header_faults.specs.Judge.{fault_of}
+use Rattle.header_keys.specs.Keys.{key_of, slot_of, entry_of}
+use Rattle.header_faults.specs.Judge.{word_fault}
 use Rattle.header_keys.specs.declared.Key.{Key}
 use Rattle.header_keys.specs.declared.Key.TheVariants.{Ver, Mode, Varinfo, Dd, Nnodes, Nvars, Nsuppvars, Nroots, Nodes, Varnames, Suppvarnames, Orderedvarnames, Ids, Permids, Auxids, Rootids, Rootnames}
 use Rattle.header_lines.specs.declared.Step.{Step}
@@ -31,13 +32,16 @@ span_end s = s.end
 abbrev pub no_span : Span
 no_span = span 0 0
 
--- a line before `.nodes`: its key, and where its value stands
+-- a line before `.nodes`: its key, unless its word is none, and where its value stands
 pub record Said : Type 0 where
-  pub key : Key
+  pub key : Option Key
   pub value : Span
 
+abbrev pub said_word : Option Key → Span → Said
+said_word k v = record { key = k; value = v }
+
 abbrev pub said : Key → Span → Said
-said k v = record { key = k; value = v }
+said k v = said_word (Some k) v
 
 -- The lines of a header, from the top: they end with the line whose key is `.nodes`, with the position after it, or where the input
 -- is cut.
@@ -50,7 +54,7 @@ pub data Lines : Type 0 where
 abbrev pub field_at : List ℕ → ℕ → Field
 field_at f at = field_of f at (line_of f at).end
 
-abbrev pub key_at : List ℕ → ℕ → Key
+abbrev pub key_at : List ℕ → ℕ → Option Key
 key_at f at = key_of (part f at (field_at f at).key)
 
 abbrev pub value_at : List ℕ → ℕ → Span
@@ -61,9 +65,9 @@ unfoldable pub lines_from : ℕ → List ℕ → ℕ → Lines
 lines_from zero f at = cut
 lines_from (suc n) f at =
     elim (ltb at (length f)) [
-      | true ↦ elim (eqb (slot_of (key_at f at)) (slot_of Nodes)) [
+      | true ↦ elim (eqb (entry_of (key_at f at)) (slot_of Nodes)) [
         | true ↦ nodes (line_of f at).next
-        | false ↦ line (said (key_at f at) (value_at f at)) (lines_from n f (line_of f at).next)
+        | false ↦ line (said_word (key_at f at) (value_at f at)) (lines_from n f (line_of f at).next)
       ]
       | false ↦ cut
     ]
@@ -74,7 +78,7 @@ lines_of f = lines_from (length f) f 0
 
 -- the refusal of a line, 0 of none
 abbrev pub fault_in : List ℕ → Said → ℕ
-fault_in f s = fault_of s.key s.value.start (part f s.value.start s.value.end)
+fault_in f s = word_fault s.key s.value.start (part f s.value.start s.value.end)
 
 -- how the lines end: with `.nodes`, the position after its line and that line's number; or with a refusal and its line
 pub data SweepEnd : Type 0 where
@@ -105,7 +109,7 @@ sound f (line s ls) = elim (fault_in f s) [ zero ↦ s ∷ sound f ls | suc k �
 -- 'A repeated key: the last counts': where the last value of a key stands, after lines whose last one stands at v
 unfoldable pub last_from : Span → Key → List Said → Span
 last_from v k [] = v
-last_from v k (s ∷ ss) = last_from (cond (eqb (slot_of k) (slot_of s.key)) s.value v) k ss
+last_from v k (s ∷ ss) = last_from (cond (eqb (slot_of k) (entry_of s.key)) s.value v) k ss
 
 unfoldable pub last_of : Key → List Said → Span
 last_of k ss = last_from no_span k ss
@@ -125,13 +129,13 @@ unfoldable pub lasts : List Said → List Span
 lasts ss = map (λ k. last_of k ss) all
 
 -- What the line at a position leads to, as the code says it: the entry of its key and the span of its value, `.nodes`, or a refusal.
-unfoldable pub step_at : List ℕ → ℕ → Step
+unfoldable pub step_at : List ℕ → ℕ → Read Step
 step_at f at =
-    elim (eqb (slot_of (key_at f at)) (slot_of Nodes)) [
-      | true ↦ step.Nodes (line_of f at).next
-      | false ↦ elim (fault_in f (said (key_at f at) (value_at f at))) [
-        | zero ↦ step.Value (slot_of (key_at f at)) (value_at f at).start (value_at f at).end (line_of f at).next
-        | suc n ↦ step.Refused (suc n)
+    elim (eqb (entry_of (key_at f at)) (slot_of Nodes)) [
+      | true ↦ value (step.Nodes (line_of f at).next)
+      | false ↦ elim (fault_in f (said_word (key_at f at) (value_at f at))) [
+        | zero ↦ value (step.Value (entry_of (key_at f at)) (value_at f at).start (value_at f at).end (line_of f at).next)
+        | suc n ↦ refused (suc n)
       ]
     ]
 
@@ -146,7 +150,6 @@ pub record Within (f : List ℕ) (at slot start end next : ℕ) : Type 0 where
 abbrev pub StepWithin : List ℕ → ℕ → Step → Type 0
 StepWithin f at (step.Value slot start end next) = Within f at slot start end next
 StepWithin f at (step.Nodes next) = next ≤ length f
-StepWithin f at (step.Refused n) = Unit
 
 -- two lists that hold the spans of a table, each inside the file
 pub record Table (f : List ℕ) (starts ends : List ℕ) : Type 0 where

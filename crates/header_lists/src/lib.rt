@@ -31,8 +31,8 @@ fn fill_order(
     requires ends_in_bounds { nvars_in f.now (spans starts.now ends.now) ≤ length seats.old }
     ensures { FillOrderPromise (seen f) (seen starts) (seen ends) (borrowed dst) }
 {
-    let n = header_values::u32_in(f, starts, ends, Key::Nvars) as usize;
-    zeros::clear_numbers(dst);
+    let n = header_values::number_in::<u32>(f, starts, ends, Key::Nvars) as usize;
+    dst.fill(0);
     support::arrange(ids, permids, &mut seats[..n], dst);
 }
 
@@ -54,7 +54,7 @@ fn seat_names(
     requires ends_in_bounds_2 { nvars_in f.now (spans starts.now ends.now) ≤ length free.old }
     ensures { SeatNamesPromise (seen f) (seen starts) (seen ends) (borrowed dst) result }
 {
-    let n = header_values::u32_in(f, starts, ends, Key::Nvars) as usize;
+    let n = header_values::number_in::<u32>(f, starts, ends, Key::Nvars) as usize;
     if header_values::count_names(f, starts, ends, Key::Orderedvarnames, VAR_LIMIT) != 0 {
         variable_names::ordered_seats(ids, permids, &mut seats[..n], &mut free[..n], dst);
         return Key::Orderedvarnames;
@@ -107,7 +107,7 @@ fn fill_names(
         return;
     }
     let key = seat_names(f, starts, ends, ids, permids, from, sizes, lens);
-    let count = header_values::u32_in(f, starts, ends, Key::Nvars) as usize;
+    let count = header_values::number_in::<u32>(f, starts, ends, Key::Nvars) as usize;
     gather_names(f, starts, ends, key, count, from, sizes, names, lens);
 }
 
@@ -129,7 +129,7 @@ pub fn fill_lists(
     requires lists_room { ListsRoom f.now (spans starts.now ends.now) order.old auxids.old lens.old }
     ensures { FillListsPromise (seen f) (seen starts) (seen ends) (borrowed order) (borrowed auxids) (borrowed names) (borrowed lens) }
 {
-    let n = header_values::u32_in(f, starts, ends, Key::Nsuppvars) as usize;
+    let n = header_values::number_in::<u32>(f, starts, ends, Key::Nsuppvars) as usize;
     fill_names(
         f,
         starts,
@@ -152,6 +152,6 @@ pub fn fill_roots(f: &[u8], starts: &[u32], ends: &[u32], dst: &mut [Edge])
 {
     let mut roots = [0i64; ROOT_LIMIT];
     let n = header_values::roots_in(f, starts, ends, &mut roots);
-    zeros::clear_edges(dst);
+    dst.fill(0);
     file_roots::edges_of(&roots[..n], dst);
 }

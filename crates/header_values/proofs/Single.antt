@@ -1,65 +1,46 @@
--- What single values say, from where they stand.
-use mathlib.Core.Path.{◌≡◌, sym, ap, ◌∙◌}
-use mathlib.Core.Bool.{Bool, true, false, not}
+-- What the value of `.varinfo` says.
+use mathlib.Core.Path.{◌≡◌, refl, sym, ap, ◌∙◌}
+use mathlib.Core.Bool.{and-false}
 use mathlib.Core.List.{List, [], ◌∷◌}
-use Prim.Native.Nat.{ℕ}
-use Rattle.codes.specs.Answer.{Read}
-use Rattle.read_numbers.specs.Number.{single}
-use Rattle.read_text.specs.Text.{Place, place, text_at}
+use Prim.Native.Nat.{ℕ, zero, suc, ◌+◌, ◌≤◌, ◌<◌}
+use native.Mathlib.Omega.{arith}
+use lib.ListN.{length, get_or}
+use lib.Dec.{eqb}
+use borrow.Author.Tests.{ne_eqb}
 use Rattle.read_text.specs.Alike.{alike}
-use Rattle.header_faults.specs.Judge.{mode_b}
-use Rattle.header_lines.specs.Sweep.{Span, part}
-use Rattle.header_keys.specs.declared.Key.{Key}
-use Rattle.header_keys.specs.declared.Key.TheVariants.{Mode, Varinfo, Dd}
-use Rattle.header_values.specs.declared.Span as code
-use Rattle.header_values.specs.Kinds.{of_span}
-use Rattle.header_values.specs.Values.{span_in, value_or, number_in, ascii_in, varinfo_of, varinfo_in, dd_in}
-use Rattle.header_values.proofs.Spanned.{value-by}
+use Rattle.header_values.specs.Values.{varinfo_of}
 
-module _ (f : List ℕ) (t : List Span) (s : code.Span) where
-  -- a number is what its reader gives
-  pub number_by : (lim : ℕ) (k : Key) → of_span s ≡ span_in t k → {r : Read ℕ}
-      → r ≡ single lim (part f s.start s.end) → value_or 0 r ≡ number_in lim f t k
-  unfolding number_in
-  number_by lim k e q = ap (value_or 0) (q ∙ ap (single lim) (value-by f t k s e))
+-- `.varinfo` is told by its value's one digit,
+pub digit-is : (d : ℕ) → d ≤ 4 → varinfo_of ((0x30 + d) ∷ []) ≡ d
+unfolding alike
+digit-is zero h = refl
+digit-is (suc zero) h = refl
+digit-is (suc (suc zero)) h = refl
+digit-is (suc (suc (suc zero))) h = refl
+digit-is (suc (suc (suc (suc zero)))) h = refl
+digit-is (suc (suc (suc (suc (suc n))))) h = absurd (omega arith)
 
-  -- the nodes are text where the mode isn't B
-  pub ascii_by : of_span s ≡ span_in t Mode → {r : Bool} → r ≡ alike (part f s.start s.end) mode_b → not r ≡ ascii_in f t
-  unfolding ascii_in
-  ascii_by e q = ap not (q ∙ ap (λ v. alike v mode_b) (value-by f t Mode s e))
+pub digit-said : (d : ℕ) (s : List ℕ) → d ≤ 4 → 1 ≤ length s → length s < 2 → get_or s 0 0 ≡ 0x30 + d → d ≡ varinfo_of s
+digit-said d [] h a b e = absurd (omega arith)
+digit-said d (x ∷ []) h a b e = sym (ap (λ y. varinfo_of (y ∷ [])) e ∙ digit-is d h)
+digit-said d (x ∷ y ∷ s) h a b e = absurd (omega arith)
 
-  -- a text is what its reader gives
-  pub dd-by : of_span s ≡ span_in t Dd → {r : Read Place}
-      → r ≡ text_at s.start (part f s.start s.end) → value_or (place 0 0) r ≡ dd_in f t
-  unfolding dd_in
-  dd-by e q = ap (value_or (place 0 0)) (q ∙ ap (λ v. text_at v.start (part f v.start v.end)) e)
+-- and is 4 where that is no digit up to 3,
+pub other-said : (s : List ℕ) → 1 ≤ length s → length s < 2 → (get_or s 0 0 ≡ 0x30 → ⊥) → (get_or s 0 0 ≡ 0x31 → ⊥) → (get_or s 0 0 ≡ 0x32 → ⊥)
+    → (get_or s 0 0 ≡ 0x33 → ⊥) → 4 ≡ varinfo_of s
+unfolding alike
+other-said [] a b h0 h1 h2 h3 = absurd (omega arith)
+other-said (x ∷ []) a b h0 h1 h2 h3 = rw (ne_eqb x 0x30 h0, ne_eqb x 0x31 h1, ne_eqb x 0x32 h2, ne_eqb x 0x33 h3)
+other-said (x ∷ y ∷ s) a b h0 h1 h2 h3 = absurd (omega arith)
 
-  module _ (e : of_span s ≡ span_in t Varinfo) where
-    -- `.varinfo` is told by its value's one digit
-    varinfo-by : {n : ℕ} → n ≡ varinfo_of (part f s.start s.end) → n ≡ varinfo_in f t
-    unfolding varinfo_in
-    varinfo-by q = q ∙ ap varinfo_of (value-by f t Varinfo s e)
+-- or where there is no byte, or more than one
+pub empty-said : (s : List ℕ) → length s < 1 → 4 ≡ varinfo_of s
+unfolding alike
+empty-said [] h = refl
+empty-said (x ∷ s) h = absurd (omega arith)
 
-    module _ {b0 : Bool} (q0 : b0 ≡ alike (part f s.start s.end) (0x30 ∷ [])) where
-      -- where it is '0'
-      pub varinfo-0 : b0 ≡ true → 0 ≡ varinfo_in f t
-      varinfo-0 h0 = varinfo-by (rw (sym q0, h0))
-
-      module _ (h0 : b0 ≡ false) {b1 : Bool} (q1 : b1 ≡ alike (part f s.start s.end) (0x31 ∷ [])) where
-        -- where it is '1'
-        pub varinfo-1 : b1 ≡ true → 1 ≡ varinfo_in f t
-        varinfo-1 h1 = varinfo-by (rw (sym q0, h0, sym q1, h1))
-
-        module _ (h1 : b1 ≡ false) {b2 : Bool} (q2 : b2 ≡ alike (part f s.start s.end) (0x32 ∷ [])) where
-          -- where it is '2'
-          pub varinfo-2 : b2 ≡ true → 2 ≡ varinfo_in f t
-          varinfo-2 h2 = varinfo-by (rw (sym q0, h0, sym q1, h1, sym q2, h2))
-
-          module _ (h2 : b2 ≡ false) {b3 : Bool} (q3 : b3 ≡ alike (part f s.start s.end) (0x33 ∷ [])) where
-            -- where it is '3'
-            pub varinfo-3 : b3 ≡ true → 3 ≡ varinfo_in f t
-            varinfo-3 h3 = varinfo-by (rw (sym q0, h0, sym q1, h1, sym q2, h2, sym q3, h3))
-
-            -- any other
-            pub varinfo-4 : b3 ≡ false → 4 ≡ varinfo_in f t
-            varinfo-4 h3 = varinfo-by (rw (sym q0, h0, sym q1, h1, sym q2, h2, sym q3, h3))
+pub longer-said : (s : List ℕ) → 2 ≤ length s → 4 ≡ varinfo_of s
+unfolding alike
+longer-said [] h = absurd (omega arith)
+longer-said (x ∷ []) h = absurd (omega arith)
+longer-said (x ∷ y ∷ s) h = rw (and-false (eqb x 0x30), and-false (eqb x 0x31), and-false (eqb x 0x32), and-false (eqb x 0x33))

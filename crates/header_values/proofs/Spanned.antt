@@ -1,14 +1,12 @@
 -- The spans that two lists, of starts and of ends, hold.
 use mathlib.Core.Path.{◌≡◌, refl, ap, ◌∙◌, sym}
 use mathlib.Core.List.{List, [], ◌∷◌, map}
-use Prim.Native.Nat.{ℕ, zero, suc, ◌<◌, ◌^◌}
+use Prim.Native.Nat.{ℕ, zero, suc}
 use native.Mathlib.Omega.{arith}
 use lib.ListN.{length, get_or}
 use Rattle.header_keys.specs.Keys.{slot_of}
 use Rattle.header_keys.specs.declared.Key.{Key}
 use Rattle.header_lines.specs.Sweep.{Span, span, span_start, span_end, no_span, part, Table}
-use Rattle.header_values.specs.declared.Span as code
-use Rattle.header_values.specs.Kinds.{of_span, SpanWithin}
 use Rattle.header_values.specs.Values.{spans, span_in, value_in}
 
 -- the starts and the ends of spans hold those spans
@@ -28,13 +26,12 @@ get_d-spans (s ∷ ss) (e ∷ es) (suc k) h = get_d-spans ss es k (omega arith)
 
 module _ {f starts ends : List ℕ} (t : Table f starts ends) where
   -- the last value of a key stands where its entry says
-  pub span-at : (i : ℕ) (k : Key) → i ≡ slot_of k → span (get_or starts i 0) (get_or ends i 0) ≡ span_in (spans starts ends) k
+  span-at : (i : ℕ) (k : Key) → i ≡ slot_of k → span (get_or starts i 0) (get_or ends i 0) ≡ span_in (spans starts ends) k
   span-at i k e = rw e (sym (get_d-spans starts ends (slot_of k) (t.starts_long ∙ sym t.ends_long)))
 
-  -- it lies inside the file, by positions of 32 bits
-  pub span-within : (i : ℕ) → get_or ends i 0 < 2 ^ 32 → SpanWithin f (record { start = get_or starts i 0; end = get_or ends i 0 })
-  span-within i h = record { ordered = t.ordered i; inside = t.inside i; narrow = h }
+  -- its bytes, and its start
+  pub value-at : (i : ℕ) (k : Key) → i ≡ slot_of k → part f (get_or starts i 0) (get_or ends i 0) ≡ value_in f (spans starts ends) k
+  value-at i k e = ap (λ v. part f v.start v.end) (span-at i k e)
 
--- the bytes of a key's last value are those of the span found
-pub value-by : (f : List ℕ) (t : List Span) (k : Key) (s : code.Span) → of_span s ≡ span_in t k → part f s.start s.end ≡ value_in f t k
-value-by f t k s e = ap (λ v. part f v.start v.end) e
+  pub start-at : (i : ℕ) (k : Key) → i ≡ slot_of k → get_or starts i 0 ≡ (span_in (spans starts ends) k).start
+  start-at i k e = ap (λ v. v.start) (span-at i k e)

@@ -4,7 +4,7 @@ use mathlib.Core.Path.{◌≡◌, refl, sym, ap, subst, ◌∙◌}
 use mathlib.Core.Logic.{◌⊎◌, inl, inr}
 use mathlib.Core.Bool.{Bool, true, not}
 use mathlib.Core.List.{List, [], ◌∷◌}
-use Prim.Native.Nat.{ℕ, zero, suc, ◌+◌, ◌<◌, ◌≤◌}
+use Prim.Native.Nat.{ℕ, ◌+◌, ◌<◌, ◌≤◌}
 use native.Mathlib.Omega.{arith}
 use lib.IntN.{ℤ}
 use Rattle.codes.specs.Machine.{run}
@@ -28,6 +28,7 @@ use Rattle.header_lines.specs.Last.{bytes_at, LastLine, SaidOf}
 use Rattle.header_lines.proofs.LastLines.{last-each, is_said, said-is}
 use Rattle.header_lines.proofs.Lasts.{last-at}
 use Rattle.header_values.specs.Values.{value_or, entries_by, entries_of, number_in, ascii_in, varinfo_of, varinfo_in, dd_in, u32s_in, names_in, roots_in}
+use Rattle.header_values.proofs.Single.{digit-is}
 use Rattle.header_values.specs.Reading.{ReadsNumber, ReadsMode, ReadsVarinfo, ReadsText, ReadsNumbers, ReadsNames, ReadsRoots}
 
 -- a list that was read is its entries
@@ -102,15 +103,6 @@ module _ (f : List ℕ) where
   unfolding alike
   reads-mode v b (inl w) = ap (λ s. not (alike s mode_b)) w.0 ∙ sym w.1
   reads-mode v b (inr w) = ap (λ s. not (alike s mode_b)) w.0 ∙ sym w.1
-
-  digit-is : (d : ℕ) → d ≤ 4 → varinfo_of ((0x30 + d) ∷ []) ≡ d
-  unfolding alike
-  digit-is zero h = refl
-  digit-is (suc zero) h = refl
-  digit-is (suc (suc zero)) h = refl
-  digit-is (suc (suc (suc zero))) h = refl
-  digit-is (suc (suc (suc (suc zero)))) h = refl
-  digit-is (suc (suc (suc (suc (suc n))))) h = absurd (omega arith)
 
   reads-varinfo : (v : Span) (n : ℕ) → ReadsVarinfo f v n → varinfo_at v ≡ n
   reads-varinfo v n w = ap varinfo_of w.1 ∙ digit-is n w.0

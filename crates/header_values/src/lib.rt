@@ -1,78 +1,52 @@
-// What the last value of each key says. Each was judged by the sweep, so that the other arm of a reader's answer is met only where the
-// key is missing: a number is then 0, a list empty.
+// What the last value of each key says. Each was judged by the sweep, so that a reader refuses only where the key is missing: a number is
+// then 0, a list empty.
 #![tactic(auto)]
 
 ghost use Rattle.codes.specs.Lent.{borrowed, seen};
-ghost use Rattle.std.specs.Prelude.{◌≡◌, ◌^◌, ◌≤◌, length, replicate};
+ghost use Rattle.std.specs.Prelude.{◌≡◌, ◌+◌, ◌^◌, ◌≤◌, ◌<◌, length, replicate};
 ghost use Rattle.codes.specs.Limits.{root_limit};
 ghost use Rattle.header_lines.specs.Sweep.{Table};
-ghost use Rattle.header_values.specs.Kinds.{of_place, of_span, of_var_info, SpanWithin};
+ghost use Rattle.header_values.specs.Kinds.{of_place, of_var_info};
 ghost use Rattle.header_values.specs.Promises.{U32sPromise, NamesPromise, NamesOverPromise, RootsInPromise};
-ghost use Rattle.header_values.specs.Values.{spans, span_in, KnownKey, number_in, ascii_in, varinfo_in, dd_in, names_in};
+ghost use Rattle.header_values.specs.Values.{spans, span_in, value_in, KnownKey, number_in, ascii_in, varinfo_in, dd_in, names_in};
 
 use codes::{VarInfo, limits};
 use header_keys::Key;
-use read_lists::Count;
-use read_numbers::{Number32, Number64};
-use read_text::{Place, Str};
+use read_numbers::Width;
+use read_text::Place;
 
-// Where a value stands in the file.
-#[derive(Clone, Copy)]
-pub struct Span {
-    pub start: usize,
-    pub end: usize,
+// A key's last value, and where its first byte stands.
+fn value_in<'a>(f: &'a [u8], starts: &[u32], ends: &[u32], key: Key) -> (&'a [u8], u32)
+    requires { Table f.now starts.now ends.now × KnownKey key }
+    ensures value { result.0.now ≡ value_in f.now (spans starts.now ends.now) key }
+    ensures start { result.1 ≡ (span_in (spans starts.now ends.now) key).start }
+    ensures narrow { result.1 + length result.0.now < 2 ^ 32 }
+{
+    let slot = header_keys::slot_of(key);
+    let start = starts[slot];
+    (&f[start as usize..ends[slot] as usize], start)
 }
 
-// Where a key's last value stands.
-fn span_in(f: &[u8], starts: &[u32], ends: &[u32], key: Key) -> Span
+// A number, of the type that the caller asks for.
+pub fn number_in<N: Width>(f: &[u8], starts: &[u32], ends: &[u32], key: Key) -> N
     requires { Table f.now starts.now ends.now × KnownKey key }
-    ensures result_value { of_span result ≡ span_in (spans starts.now ends.now) key }
-    ensures span_within { SpanWithin f.now result }
+    ensures { N.value result ≡ number_in (N.MAX + 1) f.now (spans starts.now ends.now) key }
 {
-    let k = header_keys::slot_of(key);
-    Span {
-        start: starts[k] as usize,
-        end: ends[k] as usize,
-    }
-}
-
-// A number of 32 bits.
-pub fn u32_in(f: &[u8], starts: &[u32], ends: &[u32], key: Key) -> u32
-    requires { Table f.now starts.now ends.now × KnownKey key }
-    ensures { result ≡ number_in (2 ^ 32) f.now (spans starts.now ends.now) key }
-{
-    let span = span_in(f, starts, ends, key);
-    let start = span.start;
-    let end = span.end;
-    let Number32::Value(v) = read_numbers::parse_single_u32(&f[start..end]) else {
-        return 0;
+    let (value, _) = value_in(f, starts, ends, key);
+    let Ok(number) = read_numbers::parse_single::<N>(value) else {
+        return N::narrowed(0);
     };
-    v
-}
-
-// A number of 64 bits.
-pub fn u64_in(f: &[u8], starts: &[u32], ends: &[u32], key: Key) -> u64
-    requires { Table f.now starts.now ends.now × KnownKey key }
-    ensures { result ≡ number_in (2 ^ 64) f.now (spans starts.now ends.now) key }
-{
-    let span = span_in(f, starts, ends, key);
-    let start = span.start;
-    let end = span.end;
-    let Number64::Value(v) = read_numbers::parse_single_u64(&f[start..end]) else {
-        return 0;
-    };
-    v
+    number
 }
 
 // Whether the nodes are text.
+#[tactic(auto, using(read_text::proofs::Alike::pointwise_alike), unfolding(crate::specs::Values::ascii_in))]
 pub fn ascii_in(f: &[u8], starts: &[u32], ends: &[u32]) -> bool
     requires { Table f.now starts.now ends.now }
     ensures { result ≡ ascii_in f.now (spans starts.now ends.now) }
 {
-    let span = span_in(f, starts, ends, Key::Mode);
-    let start = span.start;
-    let end = span.end;
-    !read_text::same(&f[start..end], b"B")
+    let (value, _) = value_in(f, starts, ends, Key::Mode);
+    value != b"B".as_slice()
 }
 
 // What the extra word of a text node line holds.
@@ -80,23 +54,14 @@ pub fn varinfo_in(f: &[u8], starts: &[u32], ends: &[u32]) -> VarInfo
     requires { Table f.now starts.now ends.now }
     ensures { of_var_info result ≡ varinfo_in f.now (spans starts.now ends.now) }
 {
-    let span = span_in(f, starts, ends, Key::Varinfo);
-    let start = span.start;
-    let end = span.end;
-    let value = &f[start..end];
-    if read_text::same(value, b"0") {
-        return VarInfo::VariableID;
+    let (value, _) = value_in(f, starts, ends, Key::Varinfo);
+    match value {
+        [b'0'] => VarInfo::VariableID,
+        [b'1'] => VarInfo::PermutationID,
+        [b'2'] => VarInfo::AuxiliaryID,
+        [b'3'] => VarInfo::VariableName,
+        _ => VarInfo::None,
     }
-    if read_text::same(value, b"1") {
-        return VarInfo::PermutationID;
-    }
-    if read_text::same(value, b"2") {
-        return VarInfo::AuxiliaryID;
-    }
-    if read_text::same(value, b"3") {
-        return VarInfo::VariableName;
-    }
-    VarInfo::None
 }
 
 // The diagram's name.
@@ -104,13 +69,11 @@ pub fn dd_in(f: &[u8], starts: &[u32], ends: &[u32]) -> Place
     requires { Table f.now starts.now ends.now }
     ensures { of_place result ≡ dd_in f.now (spans starts.now ends.now) }
 {
-    let span = span_in(f, starts, ends, Key::Dd);
-    let start = span.start;
-    let end = span.end;
-    let Str::Place(at, len) = read_text::parse_str(&f[start..end], start as u32) else {
+    let (value, at) = value_in(f, starts, ends, Key::Dd);
+    let Ok(place) = read_text::parse_str(value, at) else {
         return Place { start: 0, len: 0 };
     };
-    Place { start: at, len }
+    place
 }
 
 // Reads a list of numbers over the front of a list of zeros, and answers how many there are. Where they are refused it is zeros again.
@@ -119,12 +82,9 @@ pub fn read_u32s(f: &[u8], starts: &[u32], ends: &[u32], key: Key, dst: &mut [u3
     requires dst_value { dst.old ≡ replicate (length dst.old) 0 }
     ensures { U32sPromise (seen f) (seen starts) (seen ends) key (borrowed dst) result }
 {
-    let span = span_in(f, starts, ends, key);
-    let start = span.start;
-    let end = span.end;
-    let Count::Entries(n) = read_lists::parse_u32_list(&f[start..end], limits::VAR_LIMIT, dst)
-    else {
-        zeros::clear_numbers(dst);
+    let (value, _) = value_in(f, starts, ends, key);
+    let Ok(n) = read_lists::parse_u32_list(value, limits::VAR_LIMIT, dst) else {
+        dst.fill(0);
         return 0;
     };
     n
@@ -135,7 +95,7 @@ pub fn u32s_in(f: &[u8], starts: &[u32], ends: &[u32], key: Key, dst: &mut [u32]
     requires { Table f.now starts.now ends.now × KnownKey key }
     ensures { U32sPromise (seen f) (seen starts) (seen ends) key (borrowed dst) result }
 {
-    zeros::clear_numbers(dst);
+    dst.fill(0);
     read_u32s(f, starts, ends, key, dst)
 }
 
@@ -155,18 +115,10 @@ pub fn read_names(
     requires lens_value { lens.old ≡ replicate (length lens.old) 0 }
     ensures { NamesPromise (seen f) (seen starts) (seen ends) key max (borrowed names) (borrowed lens) result }
 {
-    let span = span_in(f, starts, ends, key);
-    let start = span.start;
-    let end = span.end;
-    let Count::Entries(n) = read_text::parse_str_list(
-        &f[start..end],
-        start as u32,
-        max,
-        names,
-        lens,
-    ) else {
-        zeros::clear_numbers(names);
-        zeros::clear_numbers(lens);
+    let (value, at) = value_in(f, starts, ends, key);
+    let Ok(n) = read_text::parse_str_list(value, at, max, names, lens) else {
+        names.fill(0);
+        lens.fill(0);
         return 0;
     };
     n
@@ -188,19 +140,8 @@ pub fn names_over(
     requires key_in_bounds_2 { length (names_in max f.now (spans starts.now ends.now) key) ≤ length lens.old }
     ensures { NamesOverPromise (seen f) (seen starts) (seen ends) key max (borrowed names) (borrowed lens) result }
 {
-    let span = span_in(f, starts, ends, key);
-    let start = span.start;
-    let end = span.end;
-    let Count::Entries(n) = read_text::parse_str_list(
-        &f[start..end],
-        start as u32,
-        max,
-        names,
-        lens,
-    ) else {
-        return 0;
-    };
-    n
+    let (value, at) = value_in(f, starts, ends, key);
+    read_text::parse_str_list(value, at, max, names, lens).unwrap_or(0)
 }
 
 // Reads a list of at most `max` names into lists that may hold anything, and answers how many there are. The rest of the lent lists is
@@ -217,8 +158,8 @@ pub fn names_in(
     requires { Table f.now starts.now ends.now × KnownKey key }
     ensures { NamesPromise (seen f) (seen starts) (seen ends) key max (borrowed names) (borrowed lens) result }
 {
-    zeros::clear_numbers(names);
-    zeros::clear_numbers(lens);
+    names.fill(0);
+    lens.fill(0);
     read_names(f, starts, ends, key, max, names, lens)
 }
 
@@ -227,14 +168,8 @@ pub fn roots_in(f: &[u8], starts: &[u32], ends: &[u32], dst: &mut [i64]) -> usiz
     requires { Table f.now starts.now ends.now × (root_limit ≤ length dst.old) }
     ensures { RootsInPromise (seen f) (seen starts) (seen ends) (borrowed dst) result }
 {
-    let span = span_in(f, starts, ends, Key::Rootids);
-    let start = span.start;
-    let end = span.end;
-    let Count::Entries(n) = read_edges::parse_edge_list(&f[start..end], limits::ROOT_LIMIT, dst)
-    else {
-        return 0;
-    };
-    n
+    let (value, _) = value_in(f, starts, ends, Key::Rootids);
+    read_edges::parse_edge_list(value, limits::ROOT_LIMIT, dst).unwrap_or(0)
 }
 
 // How many names a list has.
@@ -242,7 +177,5 @@ pub fn count_names(f: &[u8], starts: &[u32], ends: &[u32], key: Key, max: usize)
     requires { Table f.now starts.now ends.now × KnownKey key }
     ensures { result ≡ length (names_in max f.now (spans starts.now ends.now) key) }
 {
-    let mut names = [0u32; 1];
-    let mut lens = [0u32; 1];
-    read_names(f, starts, ends, key, max, &mut names, &mut lens)
+    read_names(f, starts, ends, key, max, &mut [0], &mut [0])
 }

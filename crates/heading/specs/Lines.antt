@@ -2,7 +2,7 @@
 use Rattle.std.specs.Prelude.{ℕ, List, [], ◌∷◌, ◌++◌}
 use Rattle.codes.specs.Texts.{bytes}
 use Rattle.header_keys.specs.declared.Key.{Key}
-use Rattle.header_keys.specs.declared.Key.TheVariants.{Ver, Mode, Varinfo, Dd, Nnodes, Nvars, Nsuppvars, Nroots, Nodes, Varnames, Suppvarnames, Orderedvarnames, Ids, Permids, Auxids, Rootids, Rootnames, Unknown}
+use Rattle.header_keys.specs.declared.Key.TheVariants.{Ver, Mode, Varinfo, Dd, Nnodes, Nvars, Nsuppvars, Nroots, Nodes, Varnames, Suppvarnames, Orderedvarnames, Ids, Permids, Auxids, Rootids, Rootnames}
 use Rattle.writers.specs.Words.{spaced}
 
 -- a key as its bytes
@@ -24,7 +24,6 @@ key_text Permids = bytes ".permids"
 key_text Auxids = bytes ".auxids"
 key_text Rootids = bytes ".rootids"
 key_text Rootnames = bytes ".rootnames"
-key_text Unknown = []
 
 pub record HeaderLine : Type 0 where
   pub key : Key

@@ -3,7 +3,7 @@ use Rattle.std.specs.Prelude.{ℕ, zero, suc, ◌^◌, List, Bool, cond, ◌||�
 use Rattle.codes.specs.Texts.{bytes}
 use Rattle.codes.specs.Answer.{Read, value, refused, Step, got, fails}
 use Rattle.read_lines.specs.Line.{line_of}
-use Rattle.read_numbers.specs.Number.{first, single}
+use Rattle.read_numbers.specs.Number.{single}
 use Rattle.read_edges.specs.Edges.{Pair, children}
 use Rattle.read_text.specs.Alike.{alike}
 use Rattle.header_lines.specs.Sweep.{part}

@@ -1,4 +1,3 @@
-pub mod Positions
 pub mod CodeByte
 pub mod Examples
 pub mod Refusals

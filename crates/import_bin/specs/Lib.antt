@@ -1,3 +1,4 @@
 pub mod Bin
 pub mod BinaryNumbers
 pub mod Examples
+pub mod Kinds

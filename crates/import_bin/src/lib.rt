@@ -3,47 +3,38 @@
 
 ghost use Rattle.std.specs.Prelude.{◌≡◌, ◌-◌, ◌≤◌, ◌<◌, length, get_or};
 ghost use Rattle.edges.specs.Width.{edge_limit, position_limit};
-ghost use Rattle.codes.specs.Answer.{then};
+ghost use Rattle.codes.specs.Refusals.{step_of};
 ghost use Rattle.node_lines.specs.Kinds.{of_decoded};
 ghost use Rattle.read_edges.specs.Edges.{signed};
-ghost use Rattle.line_numbers.specs.Kinds.{of_read_number};
+ghost use Rattle.import_bin.specs.Kinds.{of_position};
 ghost use Rattle.import_bin.specs.Bin.{counts_from, position_by, placed_at, resolved, inner_at, bin_line_at};
 
-use codes::{Code, refusal};
+use codes::Code;
+use codes::refusal::Refusal;
 use edges::{Edge, Index};
-use line_numbers::Read;
-use node_lines::Decoded;
-use read_binary::Byte;
+use node_lines::NodeLine;
 
 // What a relative variable counts down from, by the seats of the children.
 fn counts_from(count: u16, t: u16, e: u16) -> u16
     ensures { result ≡ counts_from count t e }
 {
-    if t == 0 {
-        if e == 0 {
-            return count;
-        }
-        return e - 1;
+    match (t, e) {
+        (0, 0) => count,
+        (0, _) => e - 1,
+        (_, 0) => t - 1,
+        _ => t.min(e) - 1,
     }
-    if e == 0 {
-        return t - 1;
-    }
-    if t < e { t - 1 } else { e - 1 }
 }
 
 // The support position of a line.
-fn position_by(code: Code, from: u16, v: u64) -> Read
-    ensures { of_read_number result ≡ position_by code from v }
+fn position_by(code: Code, from: u16, v: u64) -> Result<u64, Refusal>
+    ensures { of_position result ≡ position_by code from v }
 {
     match code {
-        Code::Terminal => Read::Refused(refusal::BAD_VARIABLE),
-        Code::AbsoluteID => Read::Number(v, 0),
-        _ => {
-            let n = from as u64;
-            if n < v {
-                return Read::Refused(refusal::BAD_VARIABLE);
-            }
-            Read::Number(n - v, 0)
+        Code::Terminal => Err(Refusal::BadVariable),
+        Code::AbsoluteID => Ok(v),
+        Code::RelativeID | Code::Relative1 => {
+            u64::from(from).checked_sub(v).ok_or(Refusal::BadVariable)
         }
     }
 }
@@ -56,7 +47,7 @@ fn signed(complement: bool, e: Index) -> Edge
     if complement { -(e as Edge) } else { e as Edge }
 }
 
-// A line at a support position, if it is one, above both children.
+// A line at a support position, if it is one, above both children, with the position after it.
 fn placed(
     levels: &[u16],
     seats: &[u16],
@@ -65,21 +56,20 @@ fn placed(
     els: Edge,
     next: usize,
     p: u64,
-) -> Decoded
+) -> Result<(NodeLine, usize), Refusal>
     requires { (1 ≤ t) × (1 ≤ e) × (t < edge_limit) × (length levels.now < position_limit) }
     ensures { of_decoded result ≡ placed_at levels.now seats.now t e els next p }
 {
     if (levels.len() as u64) <= p {
-        return Decoded::Refused(refusal::BAD_VARIABLE);
+        return Err(Refusal::BadVariable);
     }
     let level = levels[p as usize];
-    if !node_lines::deeper(levels, seats, level, t) {
-        return Decoded::Refused(refusal::BAD_LEVEL);
+    if !node_lines::deeper(levels, seats, level, t)
+        || !node_lines::deeper(levels, seats, level, e)
+    {
+        return Err(Refusal::BadLevel);
     }
-    if !node_lines::deeper(levels, seats, level, e) {
-        return Decoded::Refused(refusal::BAD_LEVEL);
-    }
-    Decoded::Inner(p as u16, signed(false, t), els, next)
+    Ok((NodeLine::Inner(p as u16, signed(false, t), els), next))
 }
 
 // The seat of a line, 0 beyond those so far.
@@ -87,14 +77,10 @@ fn seat(seats: &[u16], line: Index) -> u16
     requires { 1 ≤ line }
     ensures { result ≡ get_or seats.now (line - 1) 0 }
 {
-    let i = line as usize - 1;
-    if i < seats.len() {
-        return seats[i];
-    }
-    0
+    seats.get(line as usize - 1).copied().unwrap_or(0)
 }
 
-// A line whose children are read.
+// A line whose children are read, with the position after it.
 fn resolved(
     count: u16,
     levels: &[u16],
@@ -105,19 +91,17 @@ fn resolved(
     t: Index,
     e: Index,
     next: usize,
-) -> Decoded
+) -> Result<(NodeLine, usize), Refusal>
     requires { (1 ≤ t) × (1 ≤ e) × (t < edge_limit) × (e < edge_limit) × (length levels.now < position_limit) }
     ensures { of_decoded result ≡ resolved count levels.now seats.now code v complement t e next }
 {
     let from = counts_from(count, seat(seats, t), seat(seats, e));
-    match position_by(code, from, v) {
-        Read::Number(p, _) => placed(levels, seats, t, e, signed(complement, e), next, p),
-        Read::Refused(k) => Decoded::Refused(k),
-    }
+    let p = position_by(code, from, v)?;
+    placed(levels, seats, t, e, signed(complement, e), next, p)
 }
 
-// A line of a variable and two children: its numbers follow the code byte `b`, in this order. Each step passes on the first refusal so
-// far, and then's check comes before else's number is read.
+// A line of a variable and two children, with the position after it: its numbers follow the code byte `b`, in this order. Each step passes
+// on the first refusal so far, and then's check comes before else's number is read.
 fn inner_at(
     count: u16,
     levels: &[u16],
@@ -127,39 +111,26 @@ fn inner_at(
     b: u8,
     code: Code,
     at: usize,
-) -> Decoded
+) -> Result<(NodeLine, usize), Refusal>
     requires { (node < edge_limit) × (length levels.now < position_limit) }
     ensures { of_decoded result ≡ inner_at count levels.now seats.now node f.now b code at }
 {
     let v = line_numbers::variable_at(code, f, at);
-    let t = line_numbers::id_after(Code::from_bits(b / 8), node, f, v);
+    let t = line_numbers::id_after(Code::from(b / 8), node, f, v);
     let then = line_numbers::below(node, t);
-    let e = line_numbers::id_after(Code::from_bits(b), node, f, then);
-    let els = line_numbers::below(node, e);
-    match els {
-        Read::Number(e, next) => match then {
-            Read::Number(t, _) => match v {
-                Read::Number(v, _) => resolved(
-                    count,
-                    levels,
-                    seats,
-                    code,
-                    v,
-                    (b / 4) % 2 == 1,
-                    t as Index,
-                    e as Index,
-                    next,
-                ),
-                Read::Refused(k) => Decoded::Refused(k),
-            },
-            Read::Refused(k) => Decoded::Refused(k),
-        },
-        Read::Refused(k) => Decoded::Refused(k),
-    }
+    let e = line_numbers::id_after(Code::from(b), node, f, then);
+    let (e, next) = line_numbers::below(node, e)?;
+    let (t, _) = then?;
+    let (v, _) = v?;
+    let complement = (b / 4) % 2 == 1;
+    resolved(
+        count, levels, seats, code, v, complement, t as Index, e as Index, next,
+    )
 }
 
-// The node line at a position of a file. The level list has a level for each support position; `seats` has, for each line before, its
-// support position counted from 1, and 0 for a terminal line; `count` is the store's level count.
+// The node line at a position of a file, with the position after it. The level list has a level for each support position; `seats` has, for
+// each line before, its support position counted from 1, and 0 for a terminal line; `count` is the store's level count.
+#[tactic(auto, using(std::proofs::lemmas::Result::err_from_is_err_and), unfolding(crate::specs::Bin::bin_line_at))]
 pub fn line_at(
     f: &[u8],
     at: usize,
@@ -167,18 +138,13 @@ pub fn line_at(
     levels: &[u16],
     seats: &[u16],
     node: Index,
-) -> Decoded
+) -> Result<(NodeLine, usize), Refusal>
     requires { (node < edge_limit) × (length levels.now < position_limit) }
     ensures { of_decoded result ≡ bin_line_at count levels.now seats.now node f.now at }
 {
-    match read_binary::read_unescape(f, at) {
-        Byte::Value(b, next) => {
-            let code = Code::from_bits(b / 32);
-            match code {
-                Code::Terminal => Decoded::Terminal(next),
-                _ => inner_at(count, levels, seats, node, f, b, code, next),
-            }
-        }
-        Byte::Refused(k) => Decoded::Refused(k),
+    let (b, next) = read_binary::read_unescape(f, at)?;
+    match Code::from(b / 32) {
+        Code::Terminal => Ok((NodeLine::Terminal, next)),
+        code => inner_at(count, levels, seats, node, f, b, code, next),
     }
 }

@@ -1,14 +1,14 @@
 -- What the answers of the code stand for.
-use Rattle.std.specs.Prelude.{ℕ, List}
+use Rattle.std.specs.Prelude.{ℕ, List, Result, Ok, Err}
+use Rattle.codes.specs.declared.refusal.Fault.{Fault}
 use Rattle.imported.specs.Import as meant
 use Rattle.imported.specs.Import.{NodesAnswer, nodes, refusal}
 use Rattle.import_steps.specs.declared.Setup.{Setup}
-use Rattle.import_steps.specs.declared.Imported.{Imported}
-use Rattle.import_steps.specs.declared.Imported.TheVariants as imported
 
-abbrev pub of_imported : Imported → NodesAnswer
-of_imported (imported.Nodes at) = nodes at
-of_imported (imported.Refused k line) = refusal k line
+-- the nodes are read, up to a position; or a refusal and its line
+abbrev pub of_imported : Result ℕ Fault → NodesAnswer
+of_imported (Ok at) = nodes at
+of_imported (Err e) = refusal e.number e.line
 
 -- what the code is handed of it, with the level list and the store's level count
 abbrev pub of_setup : Setup → List ℕ → ℕ → meant.Setup

@@ -2,11 +2,11 @@
 use mathlib.Core.Path.{◌≡◌, refl, sym, ap, ◌∙◌}
 use mathlib.Core.Bool.{Bool, true, false, true≢false}
 use mathlib.Core.List.{List, [], ◌∷◌}
-use Prim.Native.Nat.{ℕ, zero, suc, ◌-◌, ◌≤◌, ◌<◌}
+use Prim.Native.Nat.{ℕ, zero, suc, ◌-◌, ◌<◌}
 use native.Mathlib.Omega.{arith}
 use lib.IntN.{ℤ, pos, negsuc, neg_ℤ, nat_abs}
-use lib.ListN.{length, get_or, get_or-eq_default}
-use Rattle.edges.specs.Width.{edge_width, edge_limit}
+use lib.ListN.{length, get_or}
+use Rattle.edges.specs.Width.{edge_width}
 use mir.Val.{SFits, to_z, of_z}
 use mir.ValLaws.{to_z-of_z}
 use Rattle.edges.specs.Edge.{IsEdge, minus}
@@ -40,50 +40,26 @@ pub edge-for-edge : (edges : List ℤ) (c : ℤ) → AllEdges edges → IsEdge (
 unfolding edge_for
 edge-for-edge edges c E = turned-edge c _ (E (nat_abs c - 1))
 
--- the edge of the line of a root or child
-abbrev pub Found : List ℤ → ℤ → ℕ → Type 0
-Found edges c e = to_z edge_width e ≡ get_or edges (nat_abs c - 1) (pos 1)
+-- The number m of a root or child c, the edge e of its line, and its sign b, as the code reads them.
+module _ (edges : List ℤ) (c : ℤ) (f : SFits edge_width c) (E : AllEdges edges)
+    {m : ℕ} (p : m ≡ nat_abs (to_z edge_width (of_z edge_width c))) {e : ℤ} (x : e ≡ get_or edges (m - 1) (pos 1))
+    {b : Bool} (s : b ≡ minus (to_z edge_width (of_z edge_width c))) where
+  -- the edge is read as it is
+  edge-is : to_z edge_width (of_z edge_width e) ≡ get_or edges (nat_abs c - 1) (pos 1)
+  edge-is = let q : m ≡ nat_abs c = p ∙ abs-back edge_width c f in rw (x, q) (edge-back edge_width (get_or edges (nat_abs c - 1) (pos 1)) (E (nat_abs c - 1)))
 
-module _ (edges : List ℤ) (c : ℤ) (f : SFits edge_width c) where
-  module _ {m : ℕ} (p : m ≡ nat_abs (to_z edge_width (of_z edge_width c))) where
-    -- its magnitude is read as it is
-    number_is : m ≡ nat_abs c
-    number_is = p ∙ abs-back edge_width c f
+  -- and so is the sign
+  sign-is : b ≡ minus c
+  sign-is = s ∙ ap minus (to_z-of_z edge_width c f)
 
-    -- its number counts from 1
-    pub number-some : 1 ≤ nat_abs c → 1 ≤ m
-    number-some h = omega (arith, number_is)
+  -- its opposite stands for a root or child with a minus
+  pub edge-minus : b ≡ true → {r : ℤ} → r ≡ neg_ℤ (to_z edge_width (of_z edge_width e)) → to_z edge_width (of_z edge_width r) ≡ edge_for edges c
+  unfolding edge_for
+  edge-minus k q =
+      let a : ℤ = get_or edges (nat_abs c - 1) (pos 1) in
+      rw (q, edge-is) (edge-back edge_width (neg_ℤ a) (edge-neg a (E (nat_abs c - 1))) ∙ turned-minus c a (sym sign-is ∙ k))
 
-    -- its edge is read from the list
-    pub found-there : {e : ℕ} → AllEdges edges → m - 1 < length edges → e ≡ of_z edge_width (get_or edges (m - 1) (pos 0)) → Found edges c e
-    found-there E h q =
-        let k : nat_abs c - 1 < length edges = omega (arith, number_is) in
-        rw (q, number_is, within edges (nat_abs c - 1) (pos 0) (pos 1) k) (edge-back edge_width (get_or edges (nat_abs c - 1) (pos 1)) (E (nat_abs c - 1)))
-
-    -- beyond the list it is 1
-    pub found-beyond : {e : ℕ} → length edges ≤ m - 1 → e ≡ 1 → Found edges c e
-    found-beyond h q =
-        let k : length edges ≤ nat_abs c - 1 = omega (arith, number_is) in
-        rw (q, get_or-eq_default edges (pos 1) k)
-
-  module _ (e : ℕ) (E : AllEdges edges) (x : Found edges c e) where
-    -- it has an opposite
-    pub found-edge : nat_abs (to_z edge_width e) < edge_limit
-    found-edge = rw x (E (nat_abs c - 1))
-
-    module _ {b : Bool} (s : b ≡ minus (to_z edge_width (of_z edge_width c))) where
-      -- its sign is read as it is
-      sign-is : b ≡ minus c
-      sign-is = s ∙ ap minus (to_z-of_z edge_width c f)
-
-      -- which stands for a root or child with a minus
-      pub found-minus : b ≡ true → {r : ℤ} → r ≡ neg_ℤ (to_z edge_width e) → to_z edge_width (of_z edge_width r) ≡ edge_for edges c
-      unfolding edge_for
-      found-minus k q =
-          let a : ℤ = get_or edges (nat_abs c - 1) (pos 1) in
-          rw (q, x) (edge-back edge_width (neg_ℤ a) (edge-neg a (E (nat_abs c - 1))) ∙ turned-minus c a (sym sign-is ∙ k))
-
-      -- with no minus it stands as it is
-      pub found_plain : b ≡ false → to_z edge_width e ≡ edge_for edges c
-      unfolding edge_for
-      found_plain k = x ∙ turned_plain c _ (sym sign-is ∙ k)
+  -- with no minus it stands as it is
+  pub edge_plain : b ≡ false → to_z edge_width (of_z edge_width e) ≡ edge_for edges c
+  unfolding edge_for
+  edge_plain k = edge-is ∙ turned_plain c _ (sym sign-is ∙ k)

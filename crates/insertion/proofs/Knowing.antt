@@ -9,14 +9,14 @@ use lib.Dec.{eqb}
 use lib.IntN.{ℤ}
 use borrow.Author.Tests.{eq-eqb, ne_eqb}
 use Rattle.codes.specs.Limits.{limits, node_limit}
-use Rattle.store.specs.Store.{Store, slots}
+use Rattle.store.specs.Store.{Store}
 use Rattle.store.specs.Rules.{Rules}
 use Rattle.store.specs.Make.{find, added}
 use Rattle.store.proofs.Chain.{added-agree}
 use Rattle.store.proofs.Added.{added-holds, added-length}
 use Rattle.unique_table.specs.Index.{Indexed, Sought, Finds, width_for}
 use Rattle.unique_table.proofs.Widths.{width-roomy}
-use Rattle.unique_table.proofs.More.{indexed-same, indexed-more}
+use Rattle.unique_table.proofs.More.{indexed-more}
 use Rattle.unique_table.proofs.Seeking.{sought-find}
 use Rattle.insertion.specs.Known.{KnownNodes, EndsAt, entered}
 
@@ -34,15 +34,10 @@ entered-long width ix at n = go (eqb width 0)
     go true = refl
     go false = length-set ix at n
 
--- the index looks at three lists only
-pub known-bare : (width : ℕ) (σ : Store) (ix : List ℕ) → 1 ≤ width → KnownNodes width σ ix → Indexed width (slots σ.level σ.then σ.els) σ.count ix
-known-bare width σ ix w K =
-    indexed-same width σ _ σ.count ix (K.finds.indexed w) (record { level = λ n p h. refl; then = λ n p h. refl; els = λ n p h. refl })
-
 -- a search of the index gives what the definition's search gives
 pub known-find : (width : ℕ) (σ : Store) (ix : List ℕ) → 1 ≤ width → KnownNodes width σ ix → Rules limits σ → (l : ℕ) (t e : ℤ) (at : ℕ)
-    → Sought width (slots σ.level σ.then σ.els) σ.count ix l t e at → get_or ix at 0 ≡ find σ l t e
-known-find width σ ix w K R l t e at s = sought-find width σ ix (known-bare width σ ix w K) R.nodes l t e at s
+    → Sought width σ σ.count ix l t e at → get_or ix at 0 ≡ find σ l t e
+known-find width σ ix w K R l t e at s = sought-find width σ ix (K.finds.indexed w) R.nodes l t e at s
 
 module _ (width : ℕ) (σ : Store) (ix : List ℕ) (K : KnownNodes width σ ix) (R : Rules limits σ) (l : ℕ) (t e : ℤ) where
   -- a node that is made is put where its search ended
@@ -50,7 +45,7 @@ module _ (width : ℕ) (σ : Store) (ix : List ℕ) (K : KnownNodes width σ ix)
       → Indexed width (added σ l t e) (σ.count + 1) (set ix at (σ.count + 1))
   indexed-put at w E h k =
       let A = added-agree limits σ l t e R.sizes h in
-      indexed-more width _ (added σ l t e) σ.count ix (known-bare width σ ix w K) l t e at E.sought E.empty R.sizes.count_some
+      indexed-more width σ (added σ l t e) σ.count ix (K.finds.indexed w) l t e at E.sought E.empty R.sizes.count_some
       (K.room w (σ.count + 1) (omega arith) (omega arith)) (record { level = A.level; then = A.then; els = A.els }) (added-holds limits σ l t e R.sizes h)
 
   pub known_more : (at : ℕ) → (1 ≤ width → EndsAt width σ ix l t e at) → σ.count < length σ.level → σ.count < node_limit → (τ : Store) → τ ≡ added σ l t e

@@ -1,2 +1,3 @@
 pub mod Knowing
 pub mod Finding
+pub mod Inserting

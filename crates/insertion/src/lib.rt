@@ -2,59 +2,34 @@
 #![tactic(auto)]
 
 ghost use Rattle.std.specs.Prelude.{◌≡◌, ◌≤◌, ◌<◌, length};
-ghost use Rattle.codes.specs.Lent.{new, borrowed, seen};
-ghost use Rattle.store.specs.Lent.{store_now};
 ghost use Rattle.codes.specs.Limits.{limits};
+ghost use Rattle.store.specs.Held.{held, held_mut, SameLists};
 ghost use Rattle.store.specs.Rules.{Rules};
 ghost use Rattle.insertion.specs.Known.{KnownNodes, entered};
 ghost use Rattle.insertion.specs.Promises.{LookUpPromise, InsertPromise};
 
 use edges::{Edge, Index};
+use store::{StoreMut, StoreRef};
 
-// The edge to a node, or no slot for one.
-#[derive(Clone, Copy)]
-pub enum Making {
-    Node(Edge),
-    Full,
-}
-
-// A node, or 0 and the entry of the index where it belongs.
-#[derive(Clone, Copy)]
-pub struct Found {
-    node: Index,
-    at: usize,
-}
-
-// The node with this level, then and else: by the index, or along its chain where there is none.
+// The node with this level, then and else, or the entry of the index where it belongs: by the index, or along its chain where there is none.
 fn look_up(
-    levels: u16,
-    count: Index,
-    level: &[u16],
-    then: &[Edge],
-    els: &[Edge],
-    next: &[Index],
-    heads: &[Index],
+    store: &StoreRef,
     index: &[Index],
     width: usize,
     l: u16,
     t: Edge,
     e: Edge,
-) -> Found
-    requires rules { Rules limits (store_now levels count level.now then.now els.now next.now heads.now) }
-    requires known_nodes { KnownNodes width (store_now levels count level.now then.now els.now next.now heads.now) index.now }
-    ensures { LookUpPromise levels count (seen level) (seen then) (seen els) (seen next) (seen heads) (seen index) width l t e result }
+) -> Result<Index, usize>
+    requires rules { Rules limits (held store.now) }
+    requires known_nodes { KnownNodes width (held store.now) index.now }
+    ensures { LookUpPromise (held store.now) index.now width l t e result }
 {
     if width == 0 {
-        return Found {
-            node: chains::find(levels, count, level, then, els, next, heads, l, t, e),
-            at: 0,
-        };
+        return chains::find(store, l, t, e).ok_or(0);
     }
-    let at = unique_table::seek(index, width, count, level, then, els, l, t, e);
-    Found {
-        node: index[at],
-        at: at,
-    }
+    let at = unique_table::seek(index, width, store.count, store, l, t, e);
+    let n = index[at];
+    if n == 0 { Err(at) } else { Ok(n) }
 }
 
 // A new node in the index, where there is one.
@@ -67,37 +42,29 @@ fn enter(index: &mut [Index], width: usize, at: usize, n: Index)
     }
 }
 
-// A node with a positive then: found, or the next number. The index knows every node, and goes on doing so.
+// The edge to a node with a positive then: found, or the next number; none where no slot is left. The index knows every node, and goes on doing so.
 pub fn insert(
-    levels: u16,
-    count: &mut Index,
-    level: &mut [u16],
-    then: &mut [Edge],
-    els: &mut [Edge],
-    next: &mut [Index],
-    heads: &mut [Index],
+    store: &mut StoreMut,
     index: &mut [Index],
     width: usize,
     l: u16,
     t: Edge,
     e: Edge,
-) -> Making
-    requires rules { Rules limits (store_now levels count.old level.old then.old els.old next.old heads.old) }
-    requires known_nodes { KnownNodes width (store_now levels count.old level.old then.old els.old next.old heads.old) index.old }
-    ensures { InsertPromise levels (borrowed count) (borrowed level) (borrowed then) (borrowed els) (borrowed next) (borrowed heads) (borrowed index) width l t e result }
+) -> Option<Edge>
+    requires rules { Rules limits (held_mut store.old) }
+    requires known_nodes { KnownNodes width (held_mut store.old) index.old }
+    ensures made { InsertPromise (held_mut store.old) (held_mut store.new) index.new width l t e result }
+    ensures same { SameLists store.old store.new }
 {
-    let c = *count;
-    let found = look_up(
-        levels, c, level, then, els, next, heads, index, width, l, t, e,
-    );
-    if found.node != 0 {
-        return Making::Node(slots::edge_to(found.node));
+    let now = store.as_ref();
+    let at = match look_up(&now, index, width, l, t, e) {
+        Ok(n) => return Some(slots::edge_to(n)),
+        Err(at) => at,
+    };
+    if !slots::has_room(&now) {
+        return None;
     }
-    if !slots::has_room(c, level) {
-        return Making::Full;
-    }
-    let a = slots::edge_to(c + 1);
-    enter(index, width, found.at, c + 1);
-    slots::put_node(levels, count, level, then, els, next, heads, l, t, e);
-    Making::Node(a)
+    slots::put_node(store, l, t, e);
+    enter(index, width, at, store.count);
+    Some(slots::edge_to(store.count))
 }

@@ -1,6 +1,6 @@
 -- Results of joins that are remembered. A line has four entries: the number of an operation, two edges, and the edge that says the operation on
 -- them, 0 in an empty line. What a line means, it means in today's store, whatever was made since.
-use Rattle.std.specs.Prelude.{ℕ, ◌+◌, ◌*◌, ◌<◌, ◌≢◌, cond, List, length, get_or, ℤ, pos}
+use Rattle.std.specs.Prelude.{ℕ, ◌+◌, ◌*◌, ◌<◌, ◌≢◌, cond, Option, IfSome, List, length, get_or, ℤ, pos}
 use Rattle.edges.specs.Edge.{IsEdge, eq_z}
 use Rattle.store.specs.Store.{Store}
 use Rattle.store.specs.Growth.{EdgeOf}
@@ -27,9 +27,9 @@ Cached σ c = (i : ℕ) → 4 * i + 3 < length c → get_or c (4 * i + 3) (pos 0
 abbrev pub Turnable : List ℤ → Type 0
 Turnable c = (i : ℕ) → 4 * i + 3 < length c → IsEdge (get_or c (4 * i + 3) (pos 0))
 
--- What a search gives, 0 for none: in whatever store the lines are right, it says the operation on the two edges.
-abbrev pub FindsJoin : List ℤ → Op → ℤ → ℤ → ℤ → Type 0
-FindsJoin c o a b x = (σ : Store) → Cached σ c → EdgeOf σ a → EdgeOf σ b → x ≢ pos 0 → SaysJoin o σ a b x
+-- What a search gives, where it gives a result: in whatever store the lines are right, it says the operation on the two edges.
+abbrev pub FindsJoin : List ℤ → Op → ℤ → ℤ → Option ℤ → Type 0
+FindsJoin c o a b r = (σ : Store) → Cached σ c → EdgeOf σ a → EdgeOf σ b → IfSome r (SaysJoin o σ a b)
 
 -- What remembering a result leaves: in whatever store the lines were right and the result is, they are right.
 abbrev pub Keeps : List ℤ → List ℤ → Op → ℤ → ℤ → ℤ → Type 0

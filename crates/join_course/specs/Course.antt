@@ -1,6 +1,6 @@
 -- Where a join stands on its way: which pairs wait, whether a pair is joined next or a result comes back, and that what is left to do gives the
 -- join.
-use Rattle.std.specs.Prelude.{ℕ, ◌<◌, ◌≡◌, ◌≢◌, Bool, true, false, List, [], ◌∷◌, ℤ, pos}
+use Rattle.std.specs.Prelude.{ℕ, ◌<◌, ◌≡◌, Bool, true, false, Option, Some, None, List, [], ◌∷◌, ℤ, pos}
 use Rattle.codes.specs.Limits.{Limits}
 use Rattle.store.specs.Store.{Store}
 use Rattle.store.specs.Growth.{EdgeOf}
@@ -61,17 +61,17 @@ pub record Coming (m : Limits) (o : Op) (whole : Made) (τ : Store) (ps : List W
   pub result : ResultForLast o τ ps x
   pub rest : resume m o ps (made x τ) ≡ whole
 
--- either, by the result: 0 where there is none yet
-pub data JoinStands (m : Limits) (o : Op) (whole : Made) (τ : Store) (ps : List Waiting) (a b : ℤ) : ℤ → Type 0 where
-  going : Going m o whole τ ps a b → JoinStands m o whole τ ps a b (pos 0)
-  coming : {x : ℤ} → Coming m o whole τ ps x → JoinStands m o whole τ ps a b x
+-- either, by the result, where there is one yet
+pub data JoinStands (m : Limits) (o : Op) (whole : Made) (τ : Store) (ps : List Waiting) (a b : ℤ) : Option ℤ → Type 0 where
+  going : Going m o whole τ ps a b → JoinStands m o whole τ ps a b None
+  coming : {x : ℤ} → Coming m o whole τ ps x → JoinStands m o whole τ ps a b (Some x)
 
 -- One step that makes no node, from a pair and a result to the next: a result is known; else the pair waits, and its then sides come next; or a
 -- result is that of the then sides of the last pair, and its else sides come next.
-pub data Goes (o : Op) (τ : Store) (ps : List Waiting) (a b r : ℤ) : List Waiting → ℤ → ℤ → ℤ → Type 0 where
-  known : {x : ℤ} → r ≡ pos 0 → x ≢ pos 0 → SaysJoin o τ a b x → Goes o τ ps a b r ps a b x
-  down : {l line : ℕ} {c d e g : ℤ} → r ≡ pos 0 → top τ a b < τ.levels → l ≡ top τ a b → c ≡ side τ (top τ a b) true a
+pub data Goes (o : Op) (τ : Store) (ps : List Waiting) (a b : ℤ) (r : Option ℤ) : List Waiting → ℤ → ℤ → Option ℤ → Type 0 where
+  known : {x : ℤ} → r ≡ None → SaysJoin o τ a b x → Goes o τ ps a b r ps a b (Some x)
+  down : {l line : ℕ} {c d e g : ℤ} → r ≡ None → top τ a b < τ.levels → l ≡ top τ a b → c ≡ side τ (top τ a b) true a
       → d ≡ side τ (top τ a b) true b → e ≡ side τ (top τ a b) false a → g ≡ side τ (top τ a b) false b
-      → Goes o τ ps a b r (waiting a b l (pos 0) e g line ∷ ps) c d (pos 0)
-  over : {p : Waiting} {qs : List Waiting} → ps ≡ p ∷ qs → r ≢ pos 0 → lacks_then p ≡ true
-      → Goes o τ ps a b r (given r p ∷ qs) p.els.left p.els.right (pos 0)
+      → Goes o τ ps a b r (waiting a b l (pos 0) e g line ∷ ps) c d None
+  over : {p : Waiting} {qs : List Waiting} {x : ℤ} → ps ≡ p ∷ qs → r ≡ Some x → lacks_then p ≡ true
+      → Goes o τ ps a b r (given x p ∷ qs) p.els.left p.els.right None

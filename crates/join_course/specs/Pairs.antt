@@ -1,5 +1,5 @@
 -- The pairs of edges that wait while their sides are joined.
-use Rattle.std.specs.Prelude.{ℕ, zero, suc, ◌+◌, ◌-◌, ◌*◌, Bool, true, false, cond, List, [], ◌∷◌, length, get_or, ℤ, pos}
+use Rattle.std.specs.Prelude.{ℕ, zero, suc, ◌+◌, ◌-◌, ◌*◌, Bool, true, false, cond, Option, Some, None, List, [], ◌∷◌, length, get_or, ℤ, pos}
 use Rattle.codes.specs.Limits.{Limits}
 use Rattle.edges.specs.Edge.{eq_z}
 use Rattle.store.specs.Store.{Store}
@@ -48,6 +48,7 @@ unfoldable pub steps_of : ℕ → List Waiting → ℕ
 steps_of v [] = 0
 steps_of v (p ∷ ps) = cond (lacks_then p) (2 + steps_below (v - suc (length ps))) 1 + steps_of v ps
 
--- of a store with v levels, where pairs wait; a result of 0 stands for a pair that is to be joined
-abbrev pub steps_left : ℕ → List Waiting → ℤ → ℕ
-steps_left v ps r = cond (eq_z r (pos 0)) (steps_below (v - length ps)) 0 + steps_of v ps
+-- of a store with v levels, where pairs wait, and there is a result or a pair that is to be joined
+abbrev pub steps_left : ℕ → List Waiting → Option ℤ → ℕ
+steps_left v ps None = steps_below (v - length ps) + steps_of v ps
+steps_left v ps (Some x) = steps_of v ps

@@ -1,3 +1,3 @@
-pub mod Tests
+pub mod ReadBack
 pub mod Reading
 pub mod Slotted

@@ -2,6 +2,8 @@
 -- edge leads to node 1, and there is a level to join at.
 use mathlib.Core.Path.{◌≡◌, refl, sym, ap, ap₂, ◌∙◌}
 use mathlib.Core.Bool.{Bool, true, false, not, cond, xor, ◌||◌, not-not, true≢false}
+use Rattle.std.specs.Prelude.{Option, Some, None, IfSome}
+use Rattle.std.proofs.lemmas.Option.{none-some}
 use Prim.Native.Nat.{zero, suc, ◌≤◌, ◌<◌}
 use native.Mathlib.Omega.{arith}
 use lib.Dec.{eqb}
@@ -214,21 +216,21 @@ module _ (m : Limits) (o : Op) (σ : Store) (a b : ℤ) (Q : Ready m σ a b) whe
   near-says h = by-says σ Q.rules.sizes.count_some o a b Q.left Q.right (near-is a b h)
 
   -- a shortcut says the operation
-  pub short-says : (x : ℤ) → x ≡ short o a b → (x ≡ pos 0 → ⊥) → SaysJoin o σ a b x
+  pub short-says : (r : Option ℤ) → r ≡ short o a b → IfSome r (SaysJoin o σ a b)
   unfolding short
-  short-says x q f = go (near a b) refl q
+  short-says r q = rw q (go (near a b) refl)
     where
-      go : (y : Bool) → near a b ≡ y → x ≡ cond y (short_by o a b) (pos 0) → SaysJoin o σ a b x
-      go true h q = rw q (near-says h)
-      go false h q = absurd (f q)
+      go : (y : Bool) → near a b ≡ y → IfSome (cond y (Some (short_by o a b)) None) (SaysJoin o σ a b)
+      go true h = near-says h
+      go false h = tt
 
   -- and where there is none, the edges are apart
-  pub short_none : short o a b ≡ pos 0 → Apart a b
+  pub short_none : short o a b ≡ None → Apart a b
   unfolding short
   short_none z = go (near a b) refl z
     where
-      go : (y : Bool) → near a b ≡ y → cond y (short_by o a b) (pos 0) ≡ pos 0 → Apart a b
-      go true h z = absurd (omega (arith, (near-says h).edge.some, ap nat_abs z))
+      go : (y : Bool) → near a b ≡ y → cond y (Some (short_by o a b)) None ≡ None → Apart a b
+      go true h z = absurd (none-some (short_by o a b) (sym z))
       go false h z = near-not a b h
 
   -- so that there is a level to join at

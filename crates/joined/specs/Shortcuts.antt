@@ -1,6 +1,6 @@
 -- The results of joins that need no node: of two edges that have one node, or of which one leads to node 1. That they are what a join gives is
 -- proved (`joined/proofs/Shortcut`); no promise of a call names them.
-use Rattle.std.specs.Prelude.{Bool, cond, ◌||◌, ◌≢◌, eqb, ℤ, pos, negsuc, neg_ℤ, nat_abs}
+use Rattle.std.specs.Prelude.{Bool, cond, Option, Some, None, ◌||◌, ◌≢◌, eqb, ℤ, pos, negsuc, neg_ℤ, nat_abs}
 use Rattle.edges.specs.Edge.{eq_z}
 use Rattle.joined.specs.Join.{through}
 use Rattle.joined.specs.declared.Op.{Op}
@@ -32,6 +32,6 @@ short_by op.And a b = short_and a b
 short_by op.Or a b = neg_ℤ (short_and (neg_ℤ a) (neg_ℤ b))
 short_by op.Xor a b = short_xor a b
 
--- The result where there is a shortcut, else 0.
-unfoldable pub short : Op → ℤ → ℤ → ℤ
-short o a b = cond (near a b) (short_by o a b) (pos 0)
+-- The result where there is a shortcut.
+unfoldable pub short : Op → ℤ → ℤ → Option ℤ
+short o a b = cond (near a b) (Some (short_by o a b)) None

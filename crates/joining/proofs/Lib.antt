@@ -1,2 +1,3 @@
 pub mod Knowing
 pub mod Runs
+pub mod Equal

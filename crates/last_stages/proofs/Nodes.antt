@@ -6,6 +6,7 @@ use Prim.Native.Nat.{ℕ, ◌≤◌}
 use lib.Dec.{eqb}
 use lib.ListN.{length, replicate}
 use lib.IntN.{ℤ, pos}
+use Rattle.std.specs.Prelude.{Ok, Err}
 use Rattle.header_values.specs.Kinds.{of_var_info}
 use Rattle.store.specs.Store.{Store}
 use Rattle.codes.specs.Limits.{limits, node_limit}
@@ -13,10 +14,9 @@ use Rattle.store.specs.Rules.{Rules}
 use Rattle.unique_table.specs.Index.{Finds, width_for}
 use Rattle.slots.specs.Most.{most_nodes}
 use Rattle.header.specs.Header.{refusal}
-use Rattle.header.specs.Kinds.{of_header, of_loaded}
+use Rattle.header.specs.Kinds.{Loaded, of_header, of_loaded}
 use Rattle.header.specs.declared.DumpHeader.{DumpHeader}
-use Rattle.header.specs.declared.Loaded.{Loaded}
-use Rattle.header.specs.declared.Loaded.TheVariants as loaded
+use Rattle.codes.specs.declared.refusal.Fault.{Fault}
 use Rattle.imported.specs.Build.{LevelsOf}
 use Rattle.imported.specs.Import as nodes
 use Rattle.stages.specs.Stages.{Readable, Searchable, Noded, noded, nodes_after}
@@ -26,7 +26,7 @@ abbrev pub none_noded : ℕ → ℕ → Store → List ℤ → Noded
 none_noded n line σ ids = record { answer = refusal n line; after = σ; roots = replicate (length ids) (pos 0) }
 
 module _ (r : Loaded) (σ : Store) (list : List ℕ) where
-  module _ (h : DumpHeader) (q : r ≡ loaded.Header h) where
+  module _ (h : DumpHeader) (q : r ≡ Ok h) where
     -- how the nodes are read, given whether lines have an extra word
     abbrev by : Bool → nodes.Setup
     by x = nodes.setup h.ascii x h.nnodes h.lines list σ.levels
@@ -53,7 +53,7 @@ module _ (r : Loaded) (σ : Store) (list : List ℕ) where
     nodes-noded y f ids = rw (q, y)
 
   -- after a refusal they leave the store, and zeros for the roots
-  pub nodes-none : (n line : ℕ) → r ≡ loaded.Refused n line → (f : List ℕ) (ids : List ℤ)
-      → none_noded n line σ ids ≡ nodes_after (of_loaded r) σ f list ids
+  pub nodes-none : (fault : Fault) → r ≡ Err fault → (f : List ℕ) (ids : List ℤ)
+      → none_noded fault.number fault.line σ ids ≡ nodes_after (of_loaded r) σ f list ids
   unfolding nodes_after
-  nodes-none n line q f ids = rw q
+  nodes-none fault q f ids = rw q

@@ -1,21 +1,19 @@
 -- What the last stages of a load promise.
 use Rattle.std.specs.Prelude.{ℕ, ◌≡◌, List, length, replicate, ℤ, pos}
 use Rattle.codes.specs.Lent.{Part, old, new}
-use Rattle.store.specs.Lent.{old_store, new_store}
-use Rattle.header.specs.declared.Loaded.{Loaded}
-use Rattle.header.specs.Kinds.{of_loaded}
+use Rattle.store.specs.Store.{Store}
+use Rattle.header.specs.Kinds.{Loaded, of_loaded}
 use Rattle.stages.specs.Stages.{Noded, nodes_after, is_refusal, cleared_if}
 
-module _ (ready : Loaded) (f : Part (List ℕ)) (levels : ℕ) (list : Part (List ℕ)) (count : Part ℕ) (level : Part (List ℕ)) (then els : Part (List ℤ))
-    (next heads : Part (List ℕ)) (roots edges : Part (List ℤ)) (seats : Part (List ℕ)) where
+module _ (ready : Loaded) (f list : Part (List ℕ)) (before after : Store) (roots edges : Part (List ℤ)) (seats : Part (List ℕ)) where
   -- 'nodes, 39', after the answer so far
   abbrev noded : Noded
-  noded = nodes_after (of_loaded ready) (old_store levels (old count) level then els next heads) (old f) (old list) (old roots)
+  noded = nodes_after (of_loaded ready) before (old f) (old list) (old roots)
 
   -- 'On any refusal outputs are all zeros and the store is unchanged; .. Scratch ends as zeros.'
   pub record LoadNodesPromise (work : Part (List ℕ)) (r : Loaded) : Type 0 where
     pub answer : of_loaded r ≡ noded.answer
-    pub store : new_store levels (new count) level then els next heads ≡ noded.after
+    pub store : after ≡ noded.after
     pub roots_left : new roots ≡ noded.roots
     pub edges_left : new edges ≡ replicate (length (old edges)) (pos 0)
     pub seats_left : new seats ≡ replicate (length (old seats)) 0

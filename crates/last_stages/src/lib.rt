@@ -4,110 +4,68 @@
 
 ghost use Rattle.codes.specs.Lent.{borrowed, seen};
 ghost use Rattle.std.specs.Prelude.{◌≡◌, not, eqb, length};
-ghost use Rattle.store.specs.Lent.{store_now};
+ghost use Rattle.store.specs.Held.{held_mut, SameLists};
 ghost use Rattle.header_values.specs.Kinds.{of_var_info};
-ghost use Rattle.header.specs.Kinds.{of_header, of_loaded};
-ghost use Rattle.import_steps.specs.Kinds.{of_imported};
-ghost use Rattle.stages.specs.Stages.{Readable, Searchable, answer_with_nodes, is_refusal, cleared_if};
+ghost use Rattle.header.specs.Kinds.{of_loaded};
+ghost use Rattle.stages.specs.Stages.{Readable, Searchable};
 ghost use Rattle.last_stages.specs.Promises.{LoadNodesPromise, FinishPromise};
 
 use codes::VarInfo;
+use codes::refusal::Fault;
 use edges::{Edge, Index};
-use header::{DumpHeader, Loaded};
-use import_steps::{Imported, Setup};
+use header::DumpHeader;
+use import_steps::Setup;
+use store::StoreMut;
 
 // Do node lines have an extra word?
 fn has_extra(v: VarInfo) -> bool
     ensures { result ≡ not (eqb (of_var_info v) 4) }
 {
-    match v {
-        VarInfo::VariableID => true,
-        VarInfo::PermutationID => true,
-        VarInfo::AuxiliaryID => true,
-        VarInfo::VariableName => true,
-        VarInfo::None => false,
-    }
-}
-
-// The header, where its nodes are read.
-fn with_nodes(h: DumpHeader, nodes: Imported) -> Loaded
-    ensures { of_loaded result ≡ answer_with_nodes (of_header h) (of_imported nodes) }
-{
-    match nodes {
-        Imported::Nodes(_) => Loaded::Header(h),
-        Imported::Refused(k, line) => Loaded::Refused(k, line),
-    }
+    v != VarInfo::None
 }
 
 // The nodes and `.end`. The edges of the roots take the place of their numbers, or zeros; the scratch ends as zeros.
 pub fn load_nodes(
-    ready: Loaded,
+    ready: Result<DumpHeader, Fault>,
     f: &[u8],
-    levels: u16,
     list: &[u16],
-    count: &mut Index,
-    level: &mut [u16],
-    then: &mut [Edge],
-    els: &mut [Edge],
-    next: &mut [Index],
-    heads: &mut [Index],
+    store: &mut StoreMut,
     roots: &mut [Edge],
     edges: &mut [Edge],
     seats: &mut [u16],
     work: &mut [Index],
-) -> Loaded
-    requires readable { Readable (of_loaded ready) (store_now levels count.old level.old then.old els.old next.old heads.old) list.now
-        (length edges.old) (length seats.old) }
-    requires searchable { Searchable (of_loaded ready) (store_now levels count.old level.old then.old els.old next.old heads.old) work.old }
-    ensures { LoadNodesPromise ready (seen f) levels (seen list) (borrowed count) (borrowed level) (borrowed then) (borrowed els) (borrowed next)
-        (borrowed heads) (borrowed roots) (borrowed edges) (borrowed seats) (borrowed work) result }
+) -> Result<DumpHeader, Fault>
+    requires readable { Readable (of_loaded ready) (held_mut store.old) list.now (length edges.old) (length seats.old) }
+    requires searchable { Searchable (of_loaded ready) (held_mut store.old) work.old }
+    ensures same { SameLists store.old store.new }
+    ensures loaded { LoadNodesPromise ready (seen f) (seen list) (held_mut store.old) (held_mut store.new) (borrowed roots) (borrowed edges)
+        (borrowed seats) (borrowed work) result }
 {
     match ready {
-        Loaded::Header(h) => {
-            let varinfo = h.varinfo;
-            let nnodes = h.nnodes as Index;
+        Ok(h) => {
             let setup = Setup {
                 ascii: h.ascii,
-                extra: has_extra(varinfo),
-                nnodes: nnodes,
+                extra: has_extra(h.varinfo),
+                nnodes: h.nnodes as Index,
                 lines: h.lines,
             };
-            let nodes = import::import(
-                f, h.next, setup, list, levels, count, level, then, els, next, heads, edges, seats,
-                roots, work,
-            );
-            with_nodes(h, nodes)
+            import::import(f, h.next, setup, list, store, edges, seats, roots, work)?;
+            Ok(h)
         }
-        Loaded::Refused(n, line) => {
-            zeros::clear_edges(roots);
-            zeros::clear_edges(edges);
-            zeros::clear_seats(seats);
-            zeros::clear_marks(work);
-            Loaded::Refused(n, line)
+        Err(fault) => {
+            roots.fill(0);
+            edges.fill(0);
+            seats.fill(0);
+            work.fill(0);
+            Err(fault)
         }
-    }
-}
-
-fn is_refusal(answer: Loaded) -> bool
-    ensures { result ≡ is_refusal (of_loaded answer) }
-{
-    match answer {
-        Loaded::Header(_) => false,
-        Loaded::Refused(_, _) => true,
-    }
-}
-
-fn clear_if(refused: bool, dst: &mut [u32])
-    ensures { dst.new ≡ cleared_if refused dst.old }
-{
-    if refused {
-        zeros::clear_numbers(dst);
     }
 }
 
 // The end: zeros in the lists of a load that is refused.
+#[tactic(auto, unfolding(stages::specs::Stages::cleared_if))]
 pub fn finish(
-    answer: Loaded,
+    answer: Result<DumpHeader, Fault>,
     ids: &mut [u32],
     order: &mut [u32],
     permids: &mut [u32],
@@ -120,13 +78,14 @@ pub fn finish(
     ensures { FinishPromise answer (borrowed ids) (borrowed order) (borrowed permids) (borrowed auxids) (borrowed names) (borrowed lens)
         (borrowed rootnames) (borrowed rootlens) }
 {
-    let refused = is_refusal(answer);
-    clear_if(refused, ids);
-    clear_if(refused, order);
-    clear_if(refused, permids);
-    clear_if(refused, auxids);
-    clear_if(refused, names);
-    clear_if(refused, lens);
-    clear_if(refused, rootnames);
-    clear_if(refused, rootlens);
+    if answer.is_err() {
+        ids.fill(0);
+        order.fill(0);
+        permids.fill(0);
+        auxids.fill(0);
+        names.fill(0);
+        lens.fill(0);
+        rootnames.fill(0);
+        rootlens.fill(0);
+    }
 }

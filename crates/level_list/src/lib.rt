@@ -11,15 +11,5 @@ pub fn list_fits(list: &[u16], nsuppvars: u32, levels: u16) -> bool
     if list.len() != nsuppvars as usize {
         return false;
     }
-    let mut i = 1;
-    while i < list.len() {
-        if list[i] <= list[i - 1] {
-            return false;
-        }
-        i += 1;
-    }
-    if list.len() == 0 {
-        return true;
-    }
-    list[list.len() - 1] < levels
+    list.is_sorted_by(|a, b| a < b) && list.last().is_none_or(|level| *level < levels)
 }

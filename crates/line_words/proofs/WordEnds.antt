@@ -1,20 +1,17 @@
 -- Laws of the words of a line: where they end, and the line's number before them.
 use mathlib.Core.Path.{◌≡◌, refl, ◌∙◌}
-use mathlib.Core.Bool.{Bool, true, false}
+use mathlib.Core.Bool.{Bool, false}
 use mathlib.Core.List.{List}
 use Prim.Native.Nat.{ℕ, ◌-◌, ◌^◌, ◌≤◌, ◌<◌}
 use native.Mathlib.Omega.{arith}
 use lib.ListN.{length, take, drop}
-use borrow.Author.Tests.{lt-ltb, le-ltb, eq-eqb, ne_eqb}
-use Rattle.codes.specs.Answer.{Read, value, refused, Step, got, fails}
+use borrow.Author.Tests.{lt-ltb, eq-eqb}
+use Rattle.codes.specs.Answer.{Read, value, refused, Step, got}
 use Rattle.read_lines.specs.Line.{is_of, seek}
 use Rattle.read_numbers.specs.Number.{single, ends_at, first}
 use Rattle.read_lines.specs.declared.Class.TheVariants.{Blank, NonBlank}
 use Rattle.read_lines.proofs.Searches.{found}
 use Rattle.read_numbers.proofs.Words.{first_word}
-use Rattle.line_words.specs.declared.Word.{Word}
-use Rattle.line_words.specs.declared.Word.TheVariants as word
-use Rattle.line_words.specs.Kinds.{WordWithin}
 use Rattle.line_words.specs.Words.{word_from, numbered, after_extra, variable_word}
 
 -- A word's start and end, each found by a search.
@@ -24,11 +21,6 @@ module _ (s : List ℕ) (at start end : ℕ) (a : start ≡ seek (is_of NonBlank
   pub word-ends : end < length s → got start end ≡ word_from s at
   unfolding word_from
   word-ends h = rw (← a, ← b, lt-ltb end (length s) h)
-
-  -- the line ends first
-  pub word-open : length s ≤ end → fails 32 ≡ word_from s at
-  unfolding word_from
-  word-open h = rw (← a, ← b, le-ltb end (length s) h)
 
 -- a number's end is that of its word
 ends_same : (end : ℕ) (r : Read ℕ) {v at : ℕ} → got v at ≡ ends_at end r → at ≡ end
@@ -43,54 +35,18 @@ first-within lim s e =
     let q = ends_same j (single lim (take (j - i) (drop i s))) (e ∙ first_word lim s i j refl refl) in
     omega (arith, (found (is_of NonBlank) s (length s - 0) 0).high, (found (is_of Blank) s (length s - i) i).high, q)
 
-module _ (n : ℕ) (s : List ℕ) where
-  -- The line begins with a number v.
-  module _ {v at : ℕ} (e : got v at ≡ first (2 ^ 64) s) where
-    -- it is the expected one
-    pub number-right : v ≡ n → got at at ≡ numbered n s
-    unfolding numbered
-    number-right h = rw (← e, eq-eqb v n h)
+-- a line that begins with the expected number
+pub number-right : (n : ℕ) (s : List ℕ) {v at : ℕ} → got v at ≡ first (2 ^ 64) s → v ≡ n → got at at ≡ numbered n s
+unfolding numbered
+number-right n s {v} e h = rw (← e, eq-eqb v n h)
 
-    -- it is another one
-    pub number-wrong : (v ≡ n → ⊥) → fails 31 ≡ numbered n s
-    unfolding numbered
-    number-wrong h = rw (← e, ne_eqb v n h)
+-- no word more
+pub extra-none : (extra : Bool) (s : List ℕ) (at : ℕ) → extra ≡ false → got at at ≡ after_extra extra s at
+unfolding after_extra
+extra-none extra s at h = rw h
 
-  -- the line begins with no number
-  pub number-none : {k : ℕ} → fails k ≡ first (2 ^ 64) s → fails k ≡ numbered n s
-  unfolding numbered
-  number-none e = rw (← e)
-
-module _ (extra : Bool) (s : List ℕ) (at : ℕ) where
-  -- one word more
-  pub extra-word : extra ≡ true → {r : Step ℕ} → r ≡ word_from s at → r ≡ after_extra extra s at
-  unfolding after_extra
-  extra-word h e = rw h e
-
-  -- no word more
-  pub extra-none : extra ≡ false → got at at ≡ after_extra extra s at
-  unfolding after_extra
-  extra-none h = rw h
-
-module _ (extra : Bool) (n : ℕ) (s : List ℕ) where
-  -- the line's number is refused
-  pub variable-number : {k : ℕ} → fails k ≡ numbered n s → fails k ≡ variable_word extra n s
-  unfolding variable_word
-  variable-number e = rw (← e)
-
-  module _ {v at : ℕ} (e : got v at ≡ numbered n s) where
-    -- the extra word is refused
-    pub variable-extra : {k : ℕ} → fails k ≡ after_extra extra s at → fails k ≡ variable_word extra n s
-    unfolding variable_word
-    variable-extra f = rw (← e, ← f)
-
-    -- the variable word stands after both
-    pub variable-found : {w next : ℕ} → got w next ≡ after_extra extra s at → {r : Step ℕ} → r ≡ word_from s next
-        → r ≡ variable_word extra n s
-    unfolding variable_word
-    variable-found f g = rw (← e, ← f) g
-
--- a word that was found lies inside the line
-pub word-within : (s : List ℕ) {r : Word} {start end : ℕ} → r ≡ word.At start end → WordWithin s r
-    → (start ≤ end) × (end ≤ length s)
-word-within s e h = rw e at h
+-- the variable word stands after the number and the extra word
+pub variable-found : (extra : Bool) (n : ℕ) (s : List ℕ) {v at w next : ℕ} → got v at ≡ numbered n s → got w next ≡ after_extra extra s at
+    → {r : Step ℕ} → r ≡ word_from s next → r ≡ variable_word extra n s
+unfolding variable_word
+variable-found extra n s e f g = rw (← e, ← f) g

@@ -6,31 +6,22 @@ ghost use Rattle.node_lines.specs.Line.{deeper};
 
 use edges::{Edge, Index};
 
-// A node line and the position after it, or a refusal. Children are numbers of lines, with a minus where a child is turned over.
-#[derive(Clone, Copy)]
-pub enum Decoded {
-    Terminal(usize),
-    Inner(u16, Edge, Edge, usize),
-    Refused(u8),
+// A node line. Children are numbers of lines, with a minus where a child is turned over.
+#[derive(Clone, Copy, PartialEq, Eq)]
+pub enum NodeLine {
+    Terminal,
+    Inner(u16, Edge, Edge),
 }
 
 // Whether a line lies deeper than a level. `seats` has, for each line so far, its support position counted from 1, and 0 for a terminal
 // line, which is deeper than every level.
+#[tactic(auto, unfolding(crate::specs::Line::deeper))]
 pub fn deeper(levels: &[u16], seats: &[u16], level: u16, line: Index) -> bool
     requires { 1 ≤ line }
     ensures { result ≡ deeper levels.now seats.now level line }
 {
-    let n = line as usize - 1;
-    if seats.len() <= n {
+    let Some(seat) = seats.get(line as usize - 1) else {
         return true;
-    }
-    let seat = seats[n];
-    if seat == 0 {
-        return true;
-    }
-    let p = seat as usize - 1;
-    if levels.len() <= p {
-        return false;
-    }
-    level < levels[p]
+    };
+    *seat == 0 || levels.get(*seat as usize - 1).is_some_and(|l| level < *l)
 }

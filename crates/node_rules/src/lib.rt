@@ -1,119 +1,79 @@
 // The rules of sizes and nodes: how long the lists are, and whether each node lies over lower nodes at deeper levels.
 #![tactic(auto)]
 
-ghost use Rattle.codes.specs.Lent.{seen};
-ghost use Rattle.std.specs.Prelude.{[], ◌≤◌, ◌<◌, length};
-ghost use Rattle.edges.specs.Width.{edge_limit};
-ghost use Rattle.store.specs.Lent.{old_store};
-ghost use Rattle.store.specs.Store.{store, slots};
+ghost use Rattle.std.specs.Prelude.{◌≡◌, ◌≤◌, length};
+ghost use Rattle.store.specs.Held.{held};
 ghost use Rattle.codes.specs.Limits.{limits};
-ghost use Rattle.store.specs.Rules.{Sizes, Fits};
+ghost use Rattle.store.specs.Rules.{Sizes, depth, Fits};
 ghost use Rattle.store.specs.Keeps.{Decides};
 ghost use Rattle.node_rules.specs.Check.{ChildFits, AllFit};
 
 use codes::limits;
 use edges::{Edge, Index};
+use store::StoreRef;
 
 // A chain for each of so many remainders.
 pub const BUCKETS: usize = 256;
 
 // Are the lists as long as they must be, and both counts within their limits?
-pub fn sizes_kept(
-    levels: u16,
-    count: Index,
-    level: &[u16],
-    then: &[Edge],
-    els: &[Edge],
-    next: &[Index],
-    heads: &[Index],
-) -> bool
-    ensures { Decides result (Sizes limits (old_store levels count (seen level) (seen then) (seen els) (seen next) (seen heads))) }
+pub fn sizes_kept(store: &StoreRef) -> bool
+    ensures { Decides result (Sizes limits (held store.now)) }
 {
-    if then.len() != level.len() {
-        return false;
+    let slots = store.level.len();
+    let count = store.count as usize;
+    store.then.len() == slots
+        && store.els.len() == slots
+        && store.next.len() == slots
+        && store.heads.len() == BUCKETS
+        && 1 <= count
+        && count <= slots
+        && count <= limits::NODE_LIMIT
+        && store.levels as usize <= limits::VAR_LIMIT
+}
+
+// How deep a node lies: node 1 is yes, deeper than every level.
+fn depth(store: &StoreRef, n: Index) -> u16
+    requires { (1 ≤ n) × (n ≤ length store.now.level.now) }
+    ensures { result ≡ depth (held store.now) n }
+{
+    if n == 1 {
+        return store.levels;
     }
-    if els.len() != level.len() {
-        return false;
-    }
-    if next.len() != level.len() {
-        return false;
-    }
-    if heads.len() != BUCKETS {
-        return false;
-    }
-    let slots = count as usize;
-    if slots < 1 {
-        return false;
-    }
-    if level.len() < slots {
-        return false;
-    }
-    if limits::NODE_LIMIT < slots {
-        return false;
-    }
-    let deepest = levels as usize;
-    if limits::VAR_LIMIT < deepest {
-        return false;
-    }
-    true
+    store.level[(n - 1) as usize]
 }
 
 // May node n at level l have this child?
-pub fn child_fits(levels: u16, level: &[u16], n: Index, l: u16, e: Edge) -> bool
-    requires { n ≤ length level.now }
-    ensures { Decides result (ChildFits (store levels 0 level.now [] [] [] []) n l e) }
+pub fn child_fits(store: &StoreRef, n: Index, l: u16, e: Edge) -> bool
+    requires { n ≤ length store.now.level.now }
+    ensures { Decides result (ChildFits (held store.now) n l e) }
 {
     let m = edges::magnitude(e);
-    if m == 0 {
-        return false;
-    }
-    if n <= m {
-        return false;
-    }
-    if m == 1 {
-        return l < levels;
-    }
-    let i = (m - 1) as usize;
-    let deep = level[i];
-    l < deep
+    1 <= m && m < n && l < depth(store, m)
 }
 
 // May a node have this number, level, then and else?
-pub fn node_fits(levels: u16, level: &[u16], n: Index, l: u16, t: Edge, e: Edge) -> bool
-    requires { n ≤ length level.now }
-    ensures { Decides result (Fits (store levels 0 level.now [] [] [] []) n l t e) }
+#[tactic(auto, using(crate::proofs::Fit::fits_last))]
+pub fn node_fits(store: &StoreRef, n: Index, l: u16, t: Edge, e: Edge) -> bool
+    requires { n ≤ length store.now.level.now }
+    ensures { Decides result (Fits (held store.now) n l t e) }
 {
-    if levels <= l {
-        return false;
-    }
-    if edges::is_minus(t) {
-        return false;
-    }
-    if edges::same(t, e) {
-        return false;
-    }
-    if !child_fits(levels, level, n, l, t) {
-        return false;
-    }
-    child_fits(levels, level, n, l, e)
+    l < store.levels
+        && !edges::is_minus(t)
+        && !edges::same(t, e)
+        && child_fits(store, n, l, t)
+        && child_fits(store, n, l, e)
 }
 
 // Does every node fit?
-pub fn nodes_fit(levels: u16, count: Index, level: &[u16], then: &[Edge], els: &[Edge]) -> bool
-    requires le_count { (1 ≤ count) × (count < edge_limit) }
-    requires count_in_bounds { (count ≤ length level.now) × ((count ≤ length then.now) × (count ≤ length els.now)) }
-    ensures { Decides result (AllFit (store levels count level.now then.now els.now [] [])) }
+pub fn nodes_fit(store: &StoreRef) -> bool
+    requires { (store.now.count ≤ length store.now.level.now) × ((store.now.count ≤ length store.now.then.now) × (store.now.count ≤ length store.now.els.now)) }
+    ensures { Decides result (AllFit (held store.now)) }
 {
-    let mut n: Index = 2;
-    while n <= count {
+    for n in 2..=store.count {
         let i = (n - 1) as usize;
-        let l = level[i];
-        let t = then[i];
-        let e = els[i];
-        if !node_fits(levels, level, n, l, t, e) {
+        if !node_fits(store, n, store.level[i], store.then[i], store.els[i]) {
             return false;
         }
-        n += 1;
     }
     true
 }

@@ -1,4 +1,3 @@
 pub mod LineBytes
-pub mod LineCodes
 pub mod LineLengths
 pub mod Parts

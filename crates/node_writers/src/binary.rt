@@ -13,12 +13,7 @@ fn code_bits(code: Code) -> u8
     ensures value { result ≡ code_bits code }
     ensures upper_bound { result < 4 }
 {
-    match code {
-        Code::Terminal => 0,
-        Code::AbsoluteID => 1,
-        Code::RelativeID => 2,
-        Code::Relative1 => 3,
-    }
+    code as u8
 }
 
 fn node_code(variable: Code, then: Code, complement: bool, els: Code) -> u8
@@ -29,6 +24,7 @@ fn node_code(variable: Code, then: Code, complement: bool, els: Code) -> u8
 }
 
 // The code of a child of line n.
+#[tactic(auto, unfolding(crate::specs::Encoded::child_code))]
 fn child_code(n: Index, c: Index) -> Code
     requires { c < n }
     ensures { result ≡ child_code n c }
@@ -55,20 +51,18 @@ pub fn smaller(t: u16, e: u16) -> u16
     if e == 0 {
         return t;
     }
-    if t < e { t } else { e }
+    t.min(e)
 }
 
 // How far a support position lies before that of a seat; 0 where it doesn't.
 fn distance(p: u16, seat: u16) -> u16
     ensures { result ≡ seat - 1 - p }
 {
-    if seat <= p {
-        return 0;
-    }
-    seat - 1 - p
+    seat.saturating_sub(1).saturating_sub(p)
 }
 
 // The code of a variable at support position p, by the seat that it may count down from.
+#[tactic(auto, unfolding(crate::specs::Encoded::variable_code))]
 fn variable_code(p: u16, seat: u16) -> Code
     ensures { result ≡ variable_code p seat }
 {
@@ -91,10 +85,9 @@ fn put_number(out: &mut [u8], at: usize, code: Code, absolute: u64, distance: u6
     ensures { Written (borrowed out) at (number_for code absolute distance) result }
 {
     match code {
-        Code::Terminal => at,
+        Code::Terminal | Code::Relative1 => at,
         Code::AbsoluteID => writers::binary::encode_7bit(out, at, absolute),
         Code::RelativeID => writers::binary::encode_7bit(out, at, distance),
-        Code::Relative1 => at,
     }
 }
 

@@ -9,6 +9,7 @@ ghost use Rattle.node_writers.specs.Encoded.{text_bytes};
 use edges::{Edge, Index};
 
 // Writes the terminal's line.
+#[tactic(auto, unfolding(crate::specs::Encoded::text_bytes, writers::specs::Words::spaced))]
 pub fn put_terminal(out: &mut [u8], at: usize, n: Index) -> usize
     requires { FitsOut out.old at (text_bytes n terminal) }
     ensures { Written (borrowed out) at (text_bytes n terminal) result }
@@ -36,6 +37,7 @@ fn put_edge(out: &mut [u8], at: usize, e: Edge) -> usize
 }
 
 // Writes a line of a support position and two children.
+#[tactic(auto, unfolding(crate::specs::Encoded::text_bytes, writers::specs::Words::spaced))]
 pub fn put_inner(out: &mut [u8], at: usize, n: Index, p: u16, t: Edge, e: Edge) -> usize
     requires { FitsOut out.old at (text_bytes n (inner p t e)) }
     ensures { Written (borrowed out) at (text_bytes n (inner p t e)) result }

@@ -1,48 +1,45 @@
--- A list whose first entries are copied over the front of a lent one.
-use mathlib.Core.Path.{◌≡◌, refl, ap, ◌∙◌}
-use mathlib.Core.List.{List, [], ◌∷◌, ◌++◌}
+-- A list that is copied over the front of a lent one.
+use mathlib.Core.Path.{◌≡◌, refl, sym, ap, ap₂, ◌∙◌}
+use mathlib.Core.List.{List, [], ◌∷◌}
 use Prim.Native.Nat.{ℕ, suc, ◌+◌, ◌≤◌, ◌<◌}
 use native.Mathlib.Omega.{arith}
-use lib.ListN.{length, get_or, set, take, length-set}
-use lib.Seq.{take-suc, length-take-le}
-use lib.IntN.{ℤ}
-use mir.Syntax.{w16}
-use mir.Val.{SFits, to_z, of_z}
-use mir.ValLaws.{to_z-of_z}
-use Rattle.edges.specs.Width.{edge_width}
-use Rattle.edges.proofs.Signed.{edge-back, abs-most}
+use native.Mathlib.Decide.{ℕ_discrete}
+use Rattle.std.specs.Prelude.{Some, slice_get}
+use lib.ListN.{length, get_or, set, drop}
+use Rattle.std.proofs.lemmas.List.{get_or-set_same, get_or-set_other}
+use Rattle.std.proofs.lemmas.Option.{get_or_from_slice_get, slice_get-get_or, slice_get_within}
 use Rattle.codes.specs.Lent.{laid}
-use Rattle.codes.proofs.Lent.{laid_none, laid_more}
 
--- the first i of n entries are copied, and the rest is as it was
-pub record Copied {A : Type 0} (from old to : List A) (n i : ℕ) : Type 0 where
-  pub few : i ≤ n
-  pub long : length to ≡ length old
-  pub lies : to ≡ laid (take i from) old
+-- each of the first n entries is in a relation to its copy
+abbrev pub Front : {A B : Type 0} → (A → B → Type 0) → List A → List B → ℕ → Type 0
+Front R from to n = (k : ℕ) (a : _) (b : _) → k < n → slice_get from k ≡ Some a → slice_get to k ≡ Some b → R a b
 
-module _ {A : Type 0} {from old : List A} {n : ℕ} where
-  -- none yet
-  pub copied-start : Copied from old old n 0
-  copied-start = record { few = omega arith; long = refl; lies = laid_none old }
+-- one copy more
+module _ {A B : Type 0} (R : A → B → Type 0) (from : List A) (to : List B) (i : ℕ) (x : A) (y : B) where
+  pub front_more : x ≡ get_or from i x → i < length to → R x y → Front R from to i → Front R from (set to i y) (i + 1)
+  front_more q l r f k a b h p s = go (ℕ_discrete k i)
+    where
+      go : Dec (k ≡ i) → R a b
+      go (yes e) =
+          let A : x ≡ a = q ∙ ap (λ (j : ℕ). get_or from j x) (sym e) ∙ get_or_from_slice_get from k a x p in
+          let B : y ≡ b = sym (get_or-set_same to i y y l) ∙ ap (λ (j : ℕ). get_or (set to i y) j y) (sym e) ∙ get_or_from_slice_get (set to i y) k b y s in
+          rw (A, B) at r
+      go (no g) =
+          let B : get_or to k b ≡ b = sym (get_or-set_other to i k y b g) ∙ get_or_from_slice_get (set to i y) k b b s in
+          f k a b (omega arith) p (slice_get-get_or to k b (omega (arith, slice_get_within (set to i y) k b s)) ∙ ap Some B)
 
-  module _ {to : List A} {i : ℕ} (c : Copied from old to n i) where
-    -- one more
-    pub copied_more : i < n → n ≤ length from → (z : A) {a : A} → a ≡ get_or from i z → Copied from old (set to i a) n (i + 1)
-    copied_more h k z {a} q =
-        let s : i + 1 ≡ suc i = omega arith in
-        let e : take (i + 1) from ≡ take i from ++ (get_or from i z ∷ []) = ap (λ (j : ℕ). take j from) s ∙ take-suc from i z (omega arith) in
-        let l : length (take i from) ≡ i = length-take-le i from (omega arith) in
-        record {
-          few = omega arith;
-          long = length-set to i a ∙ c.long;
-          lies = rw (c.lies, q, e) (rw l at (laid_more (take i from) old (get_or from i z)));
-        }
+-- where the copies are the entries, they are laid over the front
+pub front-laid : {A : Type 0} (from old to : List A) → length from ≤ length old → length to ≡ length old
+    → ((k : ℕ) (a b : A) → slice_get from k ≡ Some a → slice_get to k ≡ Some b → b ≡ a) → drop (length from) to ≡ drop (length from) old → to ≡ laid from old
+unfolding laid
+front-laid [] old to h l f r = r
+front-laid (a ∷ from) [] to h l f r = absurd (omega arith)
+front-laid (a ∷ from) (o ∷ old) [] h l f r = absurd (omega arith)
+front-laid (a ∷ from) (o ∷ old) (b ∷ to) h l f r =
+    ap₂ ◌∷◌ (f 0 a b refl refl) (front-laid from old to (omega arith) (omega arith) (λ k. f (suc k)) r)
 
-    -- all of them
-    pub copied-end : n ≤ i → {was : List A} → old ≡ was → to ≡ laid (take n from) was
-    copied-end h q = let e : i ≡ n = omega (arith, c.few) in rw (← q) (rw e at c.lies)
-
--- a number of 16 bits that was read and then written in an edge's width
-pub edge-copied : (e : ℤ) → SFits w16 e → {r : ℤ} → r ≡ to_z w16 (of_z w16 e) → to_z edge_width (of_z edge_width r) ≡ e
-edge-copied e f q =
-    rw q (edge-back edge_width (to_z w16 (of_z w16 e)) (omega (arith, abs-most w16 e f)) ∙ to_z-of_z w16 e f)
+-- and where the list was filled with zeros, zeros follow
+pub laid-filled : {A : Type 0} (from filled to : List A) {zeros : List A} → length from ≤ length filled → filled ≡ zeros → length to ≡ length filled
+    → ((k : ℕ) (a b : A) → slice_get from k ≡ Some a → slice_get to k ≡ Some b → b ≡ a) → drop (length from) to ≡ drop (length from) filled
+    → to ≡ laid from zeros
+laid-filled from filled to h z l f r = front-laid from filled to h l f r ∙ ap (laid from) z

@@ -7,6 +7,7 @@ use native.Mathlib.Decide.{ℕ_discrete}
 use borrow.Author.Tests.{eq-eqb, ne_eqb}
 use lib.ListN.{get_or}
 use lib.IntN.{nat_abs}
+use Rattle.std.proofs.Common.{Some, None}
 use Rattle.store.specs.Store.{Store, then_at, else_at}
 use Rattle.reached.specs.Meet.{Descends, Looks, children_of, first_unmarked}
 use Rattle.reached.proofs.Members.{Among, Each, each_none, each-cons}
@@ -47,23 +48,23 @@ module _ {σ : Store} {many n : ℕ} (l : Looks σ many n) (e : n ≡ 1 → ⊥)
 -- The children of node n, and their marks.
 module _ (σ : Store) (marks : List ℕ) (n : ℕ) where
   -- the terminal has none
-  pub child-last : n ≡ 1 → 0 ≡ first_unmarked marks (children_of σ n)
+  pub child-last : n ≡ 1 → None ≡ first_unmarked marks (children_of σ n)
   unfolding first_unmarked
   child-last e = rw (children-last σ n e)
 
   -- Any other node has a then.
   module _ (e : n ≡ 1 → ⊥) {t : ℕ} (p : t ≡ nat_abs (then_at σ n)) where
     -- it is the first where it has no mark
-    pub child-then : get_or marks (t - 1) 0 ≡ 0 → t ≡ first_unmarked marks (children_of σ n)
+    pub child-then : get_or marks (t - 1) 0 ≡ 0 → Some t ≡ first_unmarked marks (children_of σ n)
     unfolding first_unmarked
     child-then z = rw (children-inner σ n e, ← p, eq-eqb _ 0 z)
 
     -- Where it has one the else comes.
     module _ (z : get_or marks (t - 1) 0 ≡ 0 → ⊥) {k : ℕ} (q : k ≡ nat_abs (else_at σ n)) where
-      pub child-else : get_or marks (k - 1) 0 ≡ 0 → k ≡ first_unmarked marks (children_of σ n)
+      pub child-else : get_or marks (k - 1) 0 ≡ 0 → Some k ≡ first_unmarked marks (children_of σ n)
       unfolding first_unmarked
       child-else y = rw (children-inner σ n e, ← p, ← q, ne_eqb _ 0 z, eq-eqb _ 0 y)
 
-      pub child-none : (get_or marks (k - 1) 0 ≡ 0 → ⊥) → 0 ≡ first_unmarked marks (children_of σ n)
+      pub child-none : (get_or marks (k - 1) 0 ≡ 0 → ⊥) → None ≡ first_unmarked marks (children_of σ n)
       unfolding first_unmarked
       child-none y = rw (children-inner σ n e, ← p, ← q, ne_eqb _ 0 z, ne_eqb _ 0 y)

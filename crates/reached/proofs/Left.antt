@@ -8,6 +8,8 @@ use native.Mathlib.Decide.{ℕ_discrete}
 use borrow.Author.Tests.{eqb-true, eqb-false}
 use lib.Dec.{eqb}
 use lib.ListN.{length, get_or}
+use Rattle.std.proofs.Common.{Some, None}
+use Rattle.std.proofs.lemmas.Option.{none-some, same_Some}
 use Rattle.store.specs.Store.{Store}
 use Rattle.reached.specs.Meet.{is_in, meet, Marks, Descends, children_of, first_unmarked}
 use Rattle.reached.proofs.Entries.{in-here, in_rest}
@@ -42,7 +44,7 @@ module _ (σ : Store) (count : ℕ) (descends : (n : ℕ) → 2 ≤ n → n ≤ 
   -- Nodes of a list are to be met, and those that were met are marked.
   module _ (met marks : List ℕ) (m : Marks met marks) (long : count ≤ length marks) where
     -- where all of them have marks they add nothing
-    pub nodes-marked : (ns rest : List ℕ) → Each (Among count) ns → first_unmarked marks ns ≡ 0 → meet_nodes σ met (ns ++ rest) ≡ meet_nodes σ met rest
+    pub nodes-marked : (ns rest : List ℕ) → Each (Among count) ns → first_unmarked marks ns ≡ None → meet_nodes σ met (ns ++ rest) ≡ meet_nodes σ met rest
     unfolding first_unmarked
     nodes-marked [] rest a e = refl
     nodes-marked (n ∷ ns) rest a e = go (eqb (get_or marks (n - 1) 0) 0) refl e (nodes-marked ns rest (λ x q. a x (in_rest x n ns q)))
@@ -50,10 +52,10 @@ module _ (σ : Store) (count : ℕ) (descends : (n : ℕ) → 2 ≤ n → n ≤ 
         q : Among count n
         q = a n (in-here n ns)
 
-        go : (b : Bool) → eqb (get_or marks (n - 1) 0) 0 ≡ b → cond b n (first_unmarked marks ns) ≡ 0
-            → (first_unmarked marks ns ≡ 0 → meet_nodes σ met (ns ++ rest) ≡ meet_nodes σ met rest)
+        go : (b : Bool) → eqb (get_or marks (n - 1) 0) 0 ≡ b → cond b (Some n) (first_unmarked marks ns) ≡ None
+            → (first_unmarked marks ns ≡ None → meet_nodes σ met (ns ++ rest) ≡ meet_nodes σ met rest)
             → meet_nodes σ met ((n ∷ ns) ++ rest) ≡ meet_nodes σ met rest
-        go true t e more = absurd (omega (arith, q.0))
+        go true t e more = absurd (none-some n (sym e))
         go false t e more =
             nodes-old σ met n [] (ns ++ rest) (marks-in met marks n m q.0 (omega (arith, q.1)) (eqb-false _ 0 t)) ∙ more e
 
@@ -64,21 +66,21 @@ module _ (σ : Store) (count : ℕ) (descends : (n : ℕ) → 2 ≤ n → n ≤ 
       -- is met next, before its children
       pub next : meet_nodes σ met (ns ++ rest) ≡ meet_nodes σ (met ++ (r ∷ [])) (children_of σ r ++ (ns ++ rest))
 
-    pub nodes-first : (ns rest : List ℕ) (r : ℕ) → Each (Among count) ns → r ≡ first_unmarked marks ns → (r ≡ 0 → ⊥) → First ns rest r
+    pub nodes-first : (ns rest : List ℕ) (r : ℕ) → Each (Among count) ns → Some r ≡ first_unmarked marks ns → First ns rest r
     unfolding first_unmarked
-    nodes-first [] rest r a e z = absurd (z e)
-    nodes-first (n ∷ ns) rest r a e z =
-        go (eqb (get_or marks (n - 1) 0) 0) refl e (λ q. nodes-first ns rest r (λ x k. a x (in_rest x n ns k)) q z)
+    nodes-first [] rest r a e = absurd (none-some r (sym e))
+    nodes-first (n ∷ ns) rest r a e =
+        go (eqb (get_or marks (n - 1) 0) 0) refl e (λ q. nodes-first ns rest r (λ x k. a x (in_rest x n ns k)) q)
       where
         q : Among count n
         q = a n (in-here n ns)
 
-        go : (b : Bool) → eqb (get_or marks (n - 1) 0) 0 ≡ b → r ≡ cond b n (first_unmarked marks ns)
-            → (r ≡ first_unmarked marks ns → First ns rest r) → First (n ∷ ns) rest r
+        go : (b : Bool) → eqb (get_or marks (n - 1) 0) 0 ≡ b → Some r ≡ cond b (Some n) (first_unmarked marks ns)
+            → (Some r ≡ first_unmarked marks ns → First ns rest r) → First (n ∷ ns) rest r
         go true t e more =
             let u = eqb-true (get_or marks (n - 1) 0) 0 t in
             let out = marks-out met marks n m q.0 (omega (arith, q.1)) u in
-            rw e
+            rw (same_Some r n e)
             (record {
               free = u;
               one = in-here n ns;

@@ -6,6 +6,7 @@ use native.Mathlib.Omega.{arith}
 use native.Mathlib.Nat.{le_refl}
 use lib.ListN.{length, get_or, take, set, length-set}
 use lib.Seq.{length-take-le, take-set-le, get_or-set_same}
+use Rattle.std.proofs.Common.{Some, None}
 use Rattle.codes.specs.Limits.{node_limit}
 use Rattle.codes.proofs.Lent.{length-laid}
 use Rattle.store.specs.Store.{Store}
@@ -81,12 +82,12 @@ module _ {σ : Store} {all old : List ℕ} {many start : ℕ} {met marks : List 
       }
 
   -- Where all of them are marked, the walk goes back.
-  module _ {c : ℕ} (e : c ≡ first_unmarked marks (children_of σ n)) (z : c ≡ 0) where
+  module _ (e : None ≡ first_unmarked marks (children_of σ n)) where
     -- nothing is to be met but what the way back has
     passed-by : meet_nodes σ w.nodes w.rest ≡ all
     passed-by =
         let b = w.below in
-        sym (nodes-marked σ b.count b.descends w.nodes marks w.held.listed.marked marks-reach _ w.rest lower-among (sym e ∙ z)) ∙ w.left
+        sym (nodes-marked σ b.count b.descends w.nodes marks w.held.listed.marked marks-reach _ w.rest lower-among (sym e)) ∙ w.left
 
     -- that is nothing at its end
     pub walk_ends : get_or marks (n - 1) 0 ≡ n → ListedNodes all old at met marks
@@ -114,11 +115,11 @@ module _ {σ : Store} {all old : List ℕ} {many start : ℕ} {met marks : List 
           }
 
   -- Where one of them isn't marked, it goes down to the first such.
-  module _ {c : ℕ} (e : c ≡ first_unmarked marks (children_of σ n)) (z : c ≡ 0 → ⊥) where
+  module _ {c : ℕ} (e : Some c ≡ first_unmarked marks (children_of σ n)) where
     first : First σ w.below.count w.below.descends w.nodes marks w.held.listed.marked marks-reach (children_of σ n) w.rest c
     first =
         let b = w.below in
-        nodes-first σ b.count b.descends w.nodes marks w.held.listed.marked marks-reach (children_of σ n) w.rest c lower-among e z
+        nodes-first σ b.count b.descends w.nodes marks w.held.listed.marked marks-reach (children_of σ n) w.rest c lower-among e
 
     child : Lower n c
     child = lower c first.one
@@ -127,8 +128,8 @@ module _ {σ : Store} {all old : List ℕ} {many start : ℕ} {met marks : List 
     child-among = lower-among c first.one
 
     -- it can have a mark
-    pub walk-mark : c ≤ length marks
-    walk-mark = omega (arith, child-among, marks-reach)
+    pub walk-mark : Among (length marks) c
+    walk-mark = (child-among.0, omega (arith, child-among, marks-reach))
 
     -- there is room for it
     pub walk-room : (at < length old) × (at < node_limit)

@@ -1,6 +1,6 @@
 -- The walk as the code makes it: a node that was met is passed over, with all under it. It meets what `Walk` says, in that order. And what its
 -- functions ask of each other.
-use Rattle.std.specs.Prelude.{ℕ, zero, suc, ◌+◌, ◌-◌, ◌≤◌, ◌<◌, ◌≡◌, Bool, true, false, cond, not, List, [], ◌∷◌, ◌++◌, eqb, length, get_or, take, ℤ, pos, nat_abs}
+use Rattle.std.specs.Prelude.{ℕ, zero, suc, ◌+◌, ◌-◌, ◌≤◌, ◌<◌, ◌≡◌, Bool, true, false, cond, not, List, [], ◌∷◌, ◌++◌, Option, Some, None, eqb, length, get_or, take, ℤ, pos, nat_abs}
 use Rattle.codes.specs.Limits.{node_limit}
 use Rattle.codes.specs.Lent.{laid}
 use Rattle.store.specs.Store.{Store, store, then_at, else_at}
@@ -39,10 +39,10 @@ Marks met marks = (i : ℕ) → i < length marks → is_in (i + 1) met ≡ not (
 unfoldable pub children_of : Store → ℕ → List ℕ
 children_of σ n = cond (eqb n 1) [] (nat_abs (then_at σ n) ∷ nat_abs (else_at σ n) ∷ [])
 
--- the first number of a list that has no mark, 0 for none
-unfoldable pub first_unmarked : List ℕ → List ℕ → ℕ
-first_unmarked marks [] = 0
-first_unmarked marks (n ∷ ns) = cond (eqb (get_or marks (n - 1) 0) 0) n (first_unmarked marks ns)
+-- the first number of a list that has no mark
+unfoldable pub first_unmarked : List ℕ → List ℕ → Option ℕ
+first_unmarked marks [] = None
+first_unmarked marks (n ∷ ns) = cond (eqb (get_or marks (n - 1) 0) 0) (Some n) (first_unmarked marks ns)
 
 -- what a walk leans on: children that are lower numbers, never 0; roots among the nodes; and room for each node
 pub record Descends (σ : Store) (n : ℕ) : Type 0 where

@@ -1,5 +1,5 @@
 -- What a walk promises.
-use Rattle.std.specs.Prelude.{ℕ, ◌≡◌, List, [], length, replicate, take, ℤ}
+use Rattle.std.specs.Prelude.{ℕ, ◌≡◌, List, [], Option, length, replicate, take, ℤ}
 use Rattle.store.specs.Store.{Store, store}
 use Rattle.codes.specs.Lent.{Part, old, new}
 use Rattle.reached.specs.Walk.{first_met}
@@ -11,7 +11,7 @@ module _ (then els : Part (List ℤ)) where
   links = store 0 0 [] (old then) (old els) [] []
 
   -- the first child that has no mark
-  abbrev pub NextChildPromise : Part (List ℕ) → ℕ → ℕ → Type 0
+  abbrev pub NextChildPromise : Part (List ℕ) → ℕ → Option ℕ → Type 0
   NextChildPromise marks n r = r ≡ first_unmarked (old marks) (children_of links n)
 
   -- the node and those under it that weren't listed are, after the first `at`; all that are listed are marked

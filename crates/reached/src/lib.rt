@@ -17,23 +17,23 @@ fn under(links: &[Edge], n: Index) -> Index
     edges::magnitude(links[n as usize - 1])
 }
 
-// The first child of a node that isn't marked, 0 for none: the terminal has no children.
-fn next_child(then: &[Edge], els: &[Edge], marks: &[Index], n: Index) -> Index
+// The first child of a node that isn't marked: the terminal has no children.
+fn next_child(then: &[Edge], els: &[Edge], marks: &[Index], n: Index) -> Option<Index>
     requires { Looks (store 0 0 [] then.now els.now [] []) (length marks.now) n }
     ensures { NextChildPromise (seen then) (seen els) (seen marks) n result }
 {
     if n == 1 {
-        return 0;
+        return None;
     }
     let t = under(then, n);
     if marks[t as usize - 1] == 0 {
-        return t;
+        return Some(t);
     }
     let e = under(els, n);
     if marks[e as usize - 1] == 0 {
-        return e;
+        return Some(e);
     }
-    0
+    None
 }
 
 // Meets a node, and then all under its then, and then all under its else, but for those that are marked: the numbers of the others go into
@@ -57,18 +57,20 @@ fn meet(
     let mut next = at + 1;
     let mut n = first;
     loop {
-        let child = next_child(then, els, marks, n);
-        if child != 0 {
-            marks[child as usize - 1] = n;
-            met[next] = child;
-            next += 1;
-            n = child;
-        } else {
-            let parent = marks[n as usize - 1];
-            if parent == n {
-                return next;
+        match next_child(then, els, marks, n) {
+            Some(child) => {
+                marks[child as usize - 1] = n;
+                met[next] = child;
+                next += 1;
+                n = child;
             }
-            n = parent;
+            None => {
+                let parent = marks[n as usize - 1];
+                if parent == n {
+                    return next;
+                }
+                n = parent;
+            }
         }
     }
 }
@@ -86,10 +88,8 @@ pub fn meet_all(
     ensures { MeetAllPromise (seen then) (seen els) (seen roots) (borrowed met) (borrowed marks) result }
 {
     let mut at: usize = 0;
-    let mut i: usize = 0;
-    while i < roots.len() {
-        at = meet(then, els, edges::magnitude(roots[i]), met, marks, at);
-        i += 1;
+    for root in roots {
+        at = meet(then, els, edges::magnitude(*root), met, marks, at);
     }
     at
 }

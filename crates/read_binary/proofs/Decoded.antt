@@ -1,6 +1,6 @@
--- Bytes at a position, by cases, and a number by its next byte: what the proofs of `read_unescape` and `decode_7bit` cite. Document 01,
+-- Bytes at a position, by cases, and a number by its next byte: what the proofs of `decode_7bit` and of the writers cite. Document 01,
 -- 'Node lines'. What numbers are is in `Groups`.
-use mathlib.Core.Path.{◌≡◌, refl, sym, ap, ◌∙◌}
+use mathlib.Core.Path.{◌≡◌, refl, ◌∙◌}
 use mathlib.Core.Bool.{Bool, true, false, cond}
 use mathlib.Core.List.{List}
 use mathlib.Core.Logic.{◌⊎◌, inl, inr}
@@ -10,10 +10,7 @@ use lib.ListN.{length, get_or}
 use lib.Dec.{ltb, eqb}
 use borrow.Author.Tests.{ltb-true, lt-ltb, le-ltb, eq-eqb, ne_eqb}
 use Rattle.codes.specs.Answer.{Step, got, fails, then}
-use Rattle.read_binary.specs.declared.Byte.{Byte}
-use Rattle.read_binary.specs.declared.Byte.TheVariants as byte
 use Rattle.read_binary.specs.Binary.{meant, byte_at, grouped, groups_from, number_at}
-use Rattle.read_binary.specs.Kinds.{of_byte}
 
 -- A byte, by the test that decides what it is: past the end, as it is, cut after a 00, or escaped.
 module _ (f : List ℕ) (at : ℕ) where
@@ -142,11 +139,3 @@ module _ {f : List ℕ} {at v i : ℕ} (g : Going f at v i) where
             enough = omega (arith, g.enough);
             rest = turned ∙ rw (e, lt-ltb (v * 128 + b / 2) (2 ^ 64), ne_eqb (b % 2) 0);
           }
-
--- What an answer of `read_unescape` says of the byte.
-module _ (f : List ℕ) (i : ℕ) {r : Byte} (e : of_byte r ≡ byte_at f i) where
-  pub byte_of : {b next : ℕ} → r ≡ byte.Value b next → byte_at f i ≡ got b next
-  byte_of k = sym e ∙ ap of_byte k
-
-  pub refusal-of : {n : ℕ} → r ≡ byte.Refused n → byte_at f i ≡ fails n
-  refusal-of k = sym e ∙ ap of_byte k

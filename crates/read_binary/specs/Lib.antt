@@ -1,3 +1,2 @@
 pub mod Binary
 pub mod Groups
-pub mod Kinds

@@ -24,9 +24,6 @@ use Rattle.read_lists.specs.Lists.{Listed, listed}
 use Rattle.read_lists.specs.Judged.{Reads, Judged}
 use Rattle.read_lists.specs.Judged as judged
 use Rattle.read_lists.proofs.Judged.{judged-judge, judge-judged}
-use Rattle.read_edges.specs.declared.Entry.{Entry}
-use Rattle.read_edges.specs.declared.Entry.TheVariants as entry
-use Rattle.read_edges.specs.Kinds.{of_entry}
 use Rattle.read_edges.specs.Edges.{signed, with_sign, magnitude_of, after_minus, entry_bytes, entry_of, edge_list, pair, children}
 use Rattle.read_edges.specs.Entries.{EntryAnswers, reads, over, strange, second, inside, alone, Entries, none, more}
 use Rattle.read_edges.proofs.Entries.{entry-plain, entry-minus, answers-entry, entry-answers}
@@ -47,12 +44,6 @@ signed-fits true v h = negated_fits v h
 signed-fits false v h = record { sfits = h }
 
 -- what an answer of the code says of the definition
-pub entry_value : {r : Entry} {a : ℤ} {x : Read ℤ} → r ≡ entry.Value a → of_entry r ≡ x → x ≡ value a
-entry_value k e = sym e ∙ rw k
-
-pub entry-refusal : {r : Entry} {n : ℕ} {x : Read ℤ} → r ≡ entry.Refused n → of_entry r ≡ x → x ≡ refused n
-entry-refusal k e = sym e ∙ rw k
-
 -- So is an entry that is read.
 by_fits : (minus : Bool) (r : Read ℕ) {a : ℤ} → ((v : ℕ) → r ≡ value v → v < 2 ^ 63) → with_sign minus r ≡ value a → SFits w64 a
 by_fits minus (value v) {a} h e = let k : a ≡ signed minus v = cc in rw k (signed-fits minus v (h v refl))

@@ -1,13 +1,13 @@
 -- The definition judges an entry from left to right; these laws say what it answers, by its bytes.
 use mathlib.Core.Path.{◌≡◌, refl, sym, ap, ◌∙◌}
-use mathlib.Core.Bool.{Bool, true, false, cond}
+use mathlib.Core.Bool.{Bool, true, false, cond, ◌&&◌}
 use mathlib.Core.List.{List, [], ◌∷◌, ◌++◌}
-use Prim.Native.Nat.{ℕ, suc, ◌-◌, ◌^◌, ◌<◌}
+use Prim.Native.Nat.{ℕ, ◌^◌}
 use native.Mathlib.Omega.{arith}
-use lib.ListN.{length, get_or, take, drop}
-use lib.Seq.{take_all}
+use lib.ListN.{length, take, drop}
 use lib.IntN.{ℤ}
 use lib.Dec.{eqb}
+use lib.Pointwise.{pointwise}
 use borrow.Author.Tests.{eqb-true, eqb-false, ne_eqb, eq-eqb}
 use Rattle.codes.specs.Answer.{Read, refused}
 use Rattle.codes.specs.Bytes.{is_digit}
@@ -126,17 +126,35 @@ entry-answers (x ∷ d) h = of (eqb x 45) refl d refl
         let n : x ≡ 45 → ⊥ = eqb-false _ _ q in
         rw (entry-plain x d n) (magnitude-answers false (x ∷ d) refl (some_more [] x d) (λ k r v. n (cc)))
 
--- An entry as the code takes it apart: by its first byte, and whether another follows.
-pub begins-plain : (w : List ℕ) → 0 < length w → (get_or w 0 0 ≡ 45 → ⊥) → entry_bytes w ≡ magnitude_of false w
-begins-plain [] l k = absurd (omega arith)
-begins-plain (x ∷ d) l k = entry-plain x d k
+-- An entry as the code takes it apart: with a minus in front or none, and whether a byte follows.
+alone-true : (b : Bool) → b && true ≡ b
+alone-true true = refl
+alone-true false = refl
 
-pub begins-alone : (w : List ℕ) → length w ≡ 1 → get_or w 0 0 ≡ 45 → entry_bytes w ≡ refused 17
-begins-alone [] l k = absurd (omega arith)
-begins-alone (x ∷ []) l k = entry-minus x [] k
-begins-alone (x ∷ y ∷ d) l k = absurd (omega arith)
+pub begins-plain : (w : List ℕ) → pointwise eqb (take 1 w) (45 ∷ []) ≡ false → entry_bytes w ≡ magnitude_of false w
+unfolding entry_bytes
+begins-plain [] h = refl
+begins-plain (x ∷ d) h = let k : eqb x 45 ≡ false = sym (alone-true (eqb x 45)) ∙ h in rw k
 
-pub begins-minus : (w : List ℕ) → 0 < length w → (length w ≡ 1 → ⊥) → get_or w 0 0 ≡ 45 → entry_bytes w ≡ magnitude_of true (take (length w - 1) (drop 1 w))
-begins-minus [] l h k = absurd (omega arith)
-begins-minus (x ∷ []) l h k = absurd (h refl)
-begins-minus (x ∷ y ∷ d) l h k = entry-minus x (y ∷ d) k ∙ ap (magnitude_of true) (sym (take_all (suc (suc (length d)) - 1) (y ∷ d) (omega arith)))
+begins : (w : List ℕ) → pointwise eqb (take 1 w) (45 ∷ []) ≡ true → entry_bytes w ≡ after_minus (drop 1 w)
+unfolding entry_bytes
+begins [] h = absurd (let z : ◌≡◌ {A = ℕ} 0 1 = cc in omega arith)
+begins (x ∷ d) h = let k : eqb x 45 ≡ true = sym (alone-true (eqb x 45)) ∙ h in rw k
+
+module _ (w d : List ℕ) (h : pointwise eqb (take 1 w) (45 ∷ []) ≡ true) (e : d ≡ drop 1 w) where
+  behind_minus : entry_bytes w ≡ after_minus d
+  behind_minus = rw e (begins w h)
+
+  pub begins-alone : length d ≡ 0 → entry_bytes w ≡ refused 17
+  begins-alone k = behind_minus ∙ of d k
+    where
+      of : (d : List ℕ) → length d ≡ 0 → after_minus d ≡ refused 17
+      of [] k = refl
+      of (x ∷ d) k = absurd (omega arith)
+
+  pub begins-minus : (length d ≡ 0 → ⊥) → entry_bytes w ≡ magnitude_of true d
+  begins-minus k = behind_minus ∙ of d k
+    where
+      of : (d : List ℕ) → (length d ≡ 0 → ⊥) → after_minus d ≡ magnitude_of true d
+      of [] k = absurd (k refl)
+      of (x ∷ d) k = refl

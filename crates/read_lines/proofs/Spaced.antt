@@ -124,6 +124,23 @@ spaced-few (blanks h) = omega arith
 spaced-few (last b w h t) = omega (arith, length-append b w, text-some w t)
 spaced-few (next b w {x = x} {s = s} h t e k) = omega (arith, length-append b (w ++ (x ∷ s)), length-append w (x ∷ s), text-some w t, spaced-few k)
 
+-- a weaker property of each element
+each-weaker : {A : Type 0} {P Q : A → Type 0} {l : List A} → ((a : A) → P a → Q a) → Each P l → Each Q l
+each-weaker f none = none
+each-weaker f (each {a = x} p h) = each (f x p) (each-weaker f h)
+
+-- Each word ends inside the line.
+abbrev Inside : ℕ → Word → Type 0
+Inside end w = w.start + length w.bytes ≤ end
+
+spaced-inside : {at : ℕ} {s : List ℕ} {ws : List Word} → Spaced at s ws → Each (Inside (at + length s)) ws
+spaced-inside (blanks h) = none
+spaced-inside (last b w h t) = each (omega (arith, length-append b w)) none
+spaced-inside {at} (next b w {x = x} {s = s} h t e k) =
+    each
+    (omega (arith, length-append b (w ++ (x ∷ s)), length-append w (x ∷ s)))
+    (each-weaker (λ v i. omega (arith, length-append b (w ++ (x ∷ s)), length-append w (x ∷ s))) (spaced-inside k))
+
 module _ (at : ℕ) (s : List ℕ) where
   pub words-spaced : Spaced at s (words at s)
   unfolding words
@@ -136,3 +153,7 @@ module _ (at : ℕ) (s : List ℕ) where
   -- There are no more words than bytes.
   pub words-few : length (words at s) ≤ length s
   words-few = spaced-few words-spaced
+
+  -- Each ends inside the line.
+  pub words-inside : Each (λ w. w.start + length w.bytes ≤ at + length s) (words at s)
+  words-inside = spaced-inside words-spaced

@@ -2,3 +2,4 @@ pub mod Each
 pub mod Line
 pub mod Spaced
 pub mod Words
+pub mod Left

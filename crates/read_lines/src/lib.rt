@@ -4,6 +4,10 @@
 ghost use Rattle.std.specs.Prelude.{◌≡◌, ◌-◌, ◌≤◌, length};
 ghost use Rattle.read_lines.specs.Line.{is_of, seek, trim, line_of, field_of, LineWithin, FieldWithin};
 
+mod split;
+
+pub use split::Words;
+
 // What a search looks for.
 #[derive(Clone, Copy)]
 pub enum Class {
@@ -28,6 +32,7 @@ pub struct Field {
     pub end: usize,
 }
 
+#[tactic(auto, unfolding(crate::specs::Line::is_of))]
 fn is_of(class: Class, b: u8) -> bool
     ensures { result ≡ is_of class b }
 {
@@ -45,14 +50,12 @@ pub fn forward(f: &[u8], from: usize, end: usize, class: Class) -> usize
     ensures value { result ≡ seek (is_of class) f.now from (end - from) }
     ensures lower_bound { (from ≤ result) × (result ≤ end) }
 {
-    let mut i = from;
-    while i < end {
+    for i in from..end {
         if is_of(class, f[i]) {
             return i;
         }
-        i += 1;
     }
-    i
+    end
 }
 
 // The end of what stands from `from` to `end` without the bytes of the class that stand last.
@@ -61,15 +64,12 @@ pub fn backward(f: &[u8], from: usize, end: usize, class: Class) -> usize
     ensures value { result ≡ trim (is_of class) f.now from (end - from) }
     ensures lower_bound { (from ≤ result) × (result ≤ end) }
 {
-    let mut i = end;
-    while from < i {
-        if is_of(class, f[i - 1]) {
-            i -= 1;
-        } else {
-            return i;
+    for i in (from..end).rev() {
+        if !is_of(class, f[i]) {
+            return i + 1;
         }
     }
-    i
+    from
 }
 
 pub fn line_at(f: &[u8], at: usize) -> Line

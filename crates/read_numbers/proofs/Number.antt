@@ -1,8 +1,8 @@
 -- Numbers in decimal digits: one turn of the reading, and what reading means.
-use mathlib.Core.Path.{◌≡◌, refl, sym, ◌∙◌}
+use mathlib.Core.Path.{◌≡◌, refl}
 use mathlib.Core.Bool.{Bool, true, false, cond}
 use mathlib.Core.List.{List, [], ◌∷◌}
-use Prim.Native.Nat.{ℕ, ◌+◌, ◌-◌, ◌*◌, ◌^◌, ◌≤◌, ◌<◌}
+use Prim.Native.Nat.{ℕ, ◌+◌, ◌-◌, ◌*◌, ◌≤◌, ◌<◌}
 use native.Mathlib.Omega.{arith}
 use lib.ListN.{length, drop}
 use lib.Dec.{ltb}
@@ -11,9 +11,6 @@ use Rattle.codes.specs.Machine.{Next, go, stop, run}
 use Rattle.codes.proofs.Machine.{Leads, here, on, Ends, all, at, run_ends}
 use Rattle.codes.specs.Answer.{Read, value, refused}
 use Rattle.codes.specs.Bytes.{is_digit}
-use Rattle.read_numbers.specs.declared.Number64.{Number64}
-use Rattle.read_numbers.specs.declared.Number64.TheVariants as n64
-use Rattle.read_numbers.specs.Kinds.{of64, Fits32}
 use Rattle.read_numbers.specs.declared.Role.{Role}
 use Rattle.read_numbers.specs.declared.Role.TheVariants.{Single}
 use Rattle.read_numbers.specs.Number.{foreign, digit, number, single}
@@ -45,16 +42,6 @@ pub single-some : (lim : ℕ) (s : List ℕ) → (length s ≡ 0 → ⊥) → si
 unfolding single
 single-some lim [] h = absurd (h refl)
 single-some lim (x ∷ s) h = refl
-
--- what an answer of the code says of the definition
-pub answer-value : {r : Number64} {v : ℕ} {x : Read ℕ} → r ≡ n64.Value v → of64 r ≡ x → x ≡ value v
-answer-value k e = sym e ∙ rw k
-
-pub answer-refusal : {r : Number64} {n : ℕ} {x : Read ℕ} → r ≡ n64.Refused n → of64 r ≡ x → x ≡ refused n
-answer-refusal k e = sym e ∙ rw k
-
-pub fits-32 : {n : Number64} {v : ℕ} → n ≡ n64.Value v → Fits32 n → v < 2 ^ 32
-fits-32 k h = rw k at h
 
 -- a step that goes on: it took a digit, and stayed below the limit
 pub record Went (lim v x w : ℕ) : Type 0 where
@@ -110,7 +97,3 @@ module _ (role : Role) (lim : ℕ) where
   pub number-below : (s : List ℕ) {u : ℕ} → 0 < lim → number role lim s ≡ value u → u < lim
   unfolding number
   number-below s h e = ends-below h (run_ends (digit role lim) value 0 s) e
-
-pub number-fits-32 : (role : Role) (s : List ℕ) (r : Number64) → of64 r ≡ number role (2 ^ 32) s → Fits32 r
-number-fits-32 role s (n64.Value v) e = number-below role (2 ^ 32) s (omega arith) (sym e)
-number-fits-32 role s (n64.Refused n) e = tt

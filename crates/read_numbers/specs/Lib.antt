@@ -1,4 +1,4 @@
 pub mod Digits
-pub mod Kinds
 pub mod Number
 pub mod Value
+pub mod Width

@@ -1,16 +1,15 @@
 -- One step of reading UTF-8, by the byte's range: the rows of the Unicode Standard's table 3-7, and the bytes that no row
--- has. Below them, the place of a text by its three cases.
-use mathlib.Core.Path.{◌≡◌, refl, ap}
-use mathlib.Core.Bool.{true, false}
-use mathlib.Core.List.{List, [], ◌∷◌}
-use Prim.Native.Nat.{ℕ, zero, suc, ◌-◌, ◌≤◌, ◌<◌}
+-- has.
+use mathlib.Core.Path.{◌≡◌, refl}
+use mathlib.Core.Bool.{false}
+use mathlib.Core.List.{List}
+use Prim.Native.Nat.{ℕ, ◌≤◌, ◌<◌}
 use native.Mathlib.Omega.{arith}
-use lib.ListN.{length, drop}
+use lib.ListN.{drop}
 use borrow.Author.Tests.{lt-ltb, le-ltb, le-leb, lt-leb, ne_eqb}
 use Rattle.codes.specs.Machine.{go, stop, run}
-use Rattle.codes.specs.Answer.{value, refused}
 use Rattle.read_text.specs.declared.Utf8.TheVariants.{Whole, Tail}
-use Rattle.read_text.specs.Text.{tail, utf8_next, utf8_end, is_utf8, place, placed, text_at}
+use Rattle.read_text.specs.Text.{tail, utf8_next, utf8_end, is_utf8}
 
 module _ (x : ℕ) where
   pub lead-one : x < 0x80 → utf8_next Whole x ≡ go Whole
@@ -71,34 +70,6 @@ module _ (n lo hi x : ℕ) where
   unfolding utf8_next
   tail-in a h = simp (le-leb lo x a, le-leb x hi h)
 
-pub tail-last : (n : ℕ) → n ≡ 0 → Whole ≡ tail n
-tail-last n h = rw h
-
-pub tail_more : (n : ℕ) → (n ≡ 0 → ⊥) → Tail (n - 1) 0x80 0xbf ≡ tail n
-tail_more zero h = absurd (h refl)
-tail_more (suc n) h = let k : suc n - 1 ≡ n = omega arith in rw k
-
 pub utf8-starts : (s : List ℕ) → is_utf8 s ≡ run utf8_next utf8_end Whole (drop 0 s)
 unfolding is_utf8
 utf8-starts s = refl
-
-placed-none : (at : ℕ) (s : List ℕ) → length s ≡ 0 → placed at s ≡ place 0 0
-placed-none at [] h = refl
-placed-none at (x ∷ s) h = absurd (omega arith)
-
-placed-some : (at : ℕ) (s : List ℕ) → (length s ≡ 0 → ⊥) → placed at s ≡ place at (length s)
-placed-some at [] h = absurd (h refl)
-placed-some at (x ∷ s) h = refl
-
-module _ (at : ℕ) (s : List ℕ) where
-  pub text-empty : is_utf8 s ≡ true → length s ≡ 0 → text_at at s ≡ value (place 0 0)
-  unfolding text_at
-  text-empty e h = rw e (ap value (placed-none at s h))
-
-  pub text-some : is_utf8 s ≡ true → (length s ≡ 0 → ⊥) → text_at at s ≡ value (place at (length s))
-  unfolding text_at
-  text-some e h = rw e (ap value (placed-some at s h))
-
-  pub text-bad : is_utf8 s ≡ false → text_at at s ≡ refused 18
-  unfolding text_at
-  text-bad e = rw e

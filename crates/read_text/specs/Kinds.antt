@@ -1,18 +1,17 @@
--- What the readers' answers stand for: for each case its value, with the next position where it has one, or the number of document 01.
-use Rattle.std.specs.Prelude.{Bool, false}
+-- What the readers' answers stand for: a place or the number of a refusal, and the state after one byte more.
+use Rattle.std.specs.Prelude.{Bool, false, Option, Some, None, Result, Ok, Err}
 use Rattle.codes.specs.Machine.{Next, go, stop}
 use Rattle.codes.specs.Answer.{Read, value, refused}
-use Rattle.read_text.specs.declared.Str.{Str}
-use Rattle.read_text.specs.declared.Str.TheVariants as str
+use Rattle.codes.specs.Refusals.{number_of}
+use Rattle.codes.specs.declared.refusal.Refusal.{Refusal}
+use Rattle.read_text.specs.declared.Place as declared
 use Rattle.read_text.specs.declared.Utf8.{Utf8}
-use Rattle.read_text.specs.declared.Utf8Next.{Utf8Next}
-use Rattle.read_text.specs.declared.Utf8Next.TheVariants as utf8
 use Rattle.read_text.specs.Text.{Place, place}
 
-abbrev pub of_str : Str → Read Place
-of_str (str.Place at n) = value (place at n)
-of_str (str.Refused n) = refused n
+abbrev pub of_place : Result declared.Place Refusal → Read Place
+of_place (Ok p) = value (place p.start p.len)
+of_place (Err r) = refused (number_of r)
 
-abbrev pub of_utf8_next : Utf8Next → Next Utf8 Bool
-of_utf8_next (utf8.Go s) = go s
-of_utf8_next utf8.Bad = stop false
+abbrev pub of_utf8_next : Option Utf8 → Next Utf8 Bool
+of_utf8_next (Some s) = go s
+of_utf8_next None = stop false

@@ -15,7 +15,6 @@ use Rattle.read_numbers.specs.Digits.{Says}
 use Rattle.read_lists.specs.Lists.{listed}
 use Rattle.read_edges.specs.Edges.{edge_list}
 use Rattle.read_edges.specs.Entries.{Entries}
-use Rattle.read_edges.specs.Entries
 use Rattle.read_edges.proofs.EdgeList.{edge-values}
 use Rattle.header_faults.specs.Judge.{root_list_fault}
 use Rattle.writers.specs.Decimal.{decimal, edge_text}

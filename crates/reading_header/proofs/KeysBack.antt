@@ -1,8 +1,8 @@
 -- The keys: each is a plain word, and is found again by its bytes.
 use mathlib.Core.Path.{◌≡◌, refl}
-use native.Mathlib.Omega.{arith}
+use Rattle.std.specs.Prelude.{Some}
 use Rattle.header_keys.specs.declared.Key.{Key}
-use Rattle.header_keys.specs.declared.Key.TheVariants.{Ver, Mode, Varinfo, Dd, Nnodes, Nvars, Nsuppvars, Nroots, Nodes, Varnames, Suppvarnames, Orderedvarnames, Ids, Permids, Auxids, Rootids, Rootnames, Unknown}
+use Rattle.header_keys.specs.declared.Key.TheVariants.{Ver, Mode, Varinfo, Dd, Nnodes, Nvars, Nsuppvars, Nroots, Nodes, Varnames, Suppvarnames, Orderedvarnames, Ids, Permids, Auxids, Rootids, Rootnames}
 use Rattle.read_text.specs.Alike.{alike}
 use Rattle.header_keys.specs.Keys.{lookup, key_of}
 use Rattle.header_values.specs.Values.{KnownKey}
@@ -29,10 +29,9 @@ key-plain Permids h = literal-plain 0x2e _ refl
 key-plain Auxids h = literal-plain 0x2e _ refl
 key-plain Rootids h = literal-plain 0x2e _ refl
 key-plain Rootnames h = literal-plain 0x2e _ refl
-key-plain Unknown h = absurd (omega arith)
 
 -- Its bytes are those of no other.
-pub key_back : (k : Key) → key_of (key_text k) ≡ k
+pub key_back : (k : Key) → key_of (key_text k) ≡ Some k
 unfolding key_of lookup alike
 key_back Ver = refl
 key_back Mode = refl
@@ -51,4 +50,3 @@ key_back Permids = refl
 key_back Auxids = refl
 key_back Rootids = refl
 key_back Rootnames = refl
-key_back Unknown = refl

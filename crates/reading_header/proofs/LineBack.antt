@@ -1,4 +1,5 @@
 -- A line of an export's header, found again where it stands.
+use Rattle.std.specs.Prelude.{Some}
 use mathlib.Core.Path.{◌≡◌, refl, sym, ap, ◌∙◌}
 use mathlib.Core.Bool.{Bool, true, false, ◌||◌}
 use mathlib.Core.List.{List, [], ◌∷◌, ◌++◌, append_assoc}
@@ -47,7 +48,7 @@ pub record Written (l : HeaderLine) : Type 0 where
 -- What is found: its key, where its value stands and that value's bytes, and where the next line starts.
 pub record LineBack (f : List ℕ) (at : ℕ) (l : HeaderLine) : Type 0 where
   pub inside : at < length f
-  pub key : key_at f at ≡ l.key
+  pub key : key_at f at ≡ Some l.key
   pub value : value_at f at ≡ span_of at l
   pub bytes : part f (span_of at l).start (span_of at l).end ≡ line_value l
   pub next : (line_of f at).next ≡ at + length (line_text l)

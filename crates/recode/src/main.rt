@@ -3,7 +3,6 @@
 
 ghost use Rattle.std.specs.Prelude.{◌≤◌, length};
 
-use recoding::Recoded;
 use std::io::Read;
 
 // One byte more than the longest input, so that a longer one is noticed.
@@ -32,12 +31,12 @@ fn main(rt: HostRuntime) {
     let read = read_full(&mut rt.stdin(), &mut input);
     let mut output = [0u8; OUTPUT_ROOM];
     match recoding::recode(&input[..read], &mut output) {
-        Recoded::Written(n) => {
+        Ok(n) => {
             let _ = rt.write_all(&output[..n]);
         }
-        Recoded::Refused(n, line) => {
+        Err(fault) => {
             let mut text = [0u8; 64];
-            let len = recode_text::write_refusal(n, line, &mut text);
+            let len = recode_text::write_refusal(fault.number, fault.line, &mut text);
             let _ = rt.write_all(&text[..len]);
         }
     }

@@ -7,20 +7,24 @@ use native.Mathlib.Omega.{arith}
 use lib.ListN.{length, take, length-map}
 use lib.IntN.{ℤ}
 use Rattle.codes.specs.Lent.{laid}
-use Rattle.codes.specs.Limits.{var_limit}
+use Rattle.codes.specs.Answer.{Read}
+use Rattle.codes.specs.Limits.{limits, var_limit}
 use Rattle.codes.specs.declared.DDDMPVersion.TheVariants.{V2_0}
 use Rattle.codes.proofs.Lent.{length-laid}
 use Rattle.read_text.specs.Text.{place}
 use Rattle.header_values.proofs.Padded.{take-laid}
 use Rattle.variable_names.proofs.Free.{length-ordered_seats}
+use Rattle.store.specs.Store.{Store}
 use Rattle.header.specs.Header as head
+use Rattle.header.specs.Kinds.{of_header}
+use Rattle.header.specs.declared.DumpHeader.{DumpHeader}
 use Rattle.heading.specs.Tables.{lent}
 use Rattle.exported.specs.Settings.{Settings, settings, defaults}
-use Rattle.exported.specs.Export.{export_into}
+use Rattle.exported.specs.Export.{Export, export_into, export_of}
 use Rattle.exporter.specs.Settings.{of_settings}
 use Rattle.exporter.specs.declared.ExportSettings.{ExportSettings}
 use Rattle.recode_levels.specs.Levels.{variable_levels, JudgedLevels}
-use Rattle.recoding.specs.Recode.{slots_lent, all_there, passed, export_with}
+use Rattle.recoding.specs.Recode.{slots_lent, all_there, passed, export_with, of_read, of_export}
 
 -- the defaults, then text, then the place of the diagram's name
 pub text-settings : (a b c : ExportSettings) {start len : ℕ} → of_settings a ≡ defaults
@@ -88,3 +92,27 @@ module _ (f : List ℕ) (h : head.Header) (roots : List ℤ) (ids permids names 
       → export_into s roots order (lent f starts ls rootstarts rls s.dd) a b out
       ≡ export_with f h roots ids permids names lens rootnames rootlens out
   exporting e1 e2 e3 e4 e5 e6 e7 e8 = rw (e1, e2, e3, e4, e5, e6, e7, e8)
+
+-- What `write_back` hands over, with settings made one after the other, levels that are laid over a list, and the fronts of names.
+module _ (f : List ℕ) (h : DumpHeader) (roots : List ℤ) (ids permids names lens rootnames rootlens : List ℕ) (J : JudgedLevels h.nvars ids permids)
+    (N : (length names ≡ length lens) × (length rootnames ≡ length rootlens)) where
+  pub handed : (a b c : ExportSettings) → of_settings a ≡ defaults → of_settings b ≡ settings a.version true (of_settings a).dd
+      → of_settings c ≡ settings b.version b.ascii (place h.dd.start h.dd.len)
+      → (old order : List ℕ) → length old ≡ var_limit → order ≡ laid (variable_levels h.nvars ids permids) old
+      → (named rooted : ℕ) → named ≡ cond (all_there lens) (length lens) 0 → rooted ≡ cond (all_there rootlens) (length rootlens) 0
+      → (x y out : ℕ) → x ≡ slots_lent → y ≡ slots_lent
+      → export_into (of_settings c) roots (take h.nvars order)
+      (lent f (take named names) (take named lens) (take rooted rootnames) (take rooted rootlens) (of_settings c).dd) x y out
+      ≡ export_with f (of_header h) roots ids permids names lens rootnames rootlens out
+  handed a b c p q r old order long d named rooted n k x y out e g =
+      exporting f (of_header h) roots ids permids names lens rootnames rootlens out (text-settings a b c p q r)
+      (order_is h.nvars ids permids J old order long d) (passed_is lens names N.0 named n) (passed_is lens lens refl named n)
+      (passed_is rootlens rootnames N.1 rooted k) (passed_is rootlens rootlens refl rooted k) e g
+
+-- an export that is another's: what the program answers, and leaves
+module _ {x y : Export} (same : x ≡ y) (σ : Store) where
+  pub exports-answer : {a : Read ℕ} → a ≡ (export_of limits x σ).answer → of_read a ≡ (of_export (export_of limits y σ)).answer
+  exports-answer e = ap of_read (e ∙ ap (λ z. (export_of limits z σ).answer) same)
+
+  pub exports-out : {o : List ℕ} → o ≡ (export_of limits x σ).out → o ≡ (of_export (export_of limits y σ)).out
+  exports-out e = e ∙ ap (λ z. (export_of limits z σ).out) same

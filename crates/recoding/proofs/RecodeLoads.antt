@@ -31,7 +31,8 @@ use Rattle.imported.proofs.SaysAs.{get_d-there}
 use Rattle.imported.proofs.NodesRefused.{refused-nodes}
 use Rattle.heading.specs.Tables.{Lent}
 use Rattle.exported.specs.Export.{all_roots, roots_fit, long_enough, names_fit, export_fault}
-use Rattle.calls.specs.Load.{Load, Loaded, variable_lists, root_lists, scratch_fault, list_fault, before_nodes, header_of, nodes_of, with_nodes, with_list, with_header, load_of}
+use Rattle.calls.specs.Load.{Load, Loaded, variable_lists, root_lists, scratch_fault, list_fault, before_nodes, header_of, nodes_of}
+use Rattle.calls.specs.Load.{with_nodes, with_list, with_header, load_of}
 use Rattle.calls.specs.Roots.{roots_of, Gains}
 use Rattle.calls.proofs.HeaderStands.{no_header, one-header, answer-sound, length-left}
 use Rattle.calls.proofs.Accepted.{answered-passes}

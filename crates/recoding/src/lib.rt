@@ -2,32 +2,21 @@
 
 #![tactic(auto)]
 
-ghost use Rattle.std.specs.Prelude.{◌≡◌, cond, length};
+ghost use Rattle.std.specs.Prelude.{◌≡◌, cond, length, replicate};
 ghost use Rattle.codes.specs.Lent.{laid, borrowed, seen};
 ghost use Rattle.codes.specs.Limits.{limits};
+ghost use Rattle.store.specs.Held.{held};
 ghost use Rattle.recode_levels.specs.Levels.{JudgedLevels};
 ghost use Rattle.recoding.specs.Recode.{head_read, all_there, recode_of};
 ghost use Rattle.recoding.specs.Kinds.{of_recoded, plan_by, planned_list};
 ghost use Rattle.recoding.specs.Promises.{WriteBackPromise, ReloadPromise};
 
-use codes::{limits, refusal};
+use codes::limits;
+use codes::refusal::{Fault, Refusal};
 use edges::{Edge, Index};
-use exporter::{ExportSettings, Exported};
-use header::{DumpHeader, Loaded};
-
-// The length of the file that is written; or a refusal and its line.
-#[derive(Clone, Copy)]
-pub enum Recoded {
-    Written(usize),
-    Refused(u8, usize),
-}
-
-// The level count and the length of the level list; or a refusal and its line.
-#[derive(Clone, Copy)]
-pub enum Plan {
-    Levels(u16, usize),
-    Refused(u8, usize),
-}
+use exporter::ExportSettings;
+use header::DumpHeader;
+use store::{StoreMut, StoreRef};
 
 // The longest input, in bytes.
 pub const INPUT_MOST: usize = 65536;
@@ -38,8 +27,8 @@ pub const SLOTS: usize = 4096;
 // The length of work that is enough for the index of as many nodes.
 const WORK: usize = 3 * (SLOTS + 1);
 
-// Reads the header for the level count and the level list, which is laid over the front of a list.
-fn plan_levels(f: &[u8], list: &mut [u16]) -> Plan
+// Reads the header for the level count and the level list, which is laid over the front of a list, and counts the entries of the list.
+fn plan_levels(f: &[u8], list: &mut [u16]) -> Result<(u16, usize), Fault>
     ensures value { result ≡ plan_by (head_read limits f.now) (head_read limits f.now).answer }
     ensures list_after { list.new ≡ laid (planned_list (head_read limits f.now)) list.old }
 {
@@ -53,7 +42,7 @@ fn plan_levels(f: &[u8], list: &mut [u16]) -> Plan
     let mut rootnames = [0u32; limits::ROOT_LIMIT];
     let mut rootlens = [0u32; limits::ROOT_LIMIT];
     let found = stages::length_fault(0, f.len());
-    let read = DumpHeader::load(
+    let h = DumpHeader::load(
         f,
         found,
         &mut ids,
@@ -65,28 +54,16 @@ fn plan_levels(f: &[u8], list: &mut [u16]) -> Plan
         &mut roots,
         &mut rootnames,
         &mut rootlens,
-    );
-    match read {
-        Loaded::Header(h) => {
-            let n = recode_levels::level_list(&permids[..h.nsuppvars as usize], h.nvars, list);
-            Plan::Levels(h.nvars as u16, n)
-        }
-        Loaded::Refused(n, line) => Plan::Refused(n, line),
-    }
+    )?;
+    let n = recode_levels::level_list(&permids[..h.nsuppvars as usize], h.nvars, list);
+    Ok((h.nvars as u16, n))
 }
 
 // Is every name there?
 fn all_there(lens: &[u32]) -> bool
     ensures { result ≡ all_there lens.now }
 {
-    let mut i: usize = 0;
-    while i < lens.len() {
-        if lens[i] == 0 {
-            return false;
-        }
-        i += 1;
-    }
-    true
+    lens.iter().all(|len| 0 < *len)
 }
 
 // How many of some names are passed on: all, or none.
@@ -103,13 +80,7 @@ fn passed_on(lens: &[u32]) -> usize
 fn write_back(
     f: &[u8],
     h: DumpHeader,
-    levels: u16,
-    count: Index,
-    level: &[u16],
-    then: &[Edge],
-    els: &[Edge],
-    next: &[Index],
-    heads: &[Index],
+    store: &StoreRef,
     roots: &[Edge],
     ids: &[u32],
     permids: &[u32],
@@ -118,11 +89,11 @@ fn write_back(
     rootnames: &[u32],
     rootlens: &[u32],
     out: &mut [u8],
-) -> Recoded
+) -> Result<usize, Fault>
     requires judged_levels { JudgedLevels h.nvars ids.now permids.now }
     requires names_len { (length names.now ≡ length lens.now) × (length rootnames.now ≡ length rootlens.now) }
-    ensures { WriteBackPromise (seen f) h levels count (seen level) (seen then) (seen els) (seen next) (seen heads) (seen roots) (seen ids)
-        (seen permids) (seen names) (seen lens) (seen rootnames) (seen rootlens) (borrowed out) result }
+    ensures { WriteBackPromise (seen f) h (held store.now) (seen roots) (seen ids) (seen permids) (seen names) (seen lens) (seen rootnames)
+        (seen rootlens) (borrowed out) result }
 {
     let dd = h.dd;
     let settings = ExportSettings::default()
@@ -135,15 +106,9 @@ fn write_back(
     let mut slots = [0 as Index; SLOTS];
     let mut numbers = [0 as Index; SLOTS];
     let mut work = [0 as Index; WORK];
-    let exported = dddmp::export(
+    let n = dddmp::export(
         settings,
-        levels,
-        count,
-        level,
-        then,
-        els,
-        next,
-        heads,
+        store,
         roots,
         &order[..h.nvars as usize],
         f,
@@ -155,18 +120,15 @@ fn write_back(
         &mut numbers,
         out,
         &mut work,
-    );
-    match exported {
-        Exported::Written(n) => Recoded::Written(n),
-        Exported::Refused(k) => Recoded::Refused(k, 0),
-    }
+    )?;
+    Ok(n)
 }
 
-// Loads a file at some levels of an empty store and exports it again.
-fn reload(f: &[u8], list: &[u16], levels: u16, out: &mut [u8]) -> Recoded
+// Loads a file at some levels of an empty store and exports it again. The output holds zeros before, and so after a refusal.
+fn reload(f: &[u8], list: &[u16], levels: u16, out: &mut [u8]) -> Result<usize, Fault>
+    requires { out.old ≡ replicate (length out.old) 0 }
     ensures { ReloadPromise (seen f) (seen list) levels (borrowed out) result }
 {
-    let mut count: Index = 1;
     let mut level = [0u16; SLOTS];
     let mut then = [0 as Edge; SLOTS];
     let mut els = [0 as Edge; SLOTS];
@@ -184,16 +146,19 @@ fn reload(f: &[u8], list: &[u16], levels: u16, out: &mut [u8]) -> Recoded
     let mut edges = [0 as Edge; SLOTS];
     let mut seats = [0u16; SLOTS];
     let mut work = [0 as Index; WORK];
-    let loaded = dddmp::load(
+    let mut store = StoreMut {
+        levels,
+        count: 1,
+        level: &mut level,
+        then: &mut then,
+        els: &mut els,
+        next: &mut next,
+        heads: &mut heads,
+    };
+    let h = dddmp::load(
         f,
         list,
-        levels,
-        &mut count,
-        &mut level,
-        &mut then,
-        &mut els,
-        &mut next,
-        &mut heads,
+        &mut store,
         &mut ids,
         &mut order,
         &mut permids,
@@ -206,54 +171,36 @@ fn reload(f: &[u8], list: &[u16], levels: u16, out: &mut [u8]) -> Recoded
         &mut edges,
         &mut seats,
         &mut work,
-    );
-    match loaded {
-        Loaded::Header(h) => {
-            let nroots = h.nroots as usize;
-            let nvars = h.nvars as usize;
-            let nsuppvars = h.nsuppvars as usize;
-            write_back(
-                f,
-                h,
-                levels,
-                count,
-                &level,
-                &then,
-                &els,
-                &next,
-                &heads,
-                &roots[..nroots],
-                &ids[..nsuppvars],
-                &permids[..nsuppvars],
-                &names[..nvars],
-                &lens[..nvars],
-                &rootnames[..nroots],
-                &rootlens[..nroots],
-                out,
-            )
-        }
-        Loaded::Refused(n, line) => {
-            zeros::clear_bytes(out);
-            Recoded::Refused(n, line)
-        }
-    }
+    )?;
+    let now = store.as_ref();
+    let nroots = h.nroots as usize;
+    let nvars = h.nvars as usize;
+    let nsuppvars = h.nsuppvars as usize;
+    write_back(
+        f,
+        h,
+        &now,
+        &roots[..nroots],
+        &ids[..nsuppvars],
+        &permids[..nsuppvars],
+        &names[..nvars],
+        &lens[..nvars],
+        &rootnames[..nroots],
+        &rootlens[..nroots],
+        out,
+    )
 }
 
 // Reads a file and writes it again, as text of version 2.0.
-pub fn recode(f: &[u8], out: &mut [u8]) -> Recoded
+pub fn recode(f: &[u8], out: &mut [u8]) -> Result<usize, Fault>
     ensures result_value { of_recoded result ≡ (recode_of limits f.now (length out.old)).answer }
     ensures out_after { out.new ≡ (recode_of limits f.now (length out.old)).out }
 {
+    out.fill(0);
     if INPUT_MOST < f.len() {
-        zeros::clear_bytes(out);
-        return Recoded::Refused(refusal::OVER_LIMIT, 0);
+        return Err(Refusal::OverLimit.at(0));
     }
     let mut list = [0u16; limits::VAR_LIMIT];
-    match plan_levels(f, &mut list) {
-        Plan::Levels(levels, n) => reload(f, &list[..n], levels, out),
-        Plan::Refused(n, line) => {
-            zeros::clear_bytes(out);
-            Recoded::Refused(n, line)
-        }
-    }
+    let (levels, n) = plan_levels(f, &mut list)?;
+    reload(f, &list[..n], levels, out)
 }

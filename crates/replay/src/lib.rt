@@ -2,44 +2,34 @@
 // after the other, each a head of fixed length and what the head says that follows.
 #![tactic(auto)]
 
-ghost use Rattle.std.specs.Prelude.{◌+◌, ◌≤◌, ◌≡◌, length, take};
+ghost use Rattle.std.specs.Prelude.{◌+◌, ◌≤◌, ◌≡◌, length, take, false, [], Err, None, Some, IfOk};
 ghost use Rattle.std.specs.Io.KnownBytes.{Consumes};
 ghost use Rattle.replay.specs.Numbers.{two_at, four_at, eight_at};
-ghost use Rattle.replay.specs.Counting.{one_more, of_comparison, no_cases, tallied};
+ghost use Rattle.replay.specs.Counting.{one_more, no_cases, tallied, said};
 ghost use Rattle.replay.specs.Reading.{IsPrefixLen};
 
 use std::env::FillError;
-use std::fs;
 use std::io::Read;
 use std::rt::{Env, Files};
+use std::{fmt, fs};
 
-// What came of one case, or why there is none.
+// Why there is no case: the file ends after the last one, or inside this one.
 #[derive(Clone, Copy)]
-pub enum Outcome {
-    Same,
-    Differs,
+pub enum End {
     NoMore,
     Cut,
 }
 
-// How many cases a file has, how many differ, whether its end was met, and whether that comes with its last case.
-#[derive(Clone, Copy)]
+// How many cases a file has, how many differ, and how it ends, where its end was met.
+#[derive(Clone, Copy, Default)]
 pub struct Tally {
     pub cases: u64,
     pub differ: u64,
-    pub ended: bool,
-    pub whole: bool,
+    pub end: Option<End>,
 }
 
 // More cases than any file has: the count ends.
 pub const MOST: u64 = 10000000;
-
-fn wide(b: u8) -> u64
-    ensures value { result ≡ b }
-    ensures upper_bound { result ≤ 255 }
-{
-    b as u64
-}
 
 // The number that the two bytes from a position on hold.
 pub fn two(s: &[u8], at: usize) -> u64
@@ -47,7 +37,7 @@ pub fn two(s: &[u8], at: usize) -> u64
     ensures value { result ≡ two_at s.now at }
     ensures upper_bound { result ≤ 65535 }
 {
-    wide(s[at]) + 256 * wide(s[at + 1])
+    u64::from(s[at]) + 256 * u64::from(s[at + 1])
 }
 
 // The number that the four bytes from a position on hold.
@@ -67,14 +57,7 @@ pub fn eight(s: &[u8], at: usize) -> u64
     four(s, at) + 4294967296 * four(s, at + 4)
 }
 
-// Room for the name of a file, and 65,536 zeros. The `ensures` give only the lengths: a function that has such an array for a local of its
-// own takes seconds to check.
-fn name_room() -> [u8; 4096]
-    ensures { 4096 ≡ length result }
-{
-    [0; 4096]
-}
-
+// Room for 65,536 bytes.
 pub fn large_buffer() -> [u8; 65536]
     ensures { 65536 ≡ length result }
 {
@@ -86,10 +69,7 @@ fn read_some<R: Read>(file: &mut R, buf: &mut [u8]) -> usize
     ensures within { IsPrefixLen result buf.new }
     ensures bytes { Consumes (R.remaining file.old) (R.remaining file.new) (take result buf.new) }
 {
-    match file.read(buf) {
-        Ok(n) => n,
-        Err(_) => 0,
-    }
+    file.read(buf).unwrap_or(0)
 }
 
 // Reads until buf is full, the file ends or a read fails, and gives how many bytes it put at the start of buf: they are the next of the file.
@@ -115,20 +95,34 @@ pub fn fetch<R: Read>(file: &mut R, buf: &mut [u8], n: usize) -> usize
     ensures bytes { Consumes (R.remaining file.old) (R.remaining file.new) (take result buf.new) }
 {
     if n <= buf.len() {
-        return read_full(file, &mut buf[..n]);
+        read_full(file, &mut buf[..n])
+    } else {
+        0
     }
-    0
 }
 
-// The outcome of a case whose answer is the stored one, or isn't.
-pub fn compared(same: bool) -> Outcome
-    ensures { result ≡ of_comparison same }
+// The head of the next case.
+pub fn head<const N: usize, R: Read>(file: &mut R) -> Result<[u8; N], End>
+    ensures bytes { IfOk result (λ h. Consumes (R.remaining file.old) (R.remaining file.new) h) }
+    ensures no_more { result ≡ Err End.NoMore → Consumes (R.remaining file.old) (R.remaining file.new) [] }
 {
-    if same {
-        Outcome::Same
-    } else {
-        Outcome::Differs
+    let mut head = [0; N];
+    match read_full(file, &mut head) {
+        0 => Err(End::NoMore),
+        got if got < N => Err(End::Cut),
+        _ => Ok(head),
     }
+}
+
+// The next n bytes of a case, which it puts to the start of buf. A case isn't whole that has more than buf has room for.
+pub fn part<'a, R: Read>(file: &mut R, buf: &'a mut [u8], n: usize) -> Result<&'a [u8], End>
+    ensures len { IfOk result (λ s. length s.now ≡ n) }
+    ensures bytes { IfOk result (λ s. Consumes (R.remaining file.old) (R.remaining file.new) s.now) }
+{
+    if fetch(file, buf, n) < n {
+        return Err(End::Cut);
+    }
+    Ok(&buf[..n])
 }
 
 fn one_more(n: u64) -> u64
@@ -142,52 +136,59 @@ impl Tally {
     pub fn new() -> Tally
         ensures { result ≡ no_cases }
     {
-        Tally {
-            cases: 0,
-            differ: 0,
-            ended: false,
-            whole: false,
+        Tally::default()
+    }
+
+    // After one case more, whose answer is the stored one or isn't, or the end.
+    pub fn after(self, came: Result<bool, End>) -> Tally
+        ensures { result ≡ tallied self came }
+    {
+        match came {
+            Ok(true) => Tally {
+                cases: one_more(self.cases),
+                ..self
+            },
+            Ok(false) => Tally {
+                cases: one_more(self.cases),
+                differ: one_more(self.differ),
+                ..self
+            },
+            Err(end) => Tally {
+                end: Some(end),
+                ..self
+            },
         }
     }
 
-    // After one case more, or the end.
-    pub fn after(self, came: Outcome) -> Tally
-        ensures { result ≡ tallied self came }
+    // Of all cases of a file: `one` replays the next of them, with what it keeps from one to the next.
+    pub fn of<F, S, One>(file: &mut F, kept: &mut S, one: &One) -> Tally
+    where
+        One: Fn(&mut F, &mut S) -> Result<bool, End>,
+        requires { One.IsAlwaysCallable one.now }
+        ensures { result.end ≡ None → result.cases ≡ 10000000 }
     {
-        let cases = self.cases;
-        let differ = self.differ;
-        match came {
-            Outcome::Same => Tally {
-                cases: one_more(cases),
-                differ,
-                ended: self.ended,
-                whole: self.whole,
-            },
-            Outcome::Differs => Tally {
-                cases: one_more(cases),
-                differ: one_more(differ),
-                ended: self.ended,
-                whole: self.whole,
-            },
-            Outcome::NoMore => Tally {
-                cases,
-                differ,
-                ended: true,
-                whole: true,
-            },
-            Outcome::Cut => Tally {
-                cases,
-                differ,
-                ended: true,
-                whole: false,
-            },
+        let mut t = Tally::new();
+        for _ in 0..MOST {
+            t = t.after(one(file, kept));
+            if t.end.is_some() {
+                break;
+            }
         }
+        t
     }
 }
 
-// A number, and what is to be said before and after it. Output that fails is passed over, here and below: there is nowhere to say so.
-fn print_count(rt: &impl Print, before: &str, n: u64, after: &str) {
-    let _ = print!(rt; "{before}{n}{after}");
+impl fmt::Display for Tally {
+    ghost output = { λ t. Some (said t.cases t.differ t.end) };
+
+    fn fmt<W: fmt::Write>(&self, f: &mut fmt::Formatter<W>) -> fmt::Result {
+        let cases = self.cases;
+        let differ = self.differ;
+        match self.end {
+            Some(End::NoMore) => write!(f, "{cases} cases, {differ} differ"),
+            _ => write!(f, "cut off after {cases} cases"),
+        }
+    }
 }
 
 // How many arguments the program has, its own name among them. With no room, only an argument that isn't there isn't too long.
@@ -200,27 +201,22 @@ pub fn arg_count(rt: &impl Env) -> usize {
     usize::MAX
 }
 
-// The length of an argument that is put at the start of a list; 0 where it isn't there, or doesn't fit.
-fn argument_name(rt: &impl Env, argument: usize, name: &mut [u8]) -> usize
-    ensures { IsPrefixLen result name.new }
-{
-    rt.arg(argument, name).unwrap_or(0)
-}
-
 // The file of a name, to be read. A name that isn't text names none.
 fn open_read<R: Files>(rt: &R, name: &[u8]) -> Option<R::File> {
     let text = str::from_utf8(name).ok()?;
     fs::open(rt, text).ok()
 }
 
-// Opens the file that an argument names, and says its name. Where it can't be opened it says so, and gives none.
+// Opens the file that an argument names, and says its name. Where it can't be opened it says so, and gives none. Output that fails is passed over,
+// here and below: there is nowhere to say so.
 pub fn open<R: Env + Files + Print>(rt: &R, argument: usize) -> Option<R::File> {
-    let mut name = name_room();
-    let n = argument_name(rt, argument, &mut name);
-    let _ = rt.write_all(&name[..n]);
-    let file = open_read(rt, &name[..n]);
+    let mut room = [0; 4096];
+    let n = rt.arg(argument, &mut room).unwrap_or(0);
+    let name = &room[..n];
+    let _ = rt.write_all(name);
+    let file = open_read(rt, name);
     if file.is_none() {
-        let _ = rt.write_all(b": can't be opened\n");
+        let _ = println!(rt; ": can't be opened");
     }
     file
 }
@@ -228,10 +224,23 @@ pub fn open<R: Env + Files + Print>(rt: &R, argument: usize) -> Option<R::File> 
 // Closes a file, and says how many cases it has and how many differ.
 pub fn close<F: Drop>(rt: &impl Print, file: F, t: Tally) {
     drop(file);
-    if t.whole {
-        print_count(rt, ": ", t.cases, " cases, ");
-        print_count(rt, "", t.differ, " differ\n");
-    } else {
-        print_count(rt, ": cut off after ", t.cases, " cases\n");
+    let _ = println!(rt; ": {t}");
+}
+
+// Replays the cases of each file that the arguments name. `start` gives what is kept from the first case of a file on, and `one` replays the next.
+pub fn run<R, S, Start, One>(rt: &R, start: Start, one: One)
+where
+    R: Env + Files + Print,
+    S: Drop,
+    Start: Fn() -> S,
+    One: Fn(&mut R::File, &mut S) -> Result<bool, End>,
+    requires start { Start.IsAlwaysCallable start }
+    requires one { One.IsAlwaysCallable one }
+{
+    for i in 1..arg_count(rt) {
+        if let Some(mut file) = open(rt, i) {
+            let t = Tally::of(&mut file, &mut start(), &one);
+            close(rt, file, t);
+        }
     }
 }

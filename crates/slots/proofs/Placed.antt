@@ -1,10 +1,8 @@
 -- Making a node and taking it back, in the form in which the code leaves the lent lists.
 use mathlib.Core.Path.{◌≡◌, refl, sym, ap, ◌∙◌}
-use mathlib.Core.Bool.{Bool, true, false, ◌&&◌}
+use mathlib.Core.Bool.{Bool, true, false}
 use Prim.Native.Nat.{ℕ, zero, suc, ◌+◌, ◌-◌, ◌≤◌, ◌<◌}
 use native.Mathlib.Omega.{arith}
-use borrow.Author.Tests.{lt-ltb, le-ltb}
-use lib.Dec.{ltb}
 use lib.ListN.{length, set}
 use lib.IntN.{ℤ, pos}
 use Rattle.edges.specs.Width.{edge_width}
@@ -37,21 +35,7 @@ module _ (σ : Store) where
   unfolding dropped bucket
   slot-cleared b t e p q h = rw (h, p, q)
 
--- the tests for room
-and-false : (a : Bool) → (a && false) ≡ false
-and-false true = refl
-and-false false = refl
-
 module _ (m : Limits) (σ : Store) where
-  pub no_slot : length σ.level ≤ σ.count → false ≡ room_for m σ
-  no_slot h = rw (le-ltb σ.count (length σ.level) h)
-
-  pub no_number : m.nodes ≤ σ.count → false ≡ room_for m σ
-  no_number h = rw (le-ltb σ.count m.nodes h) (sym (and-false (ltb σ.count (length σ.level))))
-
-  pub a-slot : σ.count < length σ.level → σ.count < m.nodes → true ≡ room_for m σ
-  a-slot h k = rw (lt-ltb σ.count (length σ.level) h, lt-ltb σ.count m.nodes k)
-
   -- found, full or new: the answer and the store afterwards
   module _ (l : ℕ) (t e : ℤ) where
     pub insert-found : (n : ℕ) → n ≡ find σ l t e → (n ≡ 0 → ⊥) → (a : Read ℤ) → a ≡ value (pos n) → (a ≡ (insert m σ l t e).answer) × (σ ≡ (insert m σ l t e).after)

@@ -3,6 +3,7 @@ use mathlib.Core.Path.{◌≡◌, refl}
 use mathlib.Core.Bool.{Bool, true, false, not}
 use mathlib.Core.List.{List}
 use Prim.Native.Nat.{ℕ, ◌≤◌, ◌<◌}
+use Rattle.std.specs.Prelude.{Ok, Err}
 use lib.ListN.{length, replicate}
 use borrow.Author.Tests.{le-leb, lt-leb, not-true, not-false}
 use Rattle.codes.specs.Faults.{first_fault}
@@ -10,17 +11,13 @@ use Rattle.codes.proofs.Faults.{refuses}
 use Rattle.store.specs.Store.{Store}
 use Rattle.codes.specs.Limits.{limits}
 use Rattle.store.specs.Keeps.{keeps}
-use Rattle.header.specs.Header.{Header, header, refusal}
-use Rattle.header.specs.Kinds.{of_header, of_loaded}
+use Rattle.header.specs.Header.{header, refusal}
+use Rattle.header.specs.Kinds.{Loaded, of_header, of_loaded}
 use Rattle.header.specs.declared.DumpHeader.{DumpHeader}
-use Rattle.header.specs.declared.Loaded.{Loaded}
-use Rattle.header.specs.declared.Loaded.TheVariants as loaded
+use Rattle.codes.specs.declared.refusal.Fault.{Fault}
 use Rattle.level_list.specs.List.{list_fits}
-use Rattle.import_steps.specs.Kinds.{of_imported}
-use Rattle.import_steps.specs.declared.Imported.{Imported}
-use Rattle.import_steps.specs.declared.Imported.TheVariants as imported
 use Rattle.calls.specs.Load.{scratch_fault, list_fault}
-use Rattle.stages.specs.Stages.{store_after, scratched, listed, answer_with_nodes, cleared_if}
+use Rattle.stages.specs.Stages.{store_after, scratched, listed, cleared_if}
 
 module _ (found : ℕ) (σ : Store) where
   -- what was found before stays
@@ -40,7 +37,7 @@ module _ (found : ℕ) (σ : Store) where
     breaks-some p = rw (z, ← e, p)
 
 module _ (edges seats : ℕ) (r : Loaded) where
-  module _ (h : DumpHeader) (q : r ≡ loaded.Header h) where
+  module _ (h : DumpHeader) (q : r ≡ Ok h) where
     -- scratch for edges that is too short
     pub few-edges : edges < h.nnodes → refusal 1 0 ≡ scratched edges seats (of_loaded r)
     unfolding scratch_fault
@@ -58,11 +55,11 @@ module _ (edges seats : ℕ) (r : Loaded) where
       enough-scratch p = rw (q, le-leb h.nnodes edges e, le-leb h.nnodes seats p)
 
   -- a refusal goes on
-  pub scratch-handed : (n line : ℕ) → r ≡ loaded.Refused n line → refusal n line ≡ scratched edges seats (of_loaded r)
-  scratch-handed n line q = rw q
+  pub scratch-handed : (f : Fault) → r ≡ Err f → refusal f.number f.line ≡ scratched edges seats (of_loaded r)
+  scratch-handed f q = rw q
 
 module _ (levels : ℕ) (list : List ℕ) (r : Loaded) where
-  module _ (h : DumpHeader) (q : r ≡ loaded.Header h) {b : Bool} (e : b ≡ list_fits h.nsuppvars levels list) where
+  module _ (h : DumpHeader) (q : r ≡ Ok h) {b : Bool} (e : b ≡ list_fits h.nsuppvars levels list) where
     -- a level list that doesn't fit
     pub list_refused : not b ≡ true → refusal 2 0 ≡ listed levels list (of_loaded r)
     unfolding list_fault
@@ -74,17 +71,8 @@ module _ (levels : ℕ) (list : List ℕ) (r : Loaded) where
     list-passed p = rw (q, ← e, not-false b p)
 
   -- a refusal goes on
-  pub list-handed : (n line : ℕ) → r ≡ loaded.Refused n line → refusal n line ≡ listed levels list (of_loaded r)
-  list-handed n line q = rw q
-
-module _ (h : Header) (r : Imported) where
-  -- nodes that are read leave the header
-  pub with_read : (at : ℕ) → r ≡ imported.Nodes at → header h ≡ answer_with_nodes h (of_imported r)
-  with_read at q = rw q
-
-  -- their refusal is the load's
-  pub with-refused : (k line : ℕ) → r ≡ imported.Refused k line → refusal k line ≡ answer_with_nodes h (of_imported r)
-  with-refused k line q = rw q
+  pub list-handed : (f : Fault) → r ≡ Err f → refusal f.number f.line ≡ listed levels list (of_loaded r)
+  list-handed f q = rw q
 
 module _ {b : Bool} (l : List ℕ) where
   -- a list of a refused load is cleared

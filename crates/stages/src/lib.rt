@@ -3,17 +3,22 @@
 // `DumpHeader::load` of `header`; the nodes, the end and the zeros follow in `last_stages`.
 #![tactic(auto)]
 
-ghost use Rattle.codes.specs.Lent.{borrowed, seen};
+ghost use Rattle.codes.specs.Lent.{borrowed};
 ghost use Rattle.std.specs.Prelude.{◌≡◌, [], ◌∷◌};
 ghost use Rattle.codes.specs.Limits.{limits};
 ghost use Rattle.header.specs.Header.{lists_fault, at_least, length_after};
 ghost use Rattle.header.specs.Kinds.{of_loaded};
 ghost use Rattle.stages.specs.Stages.{scratched, listed};
 ghost use Rattle.stages.specs.Promises.{StoreFaultPromise};
+ghost use Rattle.store.specs.Held.{held};
 
-use codes::{limits, refusal};
-use edges::{Edge, Index};
-use header::Loaded;
+use codes::limits;
+use codes::refusal::{Fault, Refusal};
+use edges::Index;
+use header::DumpHeader;
+use store::StoreRef;
+
+// What is found wrong stays a number in the next three, 0 for nothing: `DumpHeader::load` hands on whatever number was found before it.
 
 // The lent lists, by their lengths: 1 where one is too short, else 0.
 pub fn lists_fault(
@@ -37,72 +42,60 @@ pub fn lists_fault(
 
 // The store: what was found before, 0 for nothing; else 3 where it breaks its rules, else 0. Then the index of its nodes lies in the work, where
 // that is long enough for as many as there are slots for.
-pub fn store_fault(
-    found: u8,
-    levels: u16,
-    count: Index,
-    level: &[u16],
-    then: &[Edge],
-    els: &[Edge],
-    next: &[Index],
-    heads: &[Index],
-    work: &mut [Index],
-) -> u8
-    ensures { StoreFaultPromise found levels count (seen level) (seen then) (seen els) (seen next) (seen heads) (borrowed work) result }
+pub fn store_fault(found: u8, store: &StoreRef, work: &mut [Index]) -> u8
+    ensures { StoreFaultPromise found (held store.now) (borrowed work) result }
 {
     if found != 0 {
         return found;
     }
-    let most = slots::most_nodes(level.len());
-    if rules::keeps_rules(levels, count, level, then, els, next, heads, most, work) {
+    let most = slots::most_nodes(store.level.len());
+    if rules::keeps_rules(store, most, work) {
         return 0;
     }
-    refusal::BROKEN_STORE
+    Refusal::BrokenStore.number()
 }
 
 // Scratch, by the lengths of its two lists: 1 where one is too short for the nodes.
-pub fn check_scratch(read: Loaded, edges: usize, seats: usize) -> Loaded
+pub fn check_scratch(
+    read: Result<DumpHeader, Fault>,
+    edges: usize,
+    seats: usize,
+) -> Result<DumpHeader, Fault>
     ensures { of_loaded result ≡ scratched edges seats (of_loaded read) }
 {
-    match read {
-        Loaded::Header(h) => {
-            if (edges as u64) < h.nnodes {
-                return Loaded::Refused(refusal::TOO_SHORT, 0);
-            }
-            if (seats as u64) < h.nnodes {
-                return Loaded::Refused(refusal::TOO_SHORT, 0);
-            }
-            Loaded::Header(h)
-        }
-        Loaded::Refused(n, line) => Loaded::Refused(n, line),
+    let h = read?;
+    if (edges as u64) < h.nnodes {
+        return Err(Refusal::TooShort.at(0));
     }
+    if (seats as u64) < h.nnodes {
+        return Err(Refusal::TooShort.at(0));
+    }
+    Ok(h)
 }
 
 // The level list: 2 where it doesn't fit.
-pub fn check_list(ready: Loaded, levels: u16, list: &[u16]) -> Loaded
+pub fn check_list(
+    ready: Result<DumpHeader, Fault>,
+    levels: u16,
+    list: &[u16],
+) -> Result<DumpHeader, Fault>
     ensures { of_loaded result ≡ listed levels list.now (of_loaded ready) }
 {
-    match ready {
-        Loaded::Header(h) => {
-            if !level_list::list_fits(list, h.nsuppvars, levels) {
-                return Loaded::Refused(refusal::BAD_LEVELS, 0);
-            }
-            Loaded::Header(h)
-        }
-        Loaded::Refused(n, line) => Loaded::Refused(n, line),
+    let h = ready?;
+    if !level_list::list_fits(list, h.nsuppvars, levels) {
+        return Err(Refusal::BadLevels.at(0));
     }
+    Ok(h)
 }
 
 // Whether each of some lengths is enough.
 fn at_least(least: usize, lengths: &[usize]) -> bool
     ensures { result ≡ at_least least lengths.now }
 {
-    let mut i = 0;
-    while i < lengths.len() {
-        if lengths[i] < least {
+    for n in lengths {
+        if *n < least {
             return false;
         }
-        i += 1;
     }
     true
 }
@@ -112,10 +105,10 @@ pub fn lengths_fault(vars: &[usize], roots: &[usize]) -> u8
     ensures { result ≡ lists_fault vars.now roots.now }
 {
     if !at_least(limits::VAR_LIMIT, vars) {
-        return refusal::TOO_SHORT;
+        return Refusal::TooShort.number();
     }
     if !at_least(limits::ROOT_LIMIT, roots) {
-        return refusal::TOO_SHORT;
+        return Refusal::TooShort.number();
     }
     0
 }
@@ -128,7 +121,7 @@ pub fn length_fault(found: u8, len: usize) -> u8
         return found;
     }
     if limits::INPUT_LIMIT < len {
-        return refusal::OVER_LIMIT;
+        return Refusal::OverLimit.number();
     }
     0
 }

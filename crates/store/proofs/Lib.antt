@@ -9,3 +9,4 @@ pub mod Empty
 pub mod Back
 pub mod Lower
 pub mod Room
+pub mod Held

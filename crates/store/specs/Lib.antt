@@ -9,3 +9,4 @@ pub mod Growth
 pub mod Make
 pub mod Room
 pub mod Firsts
+pub mod Held

@@ -1,13 +1,13 @@
 -- A stretch copied, node by node.
 use mathlib.Core.Path.{◌≡◌, refl, sym, ◌∙◌}
-use mathlib.Core.List.{List}
+use mathlib.Core.List.{List, []}
 use Prim.Native.Nat.{ℕ, suc, ◌+◌, ◌-◌, ◌≤◌, ◌<◌}
 use native.Mathlib.Omega.{arith}
 use native.Mathlib.Decide.{ℕ_discrete, dec_lt}
-use lib.ListN.{length, set, length-set}
+use lib.ListN.{length, set}
 use lib.Seq.{get_or-set_same, get_or-set_other}
 use lib.IntN.{ℤ, pos}
-use Rattle.store.specs.Store.{Store, slots, level_at, then_at, else_at, next_at}
+use Rattle.store.specs.Store.{Store, store, level_at, then_at, else_at, next_at}
 use Rattle.stretch.specs.Chained.{stretch_slots, Chained, met_after, SameNode, Copied}
 use Rattle.stretch.proofs.Steps.{after-node, met-is}
 
@@ -16,36 +16,31 @@ pub record Copying (σ : Store) (n : ℕ) (lv : List ℕ) (tv ev : List ℤ) (c 
   pub low : 1 ≤ c
   pub high : c ≤ stretch_slots
   pub here : at ≤ σ.count
-  pub levels : length lv ≡ stretch_slots
-  pub thens : length tv ≡ stretch_slots
-  pub elses : length ev ≡ stretch_slots
-  pub copied : Copied σ n (slots lv tv ev) c at
+  pub copied : Copied σ n (store 0 c lv tv ev [] []) c at
 
 module _ (σ : Store) (n : ℕ) (C : Chained σ n) (lv : List ℕ) (tv ev : List ℤ) where
-  pub copying-start : length lv ≡ stretch_slots → length tv ≡ stretch_slots → length ev ≡ stretch_slots → Copying σ n lv tv ev 1 n
+  pub copying-start : Copying σ n lv tv ev 1 n
   unfolding met_after
-  copying-start p q r = record {
+  copying-start = record {
     low = omega arith;
     high = omega arith;
     here = C.high;
-    levels = p;
-    thens = q;
-    elses = r;
     copied = record { nodes = λ i l. absurd (omega arith); same = λ i l. absurd (omega arith); stands = refl };
   }
 
   module _ (c at : ℕ) (K : Copying σ n lv tv ev c at) where
-    module _ (h : 0 < at) (k : c < stretch_slots) (l : ℕ) (t e : ℤ) (p : l ≡ level_at σ at) (q : t ≡ then_at σ at) (r : e ≡ else_at σ at) where
-      filled : SameNode σ at (slots (set lv c l) (set tv c t) (set ev c e)) (c + 1)
+    module _ (h : 0 < at) (k : c < stretch_slots) (a : c < length lv) (b : c < length tv) (d : c < length ev)
+        (l : ℕ) (t e : ℤ) (p : l ≡ level_at σ at) (q : t ≡ then_at σ at) (r : e ≡ else_at σ at) where
+      filled : SameNode σ at (store 0 (c + 1) (set lv c l) (set tv c t) (set ev c e) [] []) (c + 1)
       filled =
           let o : c + 1 - 1 ≡ c = omega arith in
           record {
-            level = rw o (get_or-set_same lv c l 0 (omega (arith, K.levels)) ∙ p);
-            then = rw o (get_or-set_same tv c t (pos 0) (omega (arith, K.thens)) ∙ q);
-            els = rw o (get_or-set_same ev c e (pos 0) (omega (arith, K.elses)) ∙ r);
+            level = rw o (get_or-set_same lv c l 0 a ∙ p);
+            then = rw o (get_or-set_same tv c t (pos 0) b ∙ q);
+            els = rw o (get_or-set_same ev c e (pos 0) d ∙ r);
           }
 
-      kept : (i : ℕ) → i + 1 < c → SameNode σ (met_after σ n i) (slots (set lv c l) (set tv c t) (set ev c e)) (i + 2)
+      kept : (i : ℕ) → i + 1 < c → SameNode σ (met_after σ n i) (store 0 (c + 1) (set lv c l) (set tv c t) (set ev c e) [] []) (i + 2)
       kept i g =
           let S = K.copied.same i g in
           record {
@@ -68,9 +63,6 @@ module _ (σ : Store) (n : ℕ) (C : Chained σ n) (lv : List ℕ) (tv ev : List
         low = omega arith;
         high = omega arith;
         here = rw next (met-is σ n C (c + 1 - 1)).high;
-        levels = length-set lv c l ∙ K.levels;
-        thens = length-set tv c t ∙ K.thens;
-        elses = length-set ev c e ∙ K.elses;
         copied = record {
           nodes = λ i g. node i g (ℕ_discrete (i + 1) c);
           same = λ i g. same i g (ℕ_discrete (i + 1) c);
@@ -82,7 +74,7 @@ module _ (σ : Store) (n : ℕ) (C : Chained σ n) (lv : List ℕ) (tv ev : List
           node i g (yes x) = rw (last i x) h
           node i g (no f) = K.copied.nodes i (omega arith)
 
-          same : (i : ℕ) → i + 1 < c + 1 → Dec (i + 1 ≡ c) → SameNode σ (met_after σ n i) (slots (set lv c l) (set tv c t) (set ev c e)) (i + 2)
+          same : (i : ℕ) → i + 1 < c + 1 → Dec (i + 1 ≡ c) → SameNode σ (met_after σ n i) (store 0 (c + 1) (set lv c l) (set tv c t) (set ev c e) [] []) (i + 2)
           same i g (yes x) = let o : i + 2 ≡ c + 1 = omega arith in rw (last i x, o) filled
           same i g (no f) = kept i (omega arith)
 

@@ -3,29 +3,19 @@ use mathlib.Core.Path.{◌≡◌, refl, sym, ◌∙◌}
 use Prim.Native.Nat.{ℕ, zero, suc, ◌-◌, ◌≤◌, ◌<◌}
 use native.Mathlib.Omega.{arith}
 use native.Mathlib.Decide.{ℕ_discrete, dec_lt}
-use mathlib.Core.List.{List}
-use lib.IntN.{ℤ}
-use Rattle.store.specs.Store.{Store, store, next_at}
+use Rattle.store.specs.Store.{Store, next_at}
 use Rattle.store.specs.Rules.{bucket}
 use Rattle.store.proofs.Chain.{Linked, newest-le, newest-own, newest-gap}
-use Rattle.stretch.specs.Chained.{linked_slots, ChainsDescend, Chained, node_after, met_after}
+use Rattle.stretch.specs.Chained.{ChainsDescend, Chained, node_after, met_after}
 
 -- chains that hold just their buckets, newest first, fall so
-linked-falls : (σ : Store) → Linked σ → ChainsDescend σ
+pub linked-falls : (σ : Store) → Linked σ → ChainsDescend σ
 linked-falls σ L = record {
   lower = λ n p h. omega (arith, L.next n p h, newest-le σ (bucket σ n) (n - 1));
   node = λ n p h z. rw (L.next n p h) (newest-own σ (bucket σ n) (n - 1) (rw (L.next n p h) at z)).0;
   mine = λ n p h z. rw (L.next n p h) (newest-own σ (bucket σ n) (n - 1) (rw (L.next n p h) at z)).1;
   gap = λ n p h m q z k e. newest-gap σ (bucket σ n) (n - 1) m (rw (L.next n p h) at z) q (omega arith) e;
 }
-
--- which is a matter of the slots only
-pub slots-fall : (count : ℕ) (level : List ℕ) (then els : List ℤ) (next heads : List ℕ)
-    → Linked (store 0 count level then els next heads) → ChainsDescend (linked_slots count level then els next)
-unfolding bucket
-slots-fall count level then els next heads L =
-    let F = linked-falls (store 0 count level then els next heads) L in
-    record { lower = F.lower; node = F.node; mine = F.mine; gap = F.gap }
 
 -- the next number
 module _ (σ : Store) where

@@ -4,25 +4,15 @@ use mathlib.Core.Path.{◌≡◌, sym, ap, ◌∙◌}
 use Prim.Native.Nat.{ℕ, ◌+◌, ◌-◌, ◌≤◌, ◌<◌}
 use native.Mathlib.Omega.{arith}
 use native.Mathlib.Decide.{ℕ_discrete, dec_lt}
-use mathlib.Core.Bool.{Bool}
 use mathlib.Core.List.{List}
-use lib.ListN.{length, get_or, replicate, length-replicate}
+use lib.ListN.{get_or}
 use Rattle.store.specs.Store.{Store, level_at, then_at, else_at}
 use Rattle.store.specs.Rules.{AlikeNodes, bucket}
-use Rattle.store.specs.Keeps.{Decides}
 use Rattle.store.proofs.Find.{holds-true, true-holds}
 use Rattle.unique_table.specs.Index.{Indexed, Sought, AllAlone}
 use Rattle.stretch.specs.Chained.{Chained, met_after, SameNode, Copied, LikeNone, LikeNoOlder, NoneLike, ChainAlone}
 use Rattle.stretch.proofs.Steps.{met-is, met-chained, met-lower, met-under, met_all}
 use Rattle.stretch.proofs.Passed.{PassedBy, passed_on}
-
--- an index that was cleared
-pub zeros-again : (xs ys : List ℕ) → xs ≡ replicate (length ys) 0 → (xs ≡ replicate (length xs) 0) × (length xs ≡ length ys)
-zeros-again xs ys q = let l : length xs ≡ length ys = ap length q ∙ length-replicate (length ys) 0 in (rw l q, l)
-
--- two checks, of which the first has passed
-pub also-decides : {A B : Type 0} {r : Bool} → A → Decides r B → Decides r (A × B)
-also-decides a d = record { yes = λ q. (a, d.yes q); no = λ q p. d.no q p.1 }
 
 -- an older node that is sought in the index of a stretch
 module _ (width : ℕ) (τ : Store) (c : ℕ) (ix : List ℕ) (I : Indexed width τ c ix) (σ : Store) (n at : ℕ)

@@ -1,8 +1,7 @@
 -- The chains of a store, node by node, and a stretch of one. Document 01, 'Store and meaning': 'each chain holds just its bucket, newest
 -- first', 'no two nodes alike'.
-use Rattle.std.specs.Prelude.{ℕ, zero, suc, ◌+◌, ◌-◌, ◌≤◌, ◌<◌, ◌≡◌, List, [], length, ℤ}
-use Rattle.codes.specs.Lent.{Part, old}
-use Rattle.store.specs.Store.{Store, store, level_at, then_at, else_at, next_at}
+use Rattle.std.specs.Prelude.{ℕ, zero, suc, ◌+◌, ◌-◌, ◌≤◌, ◌<◌, ◌≡◌, length}
+use Rattle.store.specs.Store.{Store, level_at, then_at, else_at, next_at}
 use Rattle.store.specs.Rules.{AlikeNodes, bucket}
 
 -- A stretch has up to 512 nodes. Its little store has a slot more, since nodes count from 2; and its index has three entries for each slot
@@ -12,17 +11,6 @@ stretch_slots = 513
 
 abbrev pub stretch_entries : ℕ
 stretch_entries = 1541
-
--- a store by its nodes and their links: where its chains start is left out
-abbrev pub linked_slots : ℕ → List ℕ → List ℤ → List ℤ → List ℕ → Store
-linked_slots count level then els next = store 0 count level then els next []
-
--- the same in lent lists: at a `requires`, and as the call starts
-abbrev pub linked_now : ℕ → List ℕ → List ℤ → List ℤ → List ℕ → Store
-linked_now count level then els next = linked_slots count level then els next
-
-abbrev pub linked_old : ℕ → Part (List ℕ) → Part (List ℤ) → Part (List ℤ) → Part (List ℕ) → Store
-linked_old count level then els next = linked_slots count (old level) (old then) (old els) (old next)
 
 -- After a node comes the next older node of its bucket, or 0.
 pub record ChainsDescend (σ : Store) : Type 0 where

@@ -2,16 +2,25 @@
 #![tactic(auto)]
 
 ghost use Rattle.std.specs.Prelude.{◌≡◌, ◌+◌, ◌*◌, ◌≤◌, length};
-ghost use Rattle.codes.specs.Lent.{seen};
-ghost use Rattle.store.specs.Store.{slots};
+ghost use Rattle.store.specs.Held.{held};
 ghost use Rattle.store.specs.Keeps.{Decides};
 ghost use Rattle.unique_table.specs.Index.{Indexed, AllAlone};
-ghost use Rattle.stretch.specs.Chained.{stretch_slots, linked_now, linked_old, Chained, Copied, NoneLike};
+ghost use Rattle.stretch.specs.Chained.{stretch_slots, Chained, Copied, NoneLike};
+ghost use Rattle.stretch.specs.Little.{little_store};
 
 use edges::{Edge, Index};
+use store::StoreRef;
 
 // A stretch has up to 512 nodes: see specs/Chained.
 pub const SLOTS: usize = 513;
+
+// The slots that a stretch is copied into, from the second one on, as nodes count from 2.
+#[derive(Drop)]
+pub struct LittleStore {
+    pub level: [u16; SLOTS],
+    pub then: [Edge; SLOTS],
+    pub els: [Edge; SLOTS],
+}
 
 // The number of the little store's last node, and the node of the chain after it, or 0.
 #[derive(Clone, Copy)]
@@ -20,105 +29,83 @@ pub struct Stretch {
     pub rest: Index,
 }
 
-// The nodes of a chain from n on, as many as there are slots, copied into the slots of a little store from the second on.
-pub fn copy_stretch(
-    count: Index,
-    level: &[u16],
-    then: &[Edge],
-    els: &[Edge],
-    next: &[Index],
-    n: Index,
-    levels: &mut [u16],
-    thens: &mut [Edge],
-    elses: &mut [Edge],
-) -> Stretch
-    requires levels_len { (length levels.old ≡ stretch_slots) × (length thens.old ≡ stretch_slots) × (length elses.old ≡ stretch_slots) }
-    requires chained { Chained (linked_now count level.now then.now els.now next.now) n × (1 ≤ n) }
-    ensures le_last { (2 ≤ result.last) × (result.last ≤ stretch_slots) }
-    ensures copied { Copied (linked_old count (seen level) (seen then) (seen els) (seen next)) n (slots levels.new thens.new elses.new) result.last result.rest }
-{
-    let mut c: usize = 1;
-    let mut at = n;
-    while at != 0 && c < SLOTS {
-        let i = (at - 1) as usize;
-        let l = level[i];
-        let t = then[i];
-        let e = els[i];
-        levels[c] = l;
-        thens[c] = t;
-        elses[c] = e;
-        at = next[i];
-        c += 1;
+impl LittleStore {
+    // Its nodes, up to the last one, as a store.
+    pub fn up_to(&self, last: Index) -> StoreRef<'_>
+        ensures reads { held result ≡ little_store self.now last }
+        ensures slots { (length result.level.now ≡ stretch_slots)
+            × ((length result.then.now ≡ stretch_slots) × (length result.els.now ≡ stretch_slots)) }
+    {
+        StoreRef {
+            levels: 0,
+            count: last,
+            level: &self.level,
+            then: &self.then,
+            els: &self.els,
+            next: &[],
+            heads: &[],
+        }
     }
-    let last = c as Index;
-    Stretch { last, rest: at }
+
+    // Copies the nodes of a chain from n on, as many as there are slots.
+    pub fn copy_stretch(&mut self, store: &StoreRef, n: Index) -> Stretch
+        requires { Chained (held store.now) n × (1 ≤ n) }
+        ensures le_last { (2 ≤ result.last) × (result.last ≤ stretch_slots) }
+        ensures copied { Copied (held store.now) n (little_store self.new result.last) result.last result.rest }
+    {
+        let mut slot: usize = 1;
+        let mut at = n;
+        while at != 0 && slot < SLOTS {
+            let i = (at - 1) as usize;
+            self.level[slot] = store.level[i];
+            self.then[slot] = store.then[i];
+            self.els[slot] = store.els[i];
+            at = store.next[i];
+            slot += 1;
+        }
+        Stretch {
+            last: slot as Index,
+            rest: at,
+        }
+    }
 }
 
-// Is no node of the chain from n on like one of the little store, whose nodes the index knows?
-fn none_like(
-    index: &[Index],
-    width: usize,
-    last: Index,
-    levels: &[u16],
-    thens: &[Edge],
-    elses: &[Edge],
-    count: Index,
-    level: &[u16],
-    then: &[Edge],
-    els: &[Edge],
-    next: &[Index],
-    n: Index,
-) -> bool
-    requires indexed { Indexed width (slots levels.now thens.now elses.now) last index.now }
-    requires last_in_bounds { (last ≤ length levels.now) × ((last ≤ length thens.now) × (last ≤ length elses.now)) }
-    requires chained { Chained (linked_now count level.now then.now els.now next.now) n }
-    ensures { Decides result (NoneLike (linked_old count (seen level) (seen then) (seen els) (seen next)) n (slots levels.now thens.now elses.now) last) }
+// Is no node of the chain from n on like one of the nodes that the index knows?
+fn none_like(index: &[Index], width: usize, nodes: &StoreRef, store: &StoreRef, n: Index) -> bool
+    requires indexed { Indexed width (held nodes.now) nodes.now.count index.now }
+    requires count_in_bounds { (nodes.now.count ≤ length nodes.now.level.now)
+        × ((nodes.now.count ≤ length nodes.now.then.now) × (nodes.now.count ≤ length nodes.now.els.now)) }
+    requires chained { Chained (held store.now) n }
+    ensures { Decides result (NoneLike (held store.now) n (held nodes.now) nodes.now.count) }
 {
     let mut at = n;
     while at != 0 {
         let i = (at - 1) as usize;
-        let l = level[i];
-        let t = then[i];
-        let e = els[i];
-        let x = unique_table::seek(index, width, last, levels, thens, elses, l, t, e);
+        let l = store.level[i];
+        let t = store.then[i];
+        let e = store.els[i];
+        let x = unique_table::seek(index, width, nodes.count, nodes, l, t, e);
         if index[x] != 0 {
             return false;
         }
-        at = next[i];
+        at = store.next[i];
     }
     true
 }
 
-// Is no node of a stretch like another one of it, and no older node, from `rest` on, like one of it? A single node is not judged. `index` has
-// just the entries that the stretch needs, so that no more are cleared.
-pub fn stretch_alone(
-    index: &mut [Index],
-    last: Index,
-    levels: &[u16],
-    thens: &[Edge],
-    elses: &[Edge],
-    count: Index,
-    level: &[u16],
-    then: &[Edge],
-    els: &[Edge],
-    next: &[Index],
-    rest: Index,
-) -> bool
-    requires le_last { (2 ≤ last) × (last ≤ stretch_slots) × (length index.old ≡ 3 * last + 2) }
-    requires last_in_bounds { (last ≤ length levels.now) × ((last ≤ length thens.now) × (last ≤ length elses.now)) }
-    requires chained { Chained (linked_now count level.now then.now els.now next.now) rest }
-    ensures { Decides result (AllAlone (slots levels.now thens.now elses.now) last
-        × NoneLike (linked_old count (seen level) (seen then) (seen els) (seen next)) rest (slots levels.now thens.now elses.now) last) }
+// Is no node of a stretch like another one of it, and no older node, from `rest` on, like one of it? `nodes` is the stretch, of which a single
+// node is not judged. `index` has just the entries that it needs, so that no more are cleared.
+pub fn stretch_alone(index: &mut [Index], nodes: &StoreRef, store: &StoreRef, rest: Index) -> bool
+    requires le_last { (2 ≤ nodes.now.count) × (nodes.now.count ≤ stretch_slots) × (length index.old ≡ 3 * nodes.now.count + 2) }
+    requires count_in_bounds { (nodes.now.count ≤ length nodes.now.level.now)
+        × ((nodes.now.count ≤ length nodes.now.then.now) × (nodes.now.count ≤ length nodes.now.els.now)) }
+    requires chained { Chained (held store.now) rest }
+    ensures { Decides result (AllAlone (held nodes.now) nodes.now.count × NoneLike (held store.now) rest (held nodes.now) nodes.now.count) }
 {
-    if last == 2 && rest == 0 {
+    if nodes.count == 2 && rest == 0 {
         return true;
     }
-    let width = last as usize;
-    zeros::clear_marks(index);
-    if !unique_table::distinct(index, width, last, levels, thens, elses) {
-        return false;
-    }
-    none_like(
-        index, width, last, levels, thens, elses, count, level, then, els, next, rest,
-    )
+    let width = nodes.count as usize;
+    index.fill(0);
+    unique_table::distinct(index, width, nodes) && none_like(index, width, nodes, store, rest)
 }

@@ -1,17 +1,15 @@
 -- All chains: each node lies in the chain of its bucket, so where no node of a chain is like an older one, no two nodes are alike.
 use mathlib.Core.Path.{◌≡◌, sym, ◌∙◌}
-use mathlib.Core.List.{List}
 use Prim.Native.Nat.{ℕ, ◌+◌, ◌≤◌, ◌<◌}
 use native.Mathlib.Omega.{arith}
 use native.Mathlib.Decide.{ℕ_discrete, dec_lt}
-use lib.ListN.{length, get_or}
-use lib.IntN.{ℤ}
-use Rattle.store.specs.Store.{Store, store, slots}
+use lib.ListN.{length}
+use Rattle.store.specs.Store.{Store, head_at}
 use Rattle.store.specs.Rules.{bucket, Chains}
 use Rattle.store.proofs.Chain.{newest, chains-linked, bucket-small, newest-le, newest-own, newest-gap}
 use Rattle.unique_table.specs.Index.{AllAlone}
-use Rattle.stretch.specs.Chained.{linked_slots, Chained, LikeNoOlder, ChainAlone}
-use Rattle.stretch.proofs.Steps.{slots-fall}
+use Rattle.stretch.specs.Chained.{Chained, LikeNoOlder, ChainAlone}
+use Rattle.stretch.proofs.Steps.{linked-falls}
 
 -- n is the newest node of bucket b, or 0
 pub record Newest (σ : Store) (b n : ℕ) : Type 0 where
@@ -44,32 +42,26 @@ module _ (σ : Store) (b : ℕ) where
       go (yes q) = let k = N.all x p h q in A x p k (q ∙ sym (N.mine (omega arith)))
       go (no f) = J x p h (omega arith)
 
-module _ (count : ℕ) (level : List ℕ) (then els : List ℤ) (next heads : List ℕ) (C : Chains (store 0 count level then els next heads)) where
+module _ (σ : Store) (C : Chains σ) where
   -- a head
-  pub head-newest : (b : ℕ) → b < 256 → Newest (linked_slots count level then els next) b (get_or heads b 0)
-  unfolding bucket
-  head-newest b h =
-      let L = chains-linked (store 0 count level then els next heads) C in
-      let N = newest_is (store 0 count level then els next heads) b (get_or heads b 0) (L.head b h) in
-      record { high = N.high; node = N.node; mine = N.mine; all = N.all }
+  pub head-newest : (b : ℕ) → b < 256 → Newest σ b (head_at σ b)
+  head-newest b h = newest_is σ b (head_at σ b) ((chains-linked σ C).head b h)
 
-  pub head-chained : (b : ℕ) → b < 256 → (count ≤ length level) × ((count ≤ length then) × ((count ≤ length els) × (count ≤ length next)))
-      → Chained (linked_slots count level then els next) (get_or heads b 0)
+  pub head-chained : (b : ℕ) → b < 256
+      → (σ.count ≤ length σ.level) × ((σ.count ≤ length σ.then) × ((σ.count ≤ length σ.els) × (σ.count ≤ length σ.next))) → Chained σ (head_at σ b)
   head-chained b h z = record {
     level_long = z.0;
     then_long = z.1.0;
     els_long = z.1.1.0;
     next_long = z.1.1.1;
-    falls = slots-fall count level then els next heads (chains-linked (store 0 count level then els next heads) C);
+    falls = linked-falls σ (chains-linked σ C);
     high = (head-newest b h).high;
     node = (head-newest b h).node;
   }
 
-module _ (count : ℕ) (level : List ℕ) (then els : List ℤ) (next : List ℕ) where
-  pub buckets-all : (b : ℕ) → 256 ≤ b → BucketsAlone (linked_slots count level then els next) b → AllAlone (slots level then els) count
-  buckets-all b h J n p k m q l a =
-      J n p k (omega (arith, bucket-small (linked_slots count level then els next) n)) m q l
-      (record { level = a.level; then = a.then; els = a.els })
+module _ (σ : Store) where
+  pub buckets-all : (b : ℕ) → 256 ≤ b → BucketsAlone σ b → AllAlone σ σ.count
+  buckets-all b h J n p k m q l a = J n p k (omega (arith, bucket-small σ n)) m q l a
 
-  pub all-chain : (n : ℕ) → n ≤ count → AllAlone (slots level then els) count → ChainAlone (linked_slots count level then els next) n
-  all-chain n k A x p h e m q l a = A x p (omega arith) m q l (record { level = a.level; then = a.then; els = a.els })
+  pub all-chain : (n : ℕ) → n ≤ σ.count → AllAlone σ σ.count → ChainAlone σ n
+  all-chain n k A x p h e m q l a = A x p (omega arith) m q l a

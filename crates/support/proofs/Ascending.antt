@@ -1,33 +1,42 @@
--- Laws of ids that ascend, tested from left to right.
+-- Laws of ids that ascend.
 use mathlib.Core.Path.{◌≡◌, refl, sym, ap, ◌∙◌}
-use mathlib.Core.Bool.{true, false}
+use mathlib.Core.Bool.{Bool, true, false}
 use mathlib.Core.List.{List, [], ◌∷◌}
-use Prim.Native.Nat.{ℕ, zero, suc, ◌+◌, ◌-◌, ◌≤◌, ◌<◌}
+use Prim.Native.Nat.{ℕ, zero, suc, ◌+◌, ◌-◌, ◌<◌}
 use native.Mathlib.Omega.{arith}
-use lib.ListN.{length, get_or, drop, length-drop}
-use lib.Seq.{drop-cons}
+use lib.ListN.{length, get_or}
 use lib.Dec.{ltb}
-use borrow.Author.Tests.{ltb-true, lt-ltb, le-ltb}
+use borrow.Author.Tests.{ltb-true, ltb-false}
+use Rattle.std.specs.Prelude.{Option, Some, None, MatchOption}
+use Rattle.std.specs.Borrow.{Bor}
+use Rattle.std.specs.List.{IsAllAdjacentAnswer, slice_get}
+use Rattle.std.specs.Option.{option_copied}
+use Rattle.std.proofs.lemmas.Option.{none-some, slice_get-get_or, get_or_from_slice_get}
 use Rattle.codes.proofs.Bytes.{both}
 use Rattle.seats.specs.Ordered.{ascending}
+use Rattle.seats.proofs.OrderedLists.{ascending-ascends}
 use Rattle.support.specs.Support.{last_below, ids_fit}
 
--- two neighbours in order: the entries from the second on decide
-in_order : (x y : ℕ) (l : List ℕ) → x < y → ascending (x ∷ y ∷ l) ≡ ascending (y ∷ l)
+-- where each entry is below the one after it they ascend
+neighbours-ascend : (l : List ℕ) → ((k d : ℕ) → k + 1 < length l → true ≡ ltb (get_or l k d) (get_or l (k + 1) d)) → true ≡ ascending l
 unfolding ascending
-in_order x y l h = rw (lt-ltb x y h)
+neighbours-ascend [] h = refl
+neighbours-ascend (x ∷ []) h = refl
+neighbours-ascend (x ∷ y ∷ l) h =
+    rw (← h 0 0 (omega arith)) (neighbours-ascend (y ∷ l) (λ k d q. let e : suc k + 1 ≡ suc (k + 1) = omega arith in rw e at (h (suc k) d (omega arith))))
 
--- two neighbours out of order decide
-out_of_order : (x y : ℕ) (l : List ℕ) → y ≤ x → ascending (x ∷ y ∷ l) ≡ false
-unfolding ascending
-out_of_order x y l h = rw (le-ltb x y h)
+-- where one isn't they don't
+neighbours-fall : (l : List ℕ) (k : ℕ) → k + 1 < length l → false ≡ ltb (get_or l k 0) (get_or l (k + 1) 0) → false ≡ ascending l
+neighbours-fall l k h e = go (ascending l) refl
+  where
+    go : (b : Bool) → ascending l ≡ b → false ≡ b
+    go false q = refl
+    go true q = absurd (omega (arith, (ascending-ascends l).0 q k (k + 1) (omega arith) h, ltb-false (get_or l k 0) (get_or l (k + 1) 0) (sym e)))
 
--- fewer than two entries ascend
-few-ascend : (l : List ℕ) → length l ≤ 1 → ascending l ≡ true
-unfolding ascending
-few-ascend [] h = refl
-few-ascend (x ∷ []) h = refl
-few-ascend (x ∷ y ∷ l) h = absurd (omega arith)
+-- what the library's `is_sorted_by` answers, asked whether each entry is below the next
+sorted-ascending : (r : Bool) (l : List ℕ) → IsAllAdjacentAnswer (λ x y b. b ≡ ltb x y) l r → r ≡ ascending l
+sorted-ascending true l h = neighbours-ascend l h
+sorted-ascending false l h = neighbours-fall l h.0 h.1 (h.2 0)
 
 -- the last entry of a list that has one
 last_entry : (n : ℕ) (l : List ℕ) → 0 < length l → last_below n l ≡ ltb (get_or l (length l - 1) 0) n
@@ -38,56 +47,25 @@ last_entry n (x ∷ y ∷ l) h =
     let e : suc (length (y ∷ l) - 1) ≡ length (x ∷ y ∷ l) - 1 = omega arith in
     last_entry n (y ∷ l) (omega arith) ∙ ap (λ k. ltb (get_or (x ∷ y ∷ l) k 0) n) e
 
--- the first i ids ascend, so that those from the last of them on decide
-pub record Ascended (l : List ℕ) (i : ℕ) : Type 0 where
-  pub some : 1 ≤ i
-  pub same : ascending l ≡ ascending (drop (i - 1) l)
+-- what is asked of the last entry, if there is one
+pub last-asked : {r : Bool} {P : Bor ℕ → Type 0} (n : ℕ) (l : List ℕ) (o : Option (Bor ℕ)) → option_copied o ≡ slice_get l (length l - 1)
+    → MatchOption o (r ≡ true) P → ((x : Bor ℕ) → P x → r ≡ ltb x.now n) → r ≡ last_below n l
+unfolding last_below
+last-asked n [] None e h f = h
+last-asked n (x ∷ l) None e h f = absurd (none-some _ (e ∙ slice_get-get_or (x ∷ l) (length (x ∷ l) - 1) 0 (omega arith)))
+last-asked n [] (Some x) e h f = absurd (none-some _ (sym e))
+last-asked n (y ∷ l) (Some x) e h f =
+    f x h ∙ ap (λ z. ltb z n) (sym (get_or_from_slice_get (y ∷ l) (length (y ∷ l) - 1) x.now 0 (sym e))) ∙ sym (last_entry n (y ∷ l) (omega arith))
 
-module _ (l : List ℕ) where
-  -- at the second id nothing is known
-  pub ascended-start : Ascended l 1
-  ascended-start = record { some = omega arith; same = refl }
+-- ids that don't ascend don't fit
+pub unsorted : {r : Bool} (n : ℕ) (l : List ℕ) → IsAllAdjacentAnswer (λ x y b. b ≡ ltb x y) l r → r ≡ false → r ≡ ids_fit n l
+unfolding ids_fit
+unsorted n l h e = rw (← sorted-ascending _ l h, e)
 
-  module _ (i : ℕ) (h : suc i < length l) where
-    -- two neighbours, from position i on
-    neighbours : drop i l ≡ get_or l i 0 ∷ get_or l (suc i) 0 ∷ drop (suc (suc i)) l
-    neighbours = drop-cons l i 0 (omega arith) ∙ ap (λ m. get_or l i 0 ∷ m) (drop-cons l (suc i) 0 h)
-
-    -- in order: the entries from the second on decide
-    pair-more : get_or l i 0 < get_or l (suc i) 0 → ascending (drop i l) ≡ ascending (drop (suc i) l)
-    pair-more k = ap ascending neighbours ∙ in_order _ _ _ k ∙ ap ascending (sym (drop-cons l (suc i) 0 h))
-
-    -- out of order: they decide
-    pair-stops : get_or l (suc i) 0 ≤ get_or l i 0 → ascending (drop i l) ≡ false
-    pair-stops k = ap ascending neighbours ∙ out_of_order _ _ _ k
-
-  -- one id more is above the one before it
-  pub ascended-more : (i : ℕ) → Ascended l i → i < length l → get_or l (i - 1) 0 < get_or l i 0 → Ascended l (i + 1)
-  ascended-more zero a h k = absurd (omega (arith, a.some))
-  ascended-more (suc i) a h k =
-      let e : suc i - 1 ≡ i = omega arith in
-      let d : suc i + 1 - 1 ≡ suc i = omega arith in
-      record { some = omega arith; same = rw d (a.same ∙ ap (λ j. ascending (drop j l)) e ∙ pair-more i h (rw e at k)) }
-
-  module _ (n : ℕ) where
-    -- one id isn't above the one before it
-    pub unordered : (i : ℕ) → Ascended l i → i < length l → get_or l i 0 ≤ get_or l (i - 1) 0 → ids_fit n l ≡ false
-    unfolding ids_fit
-    unordered zero a h k = absurd (omega (arith, a.some))
-    unordered (suc i) a h k =
-        let e : suc i - 1 ≡ i = omega arith in
-        rw (a.same ∙ ap (λ j. ascending (drop j l)) e ∙ pair-stops i h (rw e at k))
-
-    -- all ids ascend: the last decides
-    pub ordered : (i : ℕ) → Ascended l i → length l ≤ i → (length l ≡ 0 → ⊥) → ids_fit n l ≡ ltb (get_or l (length l - 1) 0) n
-    unfolding ids_fit
-    ordered i a h k = rw (a.same ∙ few-ascend (drop (i - 1) l) (rw length-drop (omega arith))) (last_entry n l (omega (arith, k)))
-
--- an empty list of ids fits
-pub none-fit : (n : ℕ) (l : List ℕ) → length l ≡ 0 → ids_fit n l ≡ true
-unfolding ids_fit ascending last_below
-none-fit n [] h = refl
-none-fit n (x ∷ l) h = absurd (omega arith)
+-- of those that do the last decides
+pub sorted : {r q : Bool} (n : ℕ) (l : List ℕ) → IsAllAdjacentAnswer (λ x y b. b ≡ ltb x y) l r → r ≡ true → q ≡ last_below n l → q ≡ ids_fit n l
+unfolding ids_fit
+sorted n l h e k = rw (← sorted-ascending _ l h, e) k
 
 -- where ids ascend and the last is below n each is below n
 ascending-below : (n : ℕ) (l : List ℕ) → ascending l ≡ true → last_below n l ≡ true → (i : ℕ) → i < length l → get_or l i 0 < n

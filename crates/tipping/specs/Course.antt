@@ -1,6 +1,6 @@
 -- How the call goes, written with the code. No definition of the call names it.
 use Rattle.std.specs.Prelude.{ℕ, suc, ◌-◌, ◌≤◌, ◌≡◌, ◌≢◌, Bool, cond, ◌&&◌, List, eqb, leb, ltb, length, get_or, ℤ, nat_abs}
-use Rattle.store.specs.Store.{Store, slots}
+use Rattle.store.specs.Store.{Store}
 use Rattle.store.specs.Meaning.{Setting, setting_of, node}
 use Rattle.evaluation.specs.Evaluated.{Walks}
 
@@ -22,7 +22,7 @@ Marked σ s marks = (i : ℕ) → get_or marks i 0 ≢ 0 → get_or marks i 0 �
 
 -- What a way down from an edge asks: the lists hold its nodes, which keep the rules of nodes for as many levels as the setting has bytes; and
 -- the marks are right.
-pub record WayAsks (level : List ℕ) (then els : List ℤ) (setting marks : List ℕ) (e : ℤ) : Type 0 where
-  pub walks : Walks level then els setting (nat_abs e)
+pub record WayAsks (σ : Store) (setting marks : List ℕ) (e : ℤ) : Type 0 where
+  pub walks : Walks σ setting (nat_abs e)
   pub some : 1 ≤ nat_abs e
-  pub marked : Marked (slots level then els) (setting_of setting) marks
+  pub marked : Marked σ (setting_of setting) marks

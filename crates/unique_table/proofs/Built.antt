@@ -45,7 +45,8 @@ module _ (width : ℕ) (σ : Store) (count : ℕ) where
       index-more : Indexed width σ n (set ix at n)
       index-more =
           let q : n - 1 + 1 ≡ n = omega (arith, B.low) in
-          rw q at (indexed-more width σ σ (n - 1) ix B.index (level_at σ n) (then_at σ n) (else_at σ n) at s z (omega (arith, B.low)) (omega (arith, B.low, B.same))
+          rw q at (indexed-more width σ σ (n - 1) ix B.index (level_at σ n) (then_at σ n) (else_at σ n) at s z
+          (omega (arith, B.low)) (omega (arith, B.low, B.same))
           (record { level = λ m p g. refl; then = λ m p g. refl; els = λ m p g. refl })
           (rw q (record { level = refl; then = refl; els = refl })))
 

@@ -1,5 +1,4 @@
 pub mod Built
-pub mod Holding
 pub mod Mixed
 pub mod More
 pub mod Seeking

@@ -1,5 +1,4 @@
--- The key and the head of a level, a then and an else: the code's sums are those of the definitions, each fits, and a head lies below the
--- width.
+-- The head of a level, a then and an else: the code's sums are those of the definitions, each fits, and a head lies below the width.
 use mathlib.Core.Path.{◌≡◌}
 use mathlib.Core.Bool.{Bool, true, false, cond}
 use Prim.Native.Nat.{ℕ, ◌+◌, ◌-◌, ◌*◌, ◌/◌, ◌%◌, ◌^◌, ◌≤◌, ◌<◌}
@@ -8,16 +7,7 @@ use native.Mathlib.Nat.{mod-lt, mul_comm, mul-le-mul, mul-lt-mul_of_pos_right, d
 use borrow.Author.Tests.{le-leb, lt-leb}
 use lib.Dec.{leb}
 use lib.IntN.{ℤ, nat_abs}
-use Rattle.unique_table.specs.Index.{key_part, node_key, mix_of, head_entry}
-
-pub key-is : (l x y : ℕ) (t e : ℤ) → x ≡ key_part e → y ≡ key_part t → x + 2 ^ 24 * y + 2 ^ 48 * l ≡ node_key l t e
-unfolding node_key
-key-is l x y t e p q = rw (p, q)
-
-pub mix-is : (l x y : ℕ) (t e : ℤ) → y ≡ key_part t → x ≡ key_part e
-    → (l * 2654435769 + y * 1315298017 + x * 628009085) % 2 ^ 32 / 4 ≡ mix_of l t e
-unfolding mix_of
-mix-is l x y t e p q = rw (p, q)
+use Rattle.unique_table.specs.Index.{mix_of, head_entry}
 
 -- the head, in a narrow index and in a wide one
 pub head-narrow : (width l p : ℕ) (t e : ℤ) → p ≡ mix_of l t e → width ≤ 65536 → p * width / 2 ^ 30 ≡ head_entry width l t e

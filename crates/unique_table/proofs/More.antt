@@ -19,7 +19,8 @@ zeros-at zero i = refl
 zeros-at (suc n) zero = refl
 zeros-at (suc n) (suc i) = zeros-at n i
 
-pub indexed-none : (width : ℕ) (σ : Store) (ix : List ℕ) → 1 ≤ width → width ≤ 2 ^ 34 → width + 4 ≤ length ix → ix ≡ replicate (length ix) 0 → Indexed width σ 1 ix
+pub indexed-none : (width : ℕ) (σ : Store) (ix : List ℕ) → 1 ≤ width → width ≤ 2 ^ 34 → width + 4 ≤ length ix → ix ≡ replicate (length ix) 0
+    → Indexed width σ 1 ix
 indexed-none width σ ix w x h q = record {
   some = w;
   wide = x;
@@ -49,7 +50,8 @@ pub finds-same : {width : ℕ} {σ : Store} (τ : Store) {c : ℕ} {ix : List �
 finds-same {width} {σ} τ {c} {ix} F a = record { indexed = λ h. indexed-same width σ τ c ix (F.indexed h) a }
 
 -- the entry that a search comes to is a head, or belongs to one of the nodes
-leads-low : {width : ℕ} {σ : Store} {c : ℕ} {ix : List ℕ} (to : ℕ) {k at : ℕ} → Indexed width σ c ix → at < width + 2 * c + 2 → LeadsOn width ix to k at → to < width + 2 * c + 2
+leads-low : {width : ℕ} {σ : Store} {c : ℕ} {ix : List ℕ} (to : ℕ) {k at : ℕ} → Indexed width σ c ix → at < width + 2 * c + 2
+    → LeadsOn width ix to k at → to < width + 2 * c + 2
 leads-low to I h (arrived q) = omega arith
 leads-low to {k} {at} I h (on p x) = leads-low to I (omega (arith, I.high at, bit_below k)) x
 
@@ -101,7 +103,8 @@ module _ (width : ℕ) (σ τ : Store) (c : ℕ) (ix : List ℕ) (I : Indexed wi
   new-met = record { place = at; leads = leads-set at at (c + 1) z s.leads; node = here }
 
   meets-more : (m : ℕ) → 2 ≤ m → m ≤ c + 1 → Dec (m ≡ c + 1)
-      → MeetsEntry width (set ix at (c + 1)) m (node_key (level_at τ m) (then_at τ m) (else_at τ m)) (head_entry width (level_at τ m) (then_at τ m) (else_at τ m))
+      → MeetsEntry width (set ix at (c + 1)) m (node_key (level_at τ m) (then_at τ m) (else_at τ m))
+      (head_entry width (level_at τ m) (then_at τ m) (else_at τ m))
   meets-more m p h (yes q) = rw (q, H.level, H.then, H.els) new-met
   meets-more m p h (no f) =
       let g : m ≤ c = omega arith in

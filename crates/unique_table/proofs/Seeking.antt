@@ -8,7 +8,7 @@ use native.Mathlib.Omega.{arith}
 use native.Mathlib.Decide.{ℕ_discrete}
 use lib.ListN.{length, get_or}
 use lib.IntN.{ℤ}
-use Rattle.store.specs.Store.{Store, slots}
+use Rattle.store.specs.Store.{Store}
 use Rattle.store.specs.Rules.{Nodes}
 use Rattle.store.specs.Make.{holds, find}
 use Rattle.store.proofs.Find.{Holds, holds-true, true-holds, find-is, absent-find}
@@ -114,9 +114,9 @@ module _ (width : ℕ) (σ : Store) (c : ℕ) (ix : List ℕ) (I : Indexed width
     pub sought-holds : 0 < get_or ix at 0 → Holds σ (get_or ix at 0) l t e
     sought-holds h = holds-true σ l t e (get_or ix at 0) (s.hit h)
 
--- A search of the index finds what a search of the store finds, in every store with these lists.
-module _ (width : ℕ) (σ : Store) (ix : List ℕ) (I : Indexed width (slots σ.level σ.then σ.els) σ.count ix) where
-  pub sought-find : Nodes σ → (l : ℕ) (t e : ℤ) (at : ℕ) → Sought width (slots σ.level σ.then σ.els) σ.count ix l t e at → get_or ix at 0 ≡ find σ l t e
+-- A search of the index finds what a search of the store finds.
+module _ (width : ℕ) (σ : Store) (ix : List ℕ) (I : Indexed width σ σ.count ix) where
+  pub sought-find : Nodes σ → (l : ℕ) (t e : ℤ) (at : ℕ) → Sought width σ σ.count ix l t e at → get_or ix at 0 ≡ find σ l t e
   sought-find N l t e at s = go (ℕ_discrete (get_or ix at 0) 0)
     where
       go : Dec (get_or ix at 0 ≡ 0) → get_or ix at 0 ≡ find σ l t e

@@ -5,12 +5,13 @@
 
 ghost use Rattle.std.specs.Prelude.{◌≡◌, true, ◌+◌, ◌*◌, ◌^◌, ◌≤◌, ◌<◌, nat_abs, length, replicate};
 ghost use Rattle.edges.specs.Width.{edge_limit};
-ghost use Rattle.store.specs.Store.{slots};
+ghost use Rattle.store.specs.Held.{held};
 ghost use Rattle.store.specs.Keeps.{Decides};
 ghost use Rattle.store.specs.Make.{holds};
 ghost use Rattle.unique_table.specs.Index.{width_for, key_part, node_key, mix_of, head_entry, Indexed, Sought, AllAlone};
 
 use edges::{Edge, Index};
+use store::StoreRef;
 
 // So many entries of work for each number from 0 to n are enough for the index of n nodes: with more it would not be faster.
 pub const ENTRIES: usize = 6;
@@ -41,6 +42,7 @@ fn key_part(e: Edge) -> u64
 }
 
 // The bits of a level, a then and an else.
+#[tactic(auto, unfolding(crate::specs::Index::node_key))]
 fn key(l: u16, t: Edge, e: Edge) -> u64
     ensures { result ≡ node_key l t e }
 {
@@ -49,6 +51,7 @@ fn key(l: u16, t: Edge, e: Edge) -> u64
 
 // A mix of them, of 30 bits. The numbers that they are multiplied by are odd and have no pattern, and of the sum's lower 32 bits the upper 30 count,
 // so that nodes that differ little get mixes far apart, small numbers too.
+#[tactic(auto, unfolding(crate::specs::Index::mix_of))]
 fn mix(l: u16, t: Edge, e: Edge) -> u64
     ensures { result ≡ mix_of l t e }
 {
@@ -77,54 +80,34 @@ fn head(width: usize, l: u16, t: Edge, e: Edge) -> usize
 }
 
 // Does node n have this level, then and else? That is a matter of three lists only.
-pub fn holds_at(
-    level: &[u16],
-    then: &[Edge],
-    els: &[Edge],
-    l: u16,
-    t: Edge,
-    e: Edge,
-    n: Index,
-) -> bool
-    requires { (1 ≤ n) × ((n ≤ length level.now) × ((n ≤ length then.now) × (n ≤ length els.now))) }
-    ensures { result ≡ holds (slots level.now then.now els.now) l t e n }
+pub fn holds_at(store: &StoreRef, l: u16, t: Edge, e: Edge, n: Index) -> bool
+    requires { (1 ≤ n) × ((n ≤ length store.now.level.now) × ((n ≤ length store.now.then.now) × (n ≤ length store.now.els.now))) }
+    ensures { result ≡ holds (held store.now) l t e n }
 {
     let i = (n - 1) as usize;
-    if level[i] == l {
-        let x = then[i];
-        if edges::same(x, t) {
-            let y = els[i];
-            edges::same(y, e)
-        } else {
-            false
-        }
-    } else {
-        false
-    }
+    store.level[i] == l && edges::same(store.then[i], t) && edges::same(store.els[i], e)
 }
 
 // The entry of the node that has this level, then and else, or the empty entry where such a node belongs. `count` says how many nodes the
-// index knows.
+// index knows: fewer than the store has while it is built.
 pub fn seek(
     index: &[Index],
     width: usize,
     count: Index,
-    level: &[u16],
-    then: &[Edge],
-    els: &[Edge],
+    store: &StoreRef,
     l: u16,
     t: Edge,
     e: Edge,
 ) -> usize
-    requires indexed { Indexed width (slots level.now then.now els.now) count index.now }
-    requires count_in_bounds { (count ≤ length level.now) × ((count ≤ length then.now) × (count ≤ length els.now)) }
-    ensures { Sought width (slots level.now then.now els.now) count index.now l t e result }
+    requires indexed { Indexed width (held store.now) count index.now }
+    requires count_in_bounds { (count ≤ length store.now.level.now) × ((count ≤ length store.now.then.now) × (count ≤ length store.now.els.now)) }
+    ensures { Sought width (held store.now) count index.now l t e result }
 {
     let mut k = key(l, t, e);
     let mut at = head(width, l, t, e);
     let mut n = index[at];
     while n != 0 {
-        if holds_at(level, then, els, l, t, e, n) {
+        if holds_at(store, l, t, e, n) {
             return at;
         }
         at = width + 2 * n as usize + (k % 2) as usize;
@@ -134,35 +117,27 @@ pub fn seek(
     at
 }
 
-// Are no two of the nodes 2 to count alike? Each is sought among those before it, and put where its search ended; so the index is that of
-// all nodes where the answer is yes.
-pub fn distinct(
-    index: &mut [Index],
-    width: usize,
-    count: Index,
-    level: &[u16],
-    then: &[Edge],
-    els: &[Edge],
-) -> bool
+// Are no two of the store's nodes alike? Each is sought among those before it, and put where its search ended; so the index is that of all
+// nodes where the answer is yes.
+pub fn distinct(index: &mut [Index], width: usize, store: &StoreRef) -> bool
     requires index_value { index.old ≡ replicate (length index.old) 0 }
-    requires le_width { (1 ≤ width) × (width ≤ 2 ^ 34) × (width + 2 * count + 2 ≤ length index.old) }
-    requires le_count { (1 ≤ count) × (count < edge_limit) }
-    requires count_in_bounds { (count ≤ length level.now) × ((count ≤ length then.now) × (count ≤ length els.now)) }
-    ensures decides { Decides result (AllAlone (slots level.now then.now els.now) count) }
-    ensures indexed { result ≡ true → Indexed width (slots level.now then.now els.now) count index.new }
+    requires le_width { (1 ≤ width) × (width ≤ 2 ^ 34) × (width + 2 * store.now.count + 2 ≤ length index.old) }
+    requires le_count { (1 ≤ store.now.count) × (store.now.count < edge_limit) }
+    requires count_in_bounds { (store.now.count ≤ length store.now.level.now)
+        × ((store.now.count ≤ length store.now.then.now) × (store.now.count ≤ length store.now.els.now)) }
+    ensures decides { Decides result (AllAlone (held store.now) store.now.count) }
+    ensures indexed { result ≡ true → Indexed width (held store.now) store.now.count index.new }
 {
-    let mut n: Index = 2;
-    while n <= count {
+    for n in 2..=store.count {
         let i = (n - 1) as usize;
-        let l = level[i];
-        let t = then[i];
-        let e = els[i];
-        let at = seek(index, width, n - 1, level, then, els, l, t, e);
+        let l = store.level[i];
+        let t = store.then[i];
+        let e = store.els[i];
+        let at = seek(index, width, n - 1, store, l, t, e);
         if index[at] != 0 {
             return false;
         }
         index[at] = n;
-        n += 1;
     }
     true
 }

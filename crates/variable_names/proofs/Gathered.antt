@@ -1,7 +1,7 @@
 -- Laws of entries that a loop lays, one after the other, over the front of a lent list.
 use mathlib.Core.Path.{◌≡◌, refl, sym, ap, ◌∙◌}
 use mathlib.Core.List.{List, [], ◌∷◌, ◌++◌, map, append-nil}
-use Prim.Native.Nat.{ℕ, suc, ◌+◌, ◌-◌, ◌≤◌, ◌<◌}
+use Prim.Native.Nat.{ℕ, ◌+◌, ◌≤◌, ◌<◌}
 use native.Mathlib.Numerals.{add-one}
 use native.Mathlib.Omega.{arith}
 use lib.ListN.{length, get_or, drop, set, take, length-append, length-take, drop_of_length-le}
@@ -55,19 +55,8 @@ gathering-start seats from old = record { laying = laying-start _ old; within = 
 
 module _ {seats from old dst : List ℕ} {i : ℕ} (g : Gathering seats from old dst i) where
   -- the entry at seat i
-  gathering-by : (x : ℕ) → i < length seats → x ≡ entry_at from (get_or seats i 0) → Gathering seats from old (set dst i x) (i + 1)
+  pub gathering-by : (x : ℕ) → i < length seats → x ≡ entry_at from (get_or seats i 0) → Gathering seats from old (set dst i x) (i + 1)
   gathering-by x h e = record { laying = laying-more g.laying x _ (rw (drop-cons seats i 0 h, e, add-one)); within = omega arith }
-
-  -- there is no seat
-  pub gathering-none : i < length seats → get_or seats i 0 ≡ 0 → Gathering seats from old (set dst i 0) (i + 1)
-  gathering-none h e = gathering-by 0 h (rw e)
-
-  -- there is a seat
-  pub gathering-one : {x : ℕ} → i < length seats → (get_or seats i 0 ≡ 0 → ⊥) → x ≡ get_or from (get_or seats i 0 - 1) 0
-      → Gathering seats from old (set dst i x) (i + 1)
-  gathering-one {x} h n e =
-      let s : get_or seats i 0 ≡ suc (get_or seats i 0 - 1) = omega (arith, n) in
-      gathering-by x h (e ∙ sym (ap (entry_at from) s))
 
   -- all seats are passed
   pub gathering-end : length seats ≤ i → dst ≡ laid (map (entry_at from) seats) old

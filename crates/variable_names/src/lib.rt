@@ -15,22 +15,17 @@ use seats::entry;
 fn byte(f: &[u8], at: usize) -> u8
     ensures { result ≡ get_or f.now at 0 }
 {
-    if at < f.len() {
-        return f[at];
-    }
-    0
+    f.get(at).copied().unwrap_or(0)
 }
 
 // Whether the `n` bytes from `a` on are those from `b` on.
 fn same_bytes(f: &[u8], a: u32, b: u32, n: u32) -> bool
     ensures { result ≡ are_same_bytes f.now a b n }
 {
-    let mut i: u32 = 0;
-    while i < n {
-        if byte(f, a as usize + i as usize) != byte(f, b as usize + i as usize) {
+    for i in 0..n as usize {
+        if byte(f, a as usize + i) != byte(f, b as usize + i) {
             return false;
         }
-        i += 1;
     }
     true
 }
@@ -39,10 +34,7 @@ fn same_bytes(f: &[u8], a: u32, b: u32, n: u32) -> bool
 pub fn same_name(f: &[u8], start: u32, len: u32, start2: u32, len2: u32) -> bool
     ensures { result ≡ same_name f.now (place start len) (place start2 len2) }
 {
-    if len != len2 {
-        return false;
-    }
-    same_bytes(f, start, start2, len)
+    len == len2 && same_bytes(f, start, start2, len)
 }
 
 // Whether two lists of names, each taken at the positions of its index, are alike.
@@ -60,9 +52,8 @@ pub fn same_names(
     requires lens2_len { length lens2.now ≡ length starts2.now }
     ensures { SameNamesPromise (seen f) (seen index) (seen starts) (seen lens) (seen index2) (seen starts2) (seen lens2) result }
 {
-    let mut i = 0;
-    while i < index.len() {
-        let a = index[i] as usize;
+    for (i, a) in index.iter().enumerate() {
+        let a = *a as usize;
         let b = index2[i] as usize;
         if !same_name(
             f,
@@ -73,7 +64,6 @@ pub fn same_names(
         ) {
             return false;
         }
-        i += 1;
     }
     true
 }
@@ -83,16 +73,14 @@ fn free_seats(permids: &[u32], seats: &mut [u32], dst: &mut [u32])
     requires { (length seats.old ≤ var_limit) × (length permids.now ≤ var_limit) }
     ensures { FreePromise (seen permids) (borrowed seats) (borrowed dst) }
 {
-    zeros::clear_numbers(seats);
+    seats.fill(0);
     seats::seats(permids, seats);
-    let mut n: usize = 0;
-    let mut p: usize = 0;
-    while p < seats.len() {
-        if seats[p] == 0 {
-            read_lists::put_u32(dst, n, (p + 1) as u32);
+    let mut n = 0;
+    for (p, taken) in seats.iter().enumerate() {
+        if *taken == 0 {
+            read_lists::put(dst, n, p as u32 + 1);
             n += 1;
         }
-        p += 1;
     }
 }
 
@@ -109,20 +97,18 @@ pub fn ordered_seats(
     requires below { Below var_limit permids.now × (length free.old ≡ length seats.old) }
     ensures { OrderedSeatsPromise (seen ids) (seen permids) (borrowed seats) (borrowed dst) }
 {
-    zeros::clear_numbers(free);
+    free.fill(0);
     free_seats(permids, seats, free);
-    zeros::clear_numbers(seats);
+    seats.fill(0);
     seats::seats(ids, seats);
-    let mut n: usize = 0;
-    let mut v: usize = 0;
-    while v < seats.len() {
-        if seats[v] == 0 {
-            read_lists::put_u32(dst, v, entry(free, n));
+    let mut n = 0;
+    for (v, seat) in seats.iter().enumerate() {
+        if *seat == 0 {
+            read_lists::put(dst, v, entry(free, n));
             n += 1;
         } else {
-            read_lists::put_u32(dst, v, entry(permids, seats[v] as usize - 1) + 1);
+            read_lists::put(dst, v, entry(permids, *seat as usize - 1) + 1);
         }
-        v += 1;
     }
 }
 
@@ -132,12 +118,10 @@ pub fn supp_seats(ids: &[u32], seats: &mut [u32], dst: &mut [u32])
     requires { (length seats.old ≤ var_limit) × (length ids.now ≤ var_limit) }
     ensures { SuppSeatsPromise (seen ids) (borrowed seats) (borrowed dst) }
 {
-    zeros::clear_numbers(seats);
+    seats.fill(0);
     seats::seats(ids, seats);
-    let mut v: usize = 0;
-    while v < seats.len() {
-        read_lists::put_u32(dst, v, seats[v]);
-        v += 1;
+    for (v, seat) in seats.iter().enumerate() {
+        read_lists::put(dst, v, *seat);
     }
 }
 
@@ -145,14 +129,8 @@ pub fn supp_seats(ids: &[u32], seats: &mut [u32], dst: &mut [u32])
 pub fn gather(seats: &[u32], from: &[u32], dst: &mut [u32])
     ensures { dst.new ≡ laid (map (entry_at from.now) seats.now) dst.old }
 {
-    let mut i = 0;
-    while i < seats.len() {
-        if seats[i] == 0 {
-            read_lists::put_u32(dst, i, 0);
-        } else {
-            read_lists::put_u32(dst, i, entry(from, seats[i] as usize - 1));
-        }
-        i += 1;
+    for (i, seat) in seats.iter().enumerate() {
+        read_lists::put(dst, i, entry_at(from, *seat));
     }
 }
 
@@ -171,10 +149,7 @@ pub fn gather_own(from: &[u32], n: usize, dst: &mut [u32])
     requires { n ≤ length dst.old }
     ensures { dst.new ≡ laid (map (entry_at from.now) (take n dst.old)) dst.old }
 {
-    let mut i = 0;
-    while i < n {
-        let seat = dst[i];
-        read_lists::put_u32(dst, i, entry_at(from, seat));
-        i += 1;
+    for i in 0..n {
+        dst[i] = entry_at(from, dst[i]);
     }
 }

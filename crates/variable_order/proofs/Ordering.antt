@@ -75,7 +75,8 @@ module _ (levels : ℕ) (order vars : List ℕ) where
         seats x p (yes q) =
             rw q
             (get_or-set_same vars (get_or order v 0) (suc v) 0 (omega (arith, o.long))
-            ∙ sym (seat-last (get_or order v 0) (take v order) (sym (o.seats (get_or order v 0) (omega arith)) ∙ e) ∙ ap suc (length-take-le v order (omega arith))))
+            ∙ sym (seat-last (get_or order v 0) (take v order) (sym (o.seats (get_or order v 0) (omega arith)) ∙ e)
+            ∙ ap suc (length-take-le v order (omega arith))))
         seats x p (no q) =
             get_or-set_other vars (get_or order v 0) x (suc v) 0 q ∙ o.seats x p ∙ sym (seat-other x (get_or order v 0) (take v order) q)
 

@@ -14,17 +14,14 @@ pub fn is_order(levels: u16, order: &[u16], vars: &mut [u16]) -> bool
     if order.len() != levels as usize {
         return false;
     }
-    let mut v: u16 = 0;
-    while v < levels {
-        let l = order[v as usize];
-        if levels <= l {
+    for (v, l) in order.iter().enumerate() {
+        if levels <= *l {
             return false;
         }
-        if vars[l as usize] != 0 {
+        if vars[*l as usize] != 0 {
             return false;
         }
-        v += 1;
-        vars[l as usize] = v;
+        vars[*l as usize] = v as u16 + 1;
     }
     true
 }

@@ -22,51 +22,27 @@ fn cut(head: &[u8; 27], at: usize, most: usize) -> usize
     requires { at + 2 ≤ 27 }
     ensures { result ≤ most }
 {
-    let n = replay::two(head, at) as usize;
-    if n < most { n } else { most }
-}
-
-fn pattern(e: Edge) -> u32 {
-    edges::pattern(e) as u32
-}
-
-// The 16 bits of each edge.
-fn to_bits(edges: &[Edge], bits: &mut [u32]) {
-    let mut i = 0;
-    while i < bits.len() && i < edges.len() {
-        bits[i] = pattern(edges[i]);
-        i += 1;
-    }
-}
-
-// The position after a list of edges, as `answer::after_list` has it: the stored entries are their bits.
-fn after_edges(stored: &[u8], from: usize, list: &[Edge]) -> usize {
-    let n = list.len();
-    let mut bits = [0u32; ROOTS];
-    if n <= bits.len() {
-        to_bits(list, &mut bits);
-        return answer::after_list(stored, from, &bits[..n]);
-    }
-    0
+    (replay::two(head, at) as usize).min(most)
 }
 
 // What is found before the header is read: lists that are too short, then what the case says, then the length of the input.
+// Stays: a number, since `DumpHeader::load` takes any that was found before, and a case says any.
 fn found_before(vars: &[usize], roots: &[usize], found: u8, f: &[u8]) -> u8
     ensures may_read { MayRead limits result f.now }
     ensures roots_value { result ≡ 0 → lists_fault vars.now roots.now ≡ 0 }
 {
-    let lists = stages::lengths_fault(vars, roots);
-    if lists != 0 {
-        return lists;
+    match stages::lengths_fault(vars, roots) {
+        0 => stages::length_fault(found, f.len()),
+        short => short,
     }
-    stages::length_fault(found, f.len())
 }
 
-// Whether the call gives the stored answer, and leaves the stored lists.
-fn leaves(
+// What is left of the stored answer after that of the call and the lists that it leaves; none where these are others.
+// Stays: what was found is a number, as above; the lists are those of `DumpHeader::load`.
+fn left_of<'a>(
     f: &[u8],
     found: u8,
-    stored: &[u8],
+    stored: &'a [u8],
     ids: &mut [u32],
     order: &mut [u32],
     permids: &mut [u32],
@@ -76,7 +52,7 @@ fn leaves(
     roots: &mut [Edge],
     rootnames: &mut [u32],
     rootlens: &mut [u32],
-) -> bool {
+) -> Option<&'a [u8]> {
     let before = found_before(
         &[
             ids.len(),
@@ -93,21 +69,17 @@ fn leaves(
     let loaded = DumpHeader::load(
         f, before, ids, order, permids, auxids, names, lens, roots, rootnames, rootlens,
     );
-    let mut at = answer::after_numbers(stored, loaded);
-    at = answer::after_list(stored, at, ids);
-    at = answer::after_list(stored, at, order);
-    at = answer::after_list(stored, at, permids);
-    at = answer::after_list(stored, at, auxids);
-    at = answer::after_list(stored, at, names);
-    at = answer::after_list(stored, at, lens);
-    at = after_edges(stored, at, roots);
-    at = answer::after_list(stored, at, rootnames);
-    at = answer::after_list(stored, at, rootlens);
-    answer::is_end(stored, at)
+    let mut left = answer::after_loaded(stored, loaded)?;
+    for list in [&*ids, &*order, &*permids, &*auxids, &*names, &*lens] {
+        left = answer::after_list(left, list, u64::from)?;
+    }
+    left = answer::after_list(left, roots, |e| u64::from(edges::pattern(e)))?;
+    left = answer::after_list(left, rootnames, u64::from)?;
+    answer::after_list(left, rootlens, u64::from)
 }
 
 // The same on lists of the lengths that a case's head has.
-pub fn agrees(head: &[u8; 27], f: &[u8], stored: &[u8]) -> bool {
+pub fn left<'a>(head: &[u8; 27], f: &[u8], stored: &'a [u8]) -> Option<&'a [u8]> {
     let mut ids = [FILL; VARS];
     let mut order = [FILL; VARS];
     let mut permids = [FILL; VARS];
@@ -117,27 +89,18 @@ pub fn agrees(head: &[u8; 27], f: &[u8], stored: &[u8]) -> bool {
     let mut roots = [EDGE_FILL; ROOTS];
     let mut rootnames = [FILL; ROOTS];
     let mut rootlens = [FILL; ROOTS];
-    let a = cut(head, 1, VARS);
-    let b = cut(head, 3, VARS);
-    let c = cut(head, 5, VARS);
-    let d = cut(head, 7, VARS);
-    let e = cut(head, 9, VARS);
-    let g = cut(head, 11, VARS);
-    let h = cut(head, 13, ROOTS);
-    let j = cut(head, 15, ROOTS);
-    let k = cut(head, 17, ROOTS);
-    leaves(
+    left_of(
         f,
         head[0],
         stored,
-        &mut ids[..a],
-        &mut order[..b],
-        &mut permids[..c],
-        &mut auxids[..d],
-        &mut names[..e],
-        &mut lens[..g],
-        &mut roots[..h],
-        &mut rootnames[..j],
-        &mut rootlens[..k],
+        &mut ids[..cut(head, 1, VARS)],
+        &mut order[..cut(head, 3, VARS)],
+        &mut permids[..cut(head, 5, VARS)],
+        &mut auxids[..cut(head, 7, VARS)],
+        &mut names[..cut(head, 9, VARS)],
+        &mut lens[..cut(head, 11, VARS)],
+        &mut roots[..cut(head, 13, ROOTS)],
+        &mut rootnames[..cut(head, 15, ROOTS)],
+        &mut rootlens[..cut(head, 17, ROOTS)],
     )
 }

@@ -8,33 +8,6 @@ mod answer;
 mod case;
 mod lists;
 
-use replay::Tally;
-use std::fs::File;
-
-fn run(file: &mut File) -> Tally {
-    let mut f = case::room();
-    let mut stored = case::room();
-    let mut t = Tally::new();
-    let mut left = replay::MOST;
-    while left > 0 && !t.ended {
-        t = t.after(case::one(file, &mut f, &mut stored));
-        left -= 1;
-    }
-    t
-}
-
-fn run_argument(rt: &HostRuntime, i: usize) {
-    if let Some(mut file) = replay::open(rt, i) {
-        let t = run(&mut file);
-        replay::close(rt, file, t);
-    }
-}
-
 fn main(rt: HostRuntime) {
-    let end = replay::arg_count(&rt);
-    let mut i = 1;
-    while i < end {
-        run_argument(&rt, i);
-        i += 1;
-    }
+    replay::run(&rt, || (), |file, _| case::one(file));
 }

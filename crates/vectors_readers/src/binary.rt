@@ -1,17 +1,12 @@
 // Cases of escaped bytes and 7-bit numbers.
 use crate::answer;
-use read_binary::{Byte, Number};
 
-pub fn byte(input: &[u8], at: usize, stored: &[u8]) -> bool {
-    match read_binary::read_unescape(input, at) {
-        Byte::Value(b, next) => answer::is_pair(stored, b as u64, next as u64),
-        Byte::Refused(k) => answer::is_refusal(stored, k),
-    }
+pub fn byte<'a>(input: &[u8], at: usize, stored: &'a [u8]) -> Option<&'a [u8]> {
+    let read = read_binary::read_unescape(input, at);
+    answer::after_result(stored, read.map(|(b, next)| [u64::from(b), next as u64]))
 }
 
-pub fn number(input: &[u8], at: usize, stored: &[u8]) -> bool {
-    match read_binary::decode_7bit(input, at) {
-        Number::Value(v, next) => answer::is_pair(stored, v, next as u64),
-        Number::Refused(k) => answer::is_refusal(stored, k),
-    }
+pub fn number<'a>(input: &[u8], at: usize, stored: &'a [u8]) -> Option<&'a [u8]> {
+    let read = read_binary::decode_7bit(input, at);
+    answer::after_result(stored, read.map(|(v, next)| [v, next as u64]))
 }

@@ -1,8 +1,16 @@
 // One case: which reader, its arguments, its input and its answer.
 ghost use Rattle.std.specs.Prelude.{◌+◌, ◌≤◌};
 
+use crate::lists::{FILL, ROOM};
+use crate::{binary, lists, numbers, texts};
+use replay::End;
+use std::fs::File;
+
+// The length of the longest answer.
+const ANSWER: usize = 70000;
+
 // The number of 32 bits at a position of a case's head.
-pub fn field(head: &[u8; 21], at: usize) -> usize
+fn field(head: &[u8; 21], at: usize) -> usize
     requires { at + 4 ≤ 21 }
 {
     replay::four(head, at) as usize
@@ -13,40 +21,53 @@ fn narrow(n: usize) -> u8 {
     (n % 256) as u8
 }
 
-// Whether a reader answers what is stored. A kind that isn't there is a difference.
-fn reader_agrees(kind: u8, a: usize, b: usize, room: usize, input: &[u8], stored: &[u8]) -> bool {
-    match kind {
-        1 => crate::numbers::single_u32(input, stored),
-        2 => crate::numbers::single_u64(input, stored),
-        3 => crate::numbers::first_u32(input, stored),
-        4 => crate::numbers::first_u64(input, stored),
-        5 => crate::numbers::digits(input, a, b, narrow(room), stored),
-        6 => crate::lists::u32_list(input, a, room, stored),
-        7 => crate::lists::edge_list(input, a, room, stored),
-        8 => crate::lists::children(input, stored),
-        9 => crate::texts::utf8(input, stored),
-        10 => crate::texts::text(input, a, stored),
-        11 => crate::lists::name_list(input, a, b, room, stored),
-        12 => crate::texts::forward(input, a, b, room, stored),
-        13 => crate::texts::backward(input, a, b, room, stored),
-        14 => crate::texts::line(input, a, stored),
-        15 => crate::texts::field(input, a, b, stored),
-        16 => crate::binary::byte(input, a, stored),
-        17 => crate::binary::number(input, a, stored),
-        18 => crate::texts::classes(narrow(a), stored),
-        19 => crate::texts::code(narrow(a), stored),
-        20 => crate::texts::limit_values(stored),
-        _ => false,
+// What is left of the stored answer after the answer of a reader, or none where that is another. No reader has a kind that isn't there.
+// Stays: the kinds are the numbers that stand in the files, and each is read here alone.
+fn left<'a>(head: &[u8; 21], input: &[u8], stored: &'a [u8]) -> Option<&'a [u8]> {
+    let a = field(head, 1);
+    let b = field(head, 5);
+    let room = field(head, 9);
+    match head[0] {
+        1 => numbers::single::<u32>(input, stored),
+        2 => numbers::single::<u64>(input, stored),
+        3 => numbers::first::<u32>(input, stored),
+        4 => numbers::first::<u64>(input, stored),
+        5 => numbers::digits(input, a, b, narrow(room), stored),
+        6 => lists::list(
+            [FILL; ROOM].get_mut(..room)?,
+            |list| read_lists::parse_u32_list(input, a, list),
+            u64::from,
+            stored,
+        ),
+        7 => lists::list(
+            [i64::from(FILL); ROOM].get_mut(..room)?,
+            |list| read_edges::parse_edge_list(input, a, list),
+            i64::cast_unsigned,
+            stored,
+        ),
+        8 => lists::children(input, stored),
+        9 => texts::utf8(input, stored),
+        10 => texts::text(input, a, stored),
+        11 => lists::name_list(input, a, b, room, stored),
+        12 => texts::forward(input, a, b, room, stored),
+        13 => texts::backward(input, a, b, room, stored),
+        14 => texts::line(input, a, stored),
+        15 => texts::field(input, a, b, stored),
+        16 => binary::byte(input, a, stored),
+        17 => binary::number(input, a, stored),
+        18 => texts::classes(narrow(a), stored),
+        19 => texts::code(narrow(a), stored),
+        20 => texts::limit_values(stored),
+        _ => None,
     }
 }
 
-pub fn agrees(head: &[u8; 21], input: &[u8], stored: &[u8]) -> bool {
-    reader_agrees(
-        head[0],
-        field(head, 1),
-        field(head, 5),
-        field(head, 9),
-        input,
-        stored,
-    )
+// The next case of a file.
+pub fn one(file: &mut File) -> Result<bool, End> {
+    let head = replay::head(file)?;
+    let mut input = replay::large_buffer();
+    let mut stored = [0; ANSWER];
+    let input = replay::part(file, &mut input, field(&head, 13))?;
+    let stored = replay::part(file, &mut stored, field(&head, 17))?;
+    Ok(left(&head, input, stored).is_some_and(|left| left.is_empty()))
 }

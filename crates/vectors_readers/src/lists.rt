@@ -1,147 +1,63 @@
 // Cases of lists. The lent list is filled beforehand, so that the answer shows what the reader left as it was.
-ghost use Rattle.std.specs.Prelude.{◌+◌, ◌<◌, ◌^◌, length};
-
 use crate::answer;
-use read_edges::Children;
-use read_lists::Count;
+use codes::refusal::Refusal;
 
 // What each entry of a lent list is before the call.
-const FILL: u32 = 0x5a5a5a5a;
+pub const FILL: u32 = 0x5a5a5a5a;
 
 // The longest list that a case can ask for: more than the 4,096 entries of the longest list of a file.
-const ROOM: usize = 4100;
+pub const ROOM: usize = 4100;
 
-// Whether the count and the list after it are those of the answer.
-fn is_u32_answer(stored: &[u8], c: Count, list: &[u32]) -> bool {
-    if answer::has_count(stored, c) {
-        return answer::after_u32_list(stored, answer::before_lists(c), list) == stored.len();
-    }
-    false
-}
-
-fn run_u32(input: &[u8], max: usize, list: &mut [u32], stored: &[u8]) -> bool {
-    let c = read_lists::parse_u32_list(input, max, list);
-    is_u32_answer(stored, c, list)
-}
-
-fn in_room_u32(input: &[u8], max: usize, room: usize, list: &mut [u32], stored: &[u8]) -> bool {
-    if room <= list.len() {
-        return run_u32(input, max, &mut list[..room], stored);
-    }
-    false
-}
-
-pub fn u32_list(input: &[u8], max: usize, room: usize, stored: &[u8]) -> bool {
-    let mut list = [FILL; ROOM];
-    in_room_u32(input, max, room, &mut list, stored)
-}
-
-fn is_edge_answer(stored: &[u8], c: Count, list: &[i64]) -> bool {
-    if answer::has_count(stored, c) {
-        return answer::after_edge_list(stored, answer::before_lists(c), list) == stored.len();
-    }
-    false
-}
-
-fn run_edges(input: &[u8], max: usize, list: &mut [i64], stored: &[u8]) -> bool {
-    let c = read_edges::parse_edge_list(input, max, list);
-    is_edge_answer(stored, c, list)
-}
-
-fn in_room_edges(input: &[u8], max: usize, room: usize, list: &mut [i64], stored: &[u8]) -> bool {
-    if room <= list.len() {
-        return run_edges(input, max, &mut list[..room], stored);
-    }
-    false
-}
-
-pub fn edge_list(input: &[u8], max: usize, room: usize, stored: &[u8]) -> bool {
-    let mut list = [FILL as i64; ROOM];
-    in_room_edges(input, max, room, &mut list, stored)
-}
-
-pub fn children(input: &[u8], stored: &[u8]) -> bool {
-    match read_edges::parse_children(input) {
-        Children::Read(n, a, b) => answer::is_edge_pair(stored, n, a, b),
-        Children::Refused(k) => answer::is_refusal(stored, k),
-    }
-}
-
-// Whether the count and the two lists after it are those of the answer.
-fn is_name_answer(stored: &[u8], c: Count, starts: &[u32], lens: &[u32]) -> bool {
-    if answer::has_count(stored, c) {
-        let middle = answer::after_u32_list(stored, answer::before_lists(c), starts);
-        if middle != 0 {
-            return answer::after_u32_list(stored, middle, lens) == stored.len();
-        }
-    }
-    false
-}
-
-fn run_names(
-    input: &[u8],
-    base: u32,
-    max: usize,
-    starts: &mut [u32],
-    lens: &mut [u32],
-    stored: &[u8],
-) -> bool
-    requires { base + length input.now < 2 ^ 32 }
+// The list is lent to `read`; `number` is the number that stands in the answer for an entry.
+pub fn list<'a, T, Read, Number>(
+    list: &mut [T],
+    read: Read,
+    number: Number,
+    stored: &'a [u8],
+) -> Option<&'a [u8]>
+where
+    T: Copy,
+    Read: FnOnce(&mut [T]) -> Result<usize, Refusal>,
+    Number: Fn(T) -> u64,
+    requires reads { Read.IsAlwaysCallable read }
+    requires numbers { Number.IsAlwaysCallable number }
 {
-    let c = read_text::parse_str_list(input, base, max, starts, lens);
-    is_name_answer(stored, c, starts, lens)
+    let count = read(list);
+    let left = answer::after_result(stored, count.map(|n| [n as u64]))?;
+    answer::after_entries(left, list, number)
 }
 
-// The starts are cut to the room already.
-fn in_room_lens(
+pub fn children<'a>(input: &[u8], stored: &'a [u8]) -> Option<&'a [u8]> {
+    let read = read_edges::parse_children(input);
+    answer::after_result(
+        stored,
+        read.map(|c| {
+            [
+                c.count as u64,
+                c.first.cast_unsigned(),
+                c.second.cast_unsigned(),
+            ]
+        }),
+    )
+}
+
+pub fn name_list<'a>(
     input: &[u8],
-    base: u32,
+    base: usize,
     max: usize,
     room: usize,
-    starts: &mut [u32],
-    lens: &mut [u32],
-    stored: &[u8],
-) -> bool
-    requires { base + length input.now < 2 ^ 32 }
-{
-    if room <= lens.len() {
-        return run_names(input, base, max, starts, &mut lens[..room], stored);
+    stored: &'a [u8],
+) -> Option<&'a [u8]> {
+    let base = u32::try_from(base).ok()?;
+    if input.len() > (u32::MAX - base) as usize {
+        return None;
     }
-    false
-}
-
-fn in_room_names(
-    input: &[u8],
-    base: u32,
-    max: usize,
-    room: usize,
-    starts: &mut [u32],
-    lens: &mut [u32],
-    stored: &[u8],
-) -> bool
-    requires { base + length input.now < 2 ^ 32 }
-{
-    if room <= starts.len() {
-        return in_room_lens(input, base, max, room, &mut starts[..room], lens, stored);
-    }
-    false
-}
-
-pub fn name_list(input: &[u8], base: usize, max: usize, room: usize, stored: &[u8]) -> bool {
     let mut starts = [FILL; ROOM];
     let mut lens = [FILL; ROOM];
-    if base <= 0xffff_ffff {
-        if input.len() <= 0xffff_ffff - base {
-            return in_room_names(
-                input,
-                base as u32,
-                max,
-                room,
-                &mut starts,
-                &mut lens,
-                stored,
-            );
-        }
-    }
-    false
+    let starts = starts.get_mut(..room)?;
+    let lens = lens.get_mut(..room)?;
+    let count = read_text::parse_str_list(input, base, max, starts, lens);
+    let left = answer::after_result(stored, count.map(|n| [n as u64]))?;
+    let left = answer::after_entries(left, starts, u64::from)?;
+    answer::after_entries(left, lens, u64::from)
 }

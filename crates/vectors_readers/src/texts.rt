@@ -2,29 +2,21 @@
 use crate::answer;
 use codes::{Code, limits};
 use read_lines::Class;
-use read_text::Str;
 
-// 1 for true, as the answers have it.
-fn bit(b: bool) -> u64 {
-    if b { 1 } else { 0 }
+pub fn utf8<'a>(input: &[u8], stored: &'a [u8]) -> Option<&'a [u8]> {
+    answer::after_result(stored, Ok([u64::from(read_text::is_utf8(input))]))
 }
 
-pub fn utf8(input: &[u8], stored: &[u8]) -> bool {
-    answer::is_value(stored, bit(read_text::is_utf8(input)))
-}
-
-pub fn text(input: &[u8], base: usize, stored: &[u8]) -> bool {
-    if base <= 0xffff_ffff {
-        if input.len() <= 0xffff_ffff - base {
-            return match read_text::parse_str(input, base as u32) {
-                Str::Place(start, len) => answer::is_pair(stored, start as u64, len as u64),
-                Str::Refused(k) => answer::is_refusal(stored, k),
-            };
-        }
+pub fn text<'a>(input: &[u8], base: usize, stored: &'a [u8]) -> Option<&'a [u8]> {
+    let base = u32::try_from(base).ok()?;
+    if input.len() > (u32::MAX - base) as usize {
+        return None;
     }
-    false
+    let read = read_text::parse_str(input, base);
+    answer::after_result(stored, read.map(|p| [u64::from(p.start), u64::from(p.len)]))
 }
 
+// Stays: the number stands in the files, and the type is of another crate, which therefore takes no `From` here.
 fn class_of(n: usize) -> Class {
     match n {
         0 => Class::Feed,
@@ -34,78 +26,72 @@ fn class_of(n: usize) -> Class {
     }
 }
 
-pub fn forward(input: &[u8], from: usize, end: usize, class: usize, stored: &[u8]) -> bool {
-    if from <= end && end <= input.len() {
-        return answer::is_value(
-            stored,
-            read_lines::forward(input, from, end, class_of(class)) as u64,
-        );
+pub fn forward<'a>(
+    input: &[u8],
+    from: usize,
+    end: usize,
+    class: usize,
+    stored: &'a [u8],
+) -> Option<&'a [u8]> {
+    if from > end || end > input.len() {
+        return None;
     }
-    false
+    let at = read_lines::forward(input, from, end, class_of(class));
+    answer::after_result(stored, Ok([at as u64]))
 }
 
-pub fn backward(input: &[u8], from: usize, end: usize, class: usize, stored: &[u8]) -> bool {
-    if from <= end && end <= input.len() {
-        return answer::is_value(
-            stored,
-            read_lines::backward(input, from, end, class_of(class)) as u64,
-        );
+pub fn backward<'a>(
+    input: &[u8],
+    from: usize,
+    end: usize,
+    class: usize,
+    stored: &'a [u8],
+) -> Option<&'a [u8]> {
+    if from > end || end > input.len() {
+        return None;
     }
-    false
+    let at = read_lines::backward(input, from, end, class_of(class));
+    answer::after_result(stored, Ok([at as u64]))
 }
 
-pub fn line(input: &[u8], at: usize, stored: &[u8]) -> bool {
-    if at <= input.len() {
-        let l = read_lines::line_at(input, at);
-        return answer::is_pair(stored, l.end as u64, l.next as u64);
+pub fn line<'a>(input: &[u8], at: usize, stored: &'a [u8]) -> Option<&'a [u8]> {
+    if at > input.len() {
+        return None;
     }
-    false
+    let l = read_lines::line_at(input, at);
+    answer::after_result(stored, Ok([l.end as u64, l.next as u64]))
 }
 
-pub fn field(input: &[u8], at: usize, end: usize, stored: &[u8]) -> bool {
-    if at <= end && end <= input.len() {
-        let d = read_lines::field_of(input, at, end);
-        return answer::is_triple(stored, d.key as u64, d.start as u64, d.end as u64);
+pub fn field<'a>(input: &[u8], at: usize, end: usize, stored: &'a [u8]) -> Option<&'a [u8]> {
+    if at > end || end > input.len() {
+        return None;
     }
-    false
+    let d = read_lines::field_of(input, at, end);
+    answer::after_result(stored, Ok([d.key as u64, d.start as u64, d.end as u64]))
 }
 
 // The five classes of a byte, in the order of the crate `codes`.
-pub fn classes(b: u8, stored: &[u8]) -> bool {
-    if stored.len() == 41 {
-        if answer::has_triple(
-            stored,
-            bit(codes::is_blank(b)),
-            bit(codes::is_digit(b)),
-            bit(codes::is_line_end(b)),
-        ) {
-            if replay::eight(stored, 25) == bit(codes::is_whitespace(b)) {
-                return replay::eight(stored, 33) == bit(codes::is_control(b));
-            }
-        }
-    }
-    false
+pub fn classes(b: u8, stored: &[u8]) -> Option<&[u8]> {
+    let classes = [
+        codes::is_blank(b),
+        codes::is_digit(b),
+        codes::is_line_end(b),
+        codes::is_whitespace(b),
+        codes::is_control(b),
+    ];
+    answer::after_result(stored, Ok(classes.map(u64::from)))
 }
 
-pub fn code(b: u8, stored: &[u8]) -> bool {
-    match Code::from_bits(b) {
-        Code::Terminal => answer::is_value(stored, 0),
-        Code::AbsoluteID => answer::is_value(stored, 1),
-        Code::RelativeID => answer::is_value(stored, 2),
-        Code::Relative1 => answer::is_value(stored, 3),
-    }
+pub fn code(b: u8, stored: &[u8]) -> Option<&[u8]> {
+    answer::after_result(stored, Ok([Code::from(b) as u64]))
 }
 
-pub fn limit_values(stored: &[u8]) -> bool {
-    if stored.len() == 33 {
-        if answer::has_triple(
-            stored,
-            limits::VAR_LIMIT as u64,
-            limits::ROOT_LIMIT as u64,
-            limits::NODE_LIMIT as u64,
-        ) {
-            return replay::eight(stored, 25) == limits::INPUT_LIMIT as u64;
-        }
-    }
-    false
+pub fn limit_values(stored: &[u8]) -> Option<&[u8]> {
+    let limits = [
+        limits::VAR_LIMIT,
+        limits::ROOT_LIMIT,
+        limits::NODE_LIMIT,
+        limits::INPUT_LIMIT,
+    ];
+    answer::after_result(stored, Ok(limits.map(|n| n as u64)))
 }

@@ -2,10 +2,15 @@
 ghost use Rattle.std.specs.Prelude.{◌+◌, ◌≤◌};
 
 use crate::change;
-use edges::{Edge, Index};
-use evaluation::Evaluation;
-use replay::Outcome;
+use crate::change::{ELS, HEADS, NEXT, ROOM, SLOTS, THEN, entries, signed};
+use codes::refusal::Refusal;
+use edges::Index;
+use replay::End;
 use std::fs::File;
+use store::StoreRef;
+
+// The length of work that is enough for the index of every store.
+const WORK: usize = 98304;
 
 // The number of two bytes at a position of a case's head.
 fn field(head: &[u8; 23], at: usize) -> u16
@@ -18,193 +23,67 @@ fn length(head: &[u8; 23], at: usize) -> usize
     requires { at + 2 ≤ 23 }
     ensures { result ≤ 65535 }
 {
-    replay::two(head, at) as usize
+    usize::from(field(head, at))
 }
 
-// Whether a refusal and an answer are the stored ones. An answer of yes is 1, and all else 0.
-fn is_stored(head: &[u8; 23], refusal: u8, answer: u8) -> bool {
-    head[21] == refusal && head[22] == answer
+// Whether the store's answer is the stored one, with the work that is lent: a refusal, or 0 and 1 for yes. A kind that isn't there is a difference.
+// Stays: the kinds are the numbers that stand in the files, and each is read here alone.
+fn agrees_with(head: &[u8; 23], store: &StoreRef, setting: &[u8], work: &mut [Index]) -> bool {
+    let answer = match head[0] {
+        1 => keeps(store, work),
+        2 => evaluation::evaluate(store, signed(field(head, 15)), setting, work),
+        _ => return false,
+    };
+    match answer {
+        Ok(yes) => head[21] == 0 && head[22] == u8::from(yes),
+        Err(r) => head[21] == r.number() && head[22] == 0,
+    }
 }
 
-fn is_kept(head: &[u8; 23], keeps: bool) -> bool {
-    if keeps {
-        is_stored(head, 0, 0)
+// Whether the store keeps its rules, which the stored answer has as a refusal or no.
+fn keeps(store: &StoreRef, work: &mut [Index]) -> Result<bool, Refusal> {
+    if rules::keeps_rules(store, store.count, work) {
+        Ok(false)
     } else {
-        is_stored(head, 3, 0)
+        Err(Refusal::BrokenStore)
     }
-}
-
-fn is_evaluation(head: &[u8; 23], e: Evaluation) -> bool {
-    match e {
-        Evaluation::Answer(yes) => {
-            if yes {
-                is_stored(head, 0, 1)
-            } else {
-                is_stored(head, 0, 0)
-            }
-        }
-        Evaluation::Refused(n) => is_stored(head, n, 0),
-    }
-}
-
-// With the work that is lent. A kind that isn't there is a difference.
-fn agrees_with(
-    head: &[u8; 23],
-    level: &[u16],
-    then: &[Edge],
-    els: &[Edge],
-    next: &[Index],
-    heads: &[Index],
-    setting: &[u8],
-    work: &mut [Index],
-) -> bool {
-    let levels = field(head, 1);
-    let count = field(head, 3) as Index;
-    if head[0] == 1 {
-        return is_kept(
-            head,
-            rules::keeps_rules(levels, count, level, then, els, next, heads, count, work),
-        );
-    }
-    if head[0] == 2 {
-        let root = change::signed(field(head, 15));
-        return is_evaluation(
-            head,
-            evaluation::evaluate(
-                levels, count, level, then, els, next, heads, root, setting, work,
-            ),
-        );
-    }
-    false
 }
 
 // No answer depends on the work: it is asked for with just enough for an index of the nodes, and with none.
-fn agrees(
-    head: &[u8; 23],
-    level: &[u16],
-    then: &[Edge],
-    els: &[Edge],
-    next: &[Index],
-    heads: &[Index],
-    setting: &[u8],
-) -> bool {
-    let mut work = change::no_work();
+fn agrees(head: &[u8; 23], store: &StoreRef, setting: &[u8]) -> bool {
+    let mut work = [0; WORK];
     let enough = 3 * (length(head, 3) + 1);
-    if enough <= work.len() {
-        if !agrees_with(
-            head,
-            level,
-            then,
-            els,
-            next,
-            heads,
-            setting,
-            &mut work[..enough],
-        ) {
-            return false;
-        }
+    if let Some(work) = work.get_mut(..enough)
+        && !agrees_with(head, store, setting, work)
+    {
+        return false;
     }
-    agrees_with(head, level, then, els, next, heads, setting, &mut [])
+    agrees_with(head, store, setting, &mut [])
 }
 
-// Each list as long as the case has it lent.
-fn with_level(
-    head: &[u8; 23],
-    lists: &[u16],
-    then: &[Edge],
-    els: &[Edge],
-    next: &[Index],
-    heads: &[Index],
-    setting: &[u8],
-) -> bool {
-    let level = change::LEVEL + length(head, 5);
-    if level <= lists.len() {
-        return agrees(
-            head,
-            &lists[change::LEVEL..level],
-            then,
-            els,
-            next,
-            heads,
-            setting,
-        );
-    }
-    false
+// The same for each list as long as the case has it lent; none where the case says more than there is.
+fn agrees_lent(head: &[u8; 23], lists: &[u16; ROOM], setting: &[u8]) -> Option<bool> {
+    let mut then = [0; SLOTS];
+    let mut els = [0; SLOTS];
+    let mut next = [0; SLOTS];
+    let mut heads = [0; SLOTS];
+    let store = StoreRef {
+        levels: field(head, 1),
+        count: Index::from(field(head, 3)),
+        level: lists.get(..length(head, 5))?,
+        then: entries(&lists[THEN..], length(head, 7), &mut then, signed)?,
+        els: entries(&lists[ELS..], length(head, 9), &mut els, signed)?,
+        next: entries(&lists[NEXT..], length(head, 11), &mut next, Index::from)?,
+        heads: entries(&lists[HEADS..], length(head, 13), &mut heads, Index::from)?,
+    };
+    Some(agrees(head, &store, setting))
 }
 
-fn with_heads(
-    head: &[u8; 23],
-    lists: &[u16],
-    then: &[Edge],
-    els: &[Edge],
-    next: &[Index],
-    setting: &[u8],
-) -> bool {
-    let n = length(head, 13);
-    let end = change::HEADS + n;
-    let mut heads = change::no_indices();
-    if n <= heads.len() && end <= lists.len() {
-        change::to_indices(&lists[change::HEADS..end], &mut heads);
-        return with_level(head, lists, then, els, next, &heads[..n], setting);
-    }
-    false
-}
-
-fn with_next(head: &[u8; 23], lists: &[u16], then: &[Edge], els: &[Edge], setting: &[u8]) -> bool {
-    let n = length(head, 11);
-    let end = change::NEXT + n;
-    let mut next = change::no_indices();
-    if n <= next.len() && end <= lists.len() {
-        change::to_indices(&lists[change::NEXT..end], &mut next);
-        return with_heads(head, lists, then, els, &next[..n], setting);
-    }
-    false
-}
-
-fn with_els(head: &[u8; 23], lists: &[u16], then: &[Edge], setting: &[u8]) -> bool {
-    let n = length(head, 9);
-    let end = change::ELS + n;
-    let mut els = change::no_edges();
-    if n <= els.len() && end <= lists.len() {
-        change::to_edges(&lists[change::ELS..end], &mut els);
-        return with_next(head, lists, then, &els[..n], setting);
-    }
-    false
-}
-
-fn with_then(head: &[u8; 23], lists: &[u16], setting: &[u8]) -> bool {
-    let n = length(head, 7);
-    let end = change::THEN + n;
-    let mut then = change::no_edges();
-    if n <= then.len() && end <= lists.len() {
-        change::to_edges(&lists[change::THEN..end], &mut then);
-        return with_els(head, lists, &then[..n], setting);
-    }
-    false
-}
-
-// What follows a head. A case whose head says more than the file has left, or than there is room for, isn't whole.
-fn after_head(file: &mut File, head: &[u8; 23], lists: &mut [u16]) -> Outcome {
+// The next case of a file. `lists` is the store of the case before.
+pub fn one(file: &mut File, lists: &mut [u16; ROOM]) -> Result<bool, End> {
+    let head = replay::head(file)?;
+    change::change(file, field(&head, 19), lists)?;
     let mut setting = replay::large_buffer();
-    let n = length(head, 17);
-    if change::change(file, field(head, 19), lists) {
-        let got = replay::fetch(file, &mut setting, n);
-        if got == n {
-            return replay::compared(with_then(head, lists, &setting[..got]));
-        }
-    }
-    Outcome::Cut
-}
-
-// The next case. `lists` is the store of the case before.
-pub fn one(file: &mut File, lists: &mut [u16]) -> Outcome {
-    let mut head = [0u8; 23];
-    let got = replay::read_full(file, &mut head);
-    if got == 0 {
-        return Outcome::NoMore;
-    }
-    if got < 23 {
-        return Outcome::Cut;
-    }
-    after_head(file, &head, lists)
+    let setting = replay::part(file, &mut setting, length(&head, 17))?;
+    Ok(agrees_lent(&head, lists, setting).unwrap_or(false))
 }

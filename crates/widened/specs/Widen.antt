@@ -1,7 +1,7 @@
 -- The turn of an old store into a new one. Document 02, request 5: 'A call turns an old store, judged by the old rules, into a new one with its
 -- level count and every node, chain and root number kept. The new one is output: slot lists unequal or shorter than the old count, or other than 256
 -- heads, meet 1, before 3.'
-use Rattle.std.specs.Prelude.{ℕ, zero, suc, ◌≤◌, ◌≡◌, Bool, ◌&&◌, [], ◌∷◌, eqb, leb, take, replicate, pos}
+use Rattle.std.specs.Prelude.{ℕ, zero, suc, ◌≤◌, ◌≡◌, Bool, ◌&&◌, [], ◌∷◌, eqb, leb, length, take, replicate, pos}
 use Rattle.codes.specs.Answer.{Read, value, refused}
 use Rattle.codes.specs.Faults.{first_fault, unless}
 use Rattle.codes.specs.Lent.{laid}
@@ -20,6 +20,10 @@ pub record NewLengths : Type 0 where
 
 abbrev pub lengths : ℕ → ℕ → ℕ → ℕ → ℕ → NewLengths
 lengths level then els next heads = record { level = level; then = then; els = els; next = next; heads = heads }
+
+-- the lengths of the lists that a store is lent in
+abbrev pub lengths_of : Store → NewLengths
+lengths_of τ = lengths (length τ.level) (length τ.then) (length τ.els) (length τ.next) (length τ.heads)
 
 -- 'slot lists unequal or shorter than the old count, or other than 256 heads': where none of it holds they can take the store
 pub record Takes (l : NewLengths) (count : ℕ) : Type 0 where

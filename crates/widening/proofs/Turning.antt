@@ -1,158 +1,134 @@
--- The course of a turn: what is found before a node is looked at, what the copy adds to it, and that what is left in the end is what the definition says.
+-- The course of a turn: what is found before a node is looked at, and that the copy, where it is judged, is the store turned.
 use mathlib.Core.Path.{◌≡◌, refl, sym, ap, ◌∙◌}
-use mathlib.Core.Bool.{Bool, true, false, cond}
+use mathlib.Core.Bool.{Bool, true, false, true≢false}
 use mathlib.Core.List.{List, [], ◌∷◌}
 use Prim.Native.Nat.{ℕ, zero, suc, ◌≤◌}
 use native.Mathlib.Omega.{arith}
-use borrow.Author.Tests.{eq-eqb, ne_eqb}
-use lib.Dec.{eqb}
 use lib.ListN.{length, take, replicate, length-replicate}
-use lib.IntN.{ℤ, pos}
+use Rattle.codes.proofs.Lent.{length-laid}
+use Rattle.codes.specs.Answer.{refused}
+use Rattle.std.specs.Prelude.{Result, Ok, Err, OnOk, is_err}
 use Rattle.codes.specs.Faults.{first_fault, unless}
 use Rattle.codes.specs.Lent.{laid}
-use Rattle.codes.proofs.Lent.{length-laid}
 use Rattle.codes.specs.Limits.{limits}
+use Rattle.codes.specs.Refusals.{number_of, read_of, fault_of}
+use Rattle.codes.specs.declared.refusal.Refusal.{Refusal}
+use Rattle.codes.proofs.Numbered.{number-positive}
 use Rattle.store.specs.Store.{Store, store}
 use Rattle.store.specs.Rules.{Sizes, Zeros}
 use Rattle.store.specs.Keeps.{keeps, keeps-true, keeps-false, is-keeps}
 use Rattle.widened.specs.OldLimits.{old_limits}
-use Rattle.widened.specs.Widen.{NewLengths, takes, widen_fault, widened, zeroed, left_by, widen_of}
-use Rattle.old_stores.specs.Promises.{Judged}
+use Rattle.widened.specs.Widen.{NewLengths, lengths_of, takes, widen_fault, widened, zeroed, answer_by, left_by, widen_of}
+use Rattle.old_stores.specs.Promises.{Judged, CopyPromise}
 use Rattle.old_stores.proofs.Judging.{fault-broken}
-use Rattle.widening.specs.Course.{copy_fault, kept_unless}
 use Rattle.widened.proofs.Old.{old-wider}
 use Rattle.widened.proofs.Widened.{widened-rules, widened-back}
 use Rattle.widened.proofs.Refusals.{takes-true}
 
-module _ (l : NewLengths) (σ : Store) where
-  fault-none : takes l σ.count ≡ true → keeps old_limits σ ≡ true → widen_fault l σ ≡ 0
-  unfolding widen_fault first_fault
-  fault-none q k = rw (q, k)
-
--- what the copy adds: nothing where it keeps the rules, else 3
-pub copy-kept : (f : ℕ) (k : Bool) → f ≡ 0 → k ≡ true → 0 ≡ cond (eqb f 0) (unless k 3) f
-copy-kept f k h q = rw (eq-eqb f 0 h, q)
-
-pub copy-broken : (f : ℕ) (k : Bool) → f ≡ 0 → k ≡ false → 3 ≡ cond (eqb f 0) (unless k 3) f
-copy-broken f k h q = rw (eq-eqb f 0 h, q)
-
 -- the whole of a list, copied into one of its length
-laid-whole : (xs : List ℕ) (n : ℕ) → length xs ≡ n → laid (take n xs) (replicate n 0) ≡ xs
+pub laid-whole : (xs : List ℕ) (n : ℕ) → length xs ≡ n → laid (take n xs) (replicate n 0) ≡ xs
 unfolding laid
 laid-whole [] zero h = refl
 laid-whole [] (suc n) h = absurd (omega arith)
 laid-whole (x ∷ xs) zero h = absurd (omega arith)
 laid-whole (x ∷ xs) (suc n) h = ap (λ l. x ∷ l) (laid-whole xs n (omega arith))
 
--- zeros over a copy
-cleared : {A : Type 0} (d : A) (es : List A) (n : ℕ) → replicate (length (laid es (replicate n d))) d ≡ replicate n d
-cleared d es n = ap (λ k. replicate k d) (length-laid es (replicate n d) ∙ length-replicate n d)
+-- the lengths stay
+pub copied-lengths : (n k : ℕ) (σ τ υ : Store) → CopyPromise n k σ τ υ → lengths_of υ ≡ lengths_of τ
+copied-lengths n k σ τ υ P =
+    rw (P.level_left, P.then_left, P.els_left, P.next_left, P.heads_left)
+    (simp (length-laid, length-replicate))
 
-module _ (l : NewLengths) (σ : Store) where
-  -- a copy of the first n slots and of k heads
-  abbrev copy_of : ℕ → ℕ → Store
-  copy_of n k =
-      store σ.levels n (laid (take n σ.level) (replicate l.level 0)) (laid (take n σ.then) (replicate l.then (pos 0)))
-      (laid (take n σ.els) (replicate l.els (pos 0))) (laid (take n σ.next) (replicate l.next 0))
-      (laid (take k σ.heads) (replicate l.heads 0))
+-- an answer by what refuses
+pub answer-is : (r : Result Unit Refusal) {n : ℕ} → fault_of r ≡ n → read_of r ≡ answer_by n
+answer-is r q = rw (← q) (go r)
+  where
+    by_number : (n : ℕ) → 1 ≤ n → refused n ≡ answer_by n
+    by_number zero h = absurd (omega arith)
+    by_number (suc n) h = refl
 
-  -- what is left of a copy
-  abbrev left_of : ℕ → Store → Store
-  left_of f τ =
-      store σ.levels (cond (eqb f 0) σ.count 0) (kept_unless f 0 τ.level) (kept_unless f (pos 0) τ.then) (kept_unless f (pos 0) τ.els)
-      (kept_unless f 0 τ.next) (kept_unless f 0 τ.heads)
+    go : (r : Result Unit Refusal) → read_of r ≡ answer_by (fault_of r)
+    go (Ok u) = refl
+    go (Err e) = by_number (number_of e) (number-positive e)
 
-  some-fault : (f : ℕ) → eqb (suc f) 0 ≡ false
-  some-fault f = ne_eqb (suc f) 0 (λ q. omega arith)
+-- whatever the turn answers, the level count is the old one's
+pub widen-levels : (l : NewLengths) (σ : Store) → (widen_of l σ).levels ≡ σ.levels
+unfolding widen_of widened zeroed
+widen-levels l σ = go (widen_fault l σ)
+  where
+    go : (n : ℕ) → (left_by n l σ).levels ≡ σ.levels
+    go zero = refl
+    go (suc n) = refl
 
-  -- on a refusal nothing is
-  left-none : (f n k : ℕ) → left_of (suc f) (copy_of n k) ≡ zeroed l σ.levels
-  unfolding zeroed
-  left-none f n k =
-      rw (
-        some-fault f,
-        cleared 0 (take n σ.level) l.level,
-        cleared (pos 0) (take n σ.then) l.then,
-        cleared (pos 0) (take n σ.els) l.els,
-        cleared 0 (take n σ.next) l.next,
-        cleared 0 (take k σ.heads) l.heads,
-      )
+-- what holds holds where nothing refuses
+pub whatever : {T E P : Type 0} (r : Result T E) → P → OnOk r P
+whatever (Ok x) p = p
+whatever (Err e) p = tt
 
-  module _ (t : takes l σ.count ≡ true) (z : Sizes old_limits σ) (o : Zeros σ) where
-    -- the copy of all nodes is the store turned
-    copy-widened : copy_of σ.count 256 ≡ widened l.level σ
-    unfolding widened
-    copy-widened =
-        let T = takes-true l σ.count t in
-        rw (T.then_long, T.els_long, T.next_long, T.heads_long, laid-whole σ.heads 256 z.heads_long)
+-- σ is the old store, τ the new one as it was lent
+module _ (σ τ : Store) where
+  abbrev l : NewLengths
+  l = lengths_of τ
 
-    -- which keeps the rules exactly where the old store keeps the old ones
-    copy-judged : keeps limits (copy_of σ.count 256) ≡ keeps old_limits σ
-    copy-judged =
-        let T = takes-true l σ.count t in
-        ap (keeps limits) copy-widened
-        ∙ sym (is-keeps limits (widened l.level σ) (keeps old_limits σ) (record {
-          yes = λ q. widened-rules l.level σ (keeps-true old_limits σ q) T.slots old-wider;
-          no = λ q R. keeps-false old_limits σ q (widened-back l.level σ z T.slots o.unused R);
-        }))
+  zeroed-by : (n : ℕ) → 1 ≤ n → zeroed l σ.levels ≡ left_by n l σ
+  zeroed-by zero h = absurd (omega arith)
+  zeroed-by (suc n) h = refl
 
-    whole-turned : (b : Bool) → keeps old_limits σ ≡ b
-        → (unless b 3 ≡ widen_fault l σ) × (left_of (unless b 3) (copy_of σ.count 256) ≡ widen_of l σ)
-    unfolding widen_of
-    whole-turned true q = (sym (fault-none l σ t q), copy-widened ∙ ap (λ f. left_by f l σ) (sym (fault-none l σ t q)))
-    whole-turned false q = (sym (fault-broken l σ t q), left-none 2 σ.count 256 ∙ ap (λ f. left_by f l σ) (sym (fault-broken l σ t q)))
-
-  -- The turn by its steps: what was found, the copy, what the copy adds, and what is left.
-  pub turned_by : (r : ℕ) → Judged l σ r
-      → let τ = copy_of (cond (eqb r 0) σ.count 0) (cond (eqb r 0) 256 0) in
-      (copy_fault r τ ≡ widen_fault l σ) × (left_of (copy_fault r τ) τ ≡ widen_of l σ)
+  -- what is left where the turn is refused, and where it isn't
+  pub refused-left : (r : Result Unit Refusal) → is_err r ≡ true → fault_of r ≡ widen_fault l σ → zeroed l σ.levels ≡ widen_of l σ
   unfolding widen_of
-  turned_by zero J =
-      let w = J.none refl in
-      rw (copy-judged w.0 w.1.0 w.1.1) (whole-turned w.0 w.1.0 w.1.1 (keeps old_limits σ) refl)
-  turned_by (suc r) J =
-      let q = J.found (omega arith) in
-      let τ : Store = copy_of (cond (eqb (suc r) 0) σ.count 0) (cond (eqb (suc r) 0) 256 0) in
-      let f : copy_fault (suc r) τ ≡ suc r = ap (λ (b : Bool). cond b (unless (keeps limits τ) 3) (suc r)) (some-fault r) in
-      let e = left-none r (cond (eqb (suc r) 0) σ.count 0) (cond (eqb (suc r) 0) 256 0) ∙ ap (λ (x : ℕ). left_by x l σ) (sym q) in
-      (f ∙ sym q, ap (λ (x : ℕ). left_of x τ) f ∙ e)
+  refused-left (Ok u) h q = absurd (true≢false (sym h))
+  refused-left (Err e) h q = rw (← q) (zeroed-by (number_of e) (number-positive e))
 
-  -- what is copied is there
-  pub copied-there : (r : ℕ) → Judged l σ r → {n k : ℕ} → n ≡ cond (eqb r 0) σ.count 0 → k ≡ cond (eqb r 0) 256 0
-      → (((n ≤ length σ.level) × (n ≤ l.level)) × ((n ≤ length σ.then) × (n ≤ l.then)))
-      × (((n ≤ length σ.els) × (n ≤ l.els)) × (((n ≤ length σ.next) × (n ≤ l.next)) × ((k ≤ length σ.heads) × (k ≤ l.heads))))
-  copied-there zero J p q =
-      let w = J.none refl in
-      let T = takes-true l σ.count w.0 in
-      let z = w.1.0 in
-      let s = z.count_slots in (
-        ((omega arith, omega (arith, T.slots)), (omega (arith, z.then_long), omega (arith, T.slots, T.then_long))),
-        (
-          (omega (arith, z.els_long), omega (arith, T.slots, T.els_long)),
-          ((omega (arith, z.next_long), omega (arith, T.slots, T.next_long)), (omega (arith, z.heads_long), omega (arith, T.heads_long))),
-        ),
-      )
-  copied-there (suc r) J p q =
-      let n = rw (some-fault r) at p in
-      let k = rw (some-fault r) at q in
-      (((omega arith, omega arith), (omega arith, omega arith)), ((omega arith, omega arith), ((omega arith, omega arith), (omega arith, omega arith))))
+  pub turned-left : (r : Result Unit Refusal) (υ : Store) → is_err r ≡ false → fault_of r ≡ widen_fault l σ → OnOk r (υ ≡ widened l.level σ)
+      → υ ≡ widen_of l σ
+  unfolding widen_of
+  turned-left (Ok u) υ h q e = rw (← q) e
+  turned-left (Err e) υ h q f = absurd (true≢false h)
 
-  -- The same, as the steps promise it.
-  module _ (r : ℕ) (J : Judged l σ r) {n k c f g : ℕ} (pn : n ≡ cond (eqb r 0) σ.count 0) (pk : k ≡ cond (eqb r 0) 256 0) (pc : c ≡ cond (eqb r 0) σ.count 0)
-      {L X H L' X' H' : List ℕ} {T E T' E' : List ℤ}
-      (pL : L ≡ laid (take n σ.level) (replicate l.level 0)) (pT : T ≡ laid (take n σ.then) (replicate l.then (pos 0)))
-      (pE : E ≡ laid (take n σ.els) (replicate l.els (pos 0))) (pX : X ≡ laid (take n σ.next) (replicate l.next 0))
-      (pH : H ≡ laid (take k σ.heads) (replicate l.heads 0))
-      (pf : f ≡ copy_fault r (store σ.levels c L T E X H))
-      (qL : L' ≡ kept_unless f 0 L) (qT : T' ≡ kept_unless f (pos 0) T) (qE : E' ≡ kept_unless f (pos 0) E) (qX : X' ≡ kept_unless f 0 X) (qH : H' ≡ kept_unless f 0 H)
-      (pg : g ≡ cond (eqb f 0) σ.count 0) where
-    copied : store σ.levels c L T E X H ≡ copy_of (cond (eqb r 0) σ.count 0) (cond (eqb r 0) 256 0)
-    copied = rw (pL, pT, pE, pX, pH, pn, pk, pc)
+  module _ (J : Judged l σ 0) where
+    found : (takes l σ.count ≡ true) × (Sizes old_limits σ × Zeros σ)
+    found = J.none refl
 
-    pub steps-fault : f ≡ widen_fault l σ
-    steps-fault = pf ∙ ap (copy_fault r) copied ∙ (turned_by r J).0
+    -- so many nodes are copied, and counted
+    module _ (n k : ℕ) (N : n ≡ σ.count) (K : k ≡ σ.count) (υ : Store) (P : CopyPromise n 256 σ τ υ) where
+      abbrev copy : Store
+      copy = store σ.levels k υ.level υ.then υ.els υ.next υ.heads
 
-    pub steps-left : store σ.levels g L' T' E' X' H' ≡ widen_of l σ
-    steps-left =
-        let e : f ≡ copy_fault r (copy_of (cond (eqb r 0) σ.count 0) (cond (eqb r 0) 256 0)) = pf ∙ ap (copy_fault r) copied in
-        rw (qL, qT, qE, qX, qH, pg) (ap (left_of f) copied ∙ rw e (turned_by r J).1)
+      -- the copy is the store turned,
+      pub copy-widened : copy ≡ widened l.level σ
+      unfolding widened
+      copy-widened =
+          let T = takes-true l σ.count found.0 in
+          rw (
+            P.level_left,
+            P.then_left,
+            P.els_left,
+            P.next_left,
+            P.heads_left,
+            N,
+            K,
+            T.then_long,
+            T.els_long,
+            T.next_long,
+            T.heads_long,
+            laid-whole σ.heads 256 found.1.0.heads_long,
+          )
+
+      -- which keeps the rules exactly where the old store keeps the old ones
+      copy-judged : keeps limits copy ≡ keeps old_limits σ
+      copy-judged =
+          let T = takes-true l σ.count found.0 in
+          ap (keeps limits) copy-widened
+          ∙ sym (is-keeps limits (widened l.level σ) (keeps old_limits σ) (record {
+            yes = λ q. widened-rules l.level σ (keeps-true old_limits σ q) T.slots old-wider;
+            no = λ q R. keeps-false old_limits σ q (widened-back l.level σ found.1.0 T.slots found.1.1.unused R);
+          }))
+
+      fault-by : (b : Bool) → keeps old_limits σ ≡ b → unless b 3 ≡ widen_fault l σ
+      unfolding widen_fault first_fault
+      fault-by true q = rw (found.0, q)
+      fault-by false q = sym (fault-broken l σ found.0 q)
+
+      pub copy-refused : unless (keeps limits copy) 3 ≡ widen_fault l σ
+      copy-refused = ap (λ b. unless b 3) copy-judged ∙ fault-by (keeps old_limits σ) refl

@@ -45,6 +45,7 @@ fn put_groups(out: &mut [u8], at: usize, more: u8, n: u64) -> usize
 }
 
 // Encodes a number in 7-bit groups and writes it, escaped.
+#[tactic(auto, unfolding(crate::specs::Binary::groups, crate::specs::Binary::seven_bit))]
 pub fn encode_7bit(out: &mut [u8], at: usize, n: u64) -> usize
     requires { FitsOut out.old at (seven_bit n) }
     ensures { Written (borrowed out) at (seven_bit n) result }

@@ -4,5 +4,4 @@ use Rattle.evaluation.proofs.eval_root.Goals as goal
 
 pub returns : goal.returns
 returns c =
-    let s = c in
-    root-under s.args.e s.requires c.eval_edge.ensures
+    root-under c.args.e c.requires c.eval_edge.ensures

@@ -1,5 +1,5 @@
 -- `names_fit` meets its contract. The outer invariant: the first i names are fit, and the rest decides. The inner one: the first k bytes of
--- the name are read, and the state and the other bytes decide. The measures are what is left of the names and of the name.
+-- the name are read, and the state and the other bytes decide.
 use mathlib.Core.Path.{refl, sym, ap, ◌∙◌}
 use native.Mathlib.Omega.{arith}
 use Rattle.read_text.specs.Kinds.{of_utf8_next}
@@ -16,14 +16,6 @@ pub bounds-starts-i : goal.bounds-starts-i
 bounds-starts-i c =
     omega (arith, c.names.invariant.0.even)
 
-pub overflow_cast-start : goal.overflow_cast-start
-overflow_cast-start c =
-    omega (arith, c.shared_slice_known-in-names-1.given c.names.i)
-
-pub overflow_cast-len : goal.overflow_cast-len
-overflow_cast-len c =
-    omega (arith, c.shared_slice_known-in-names-2-1.given c.names.i)
-
 pub loop-k-init : goal.loop-k-init
 loop-k-init c =
     (reading-start _ _ _ _ (sym c.if-not-place_fits.false ∙ c.place_fits.ensures), refl)
@@ -36,17 +28,13 @@ pub bounds-bytes-start : goal.bounds-bytes-start
 bounds-bytes-start c =
     omega (arith, c.loop-k.invariant.0.inside)
 
-pub overflow_add-k : goal.overflow_add-k
-overflow_add-k c =
-    omega (arith, c.loop-k.invariant.0.inside)
-
 pub loop-k-preserved : goal.loop-k-preserved
 loop-k-preserved c =
     let r =
     reading-more
     c.loop-k.invariant.0
     c.loop-k-test.true
-    (sym c.name_next.ensures ∙ ap of_utf8_next c.in-Go.is) in
+    (sym c.name_next.ensures ∙ ap of_utf8_next c.in-Some.is) in
     (r, c.loop-k.invariant.1)
 
 pub names-preserved : goal.names-preserved
@@ -55,7 +43,7 @@ names-preserved c =
     checked-more
     c.names.invariant.0
     c.names-test.true
-    (reading-end c.loop-k.invariant.0 c.loop-k-test.false ∙ ap utf8_end c.in_default.is) in
+    (reading-end c.loop-k.invariant.0 c.loop-k-test.false ∙ ap utf8_end c.in_default-state.is) in
     (k, c.loop-k.invariant.1 ∙ c.names.invariant.1)
 
 pub returns-after-names : goal.returns-after-names
@@ -69,9 +57,9 @@ returns-then-not-place_fits c =
     c.names-test.true
     (sym c.if-not-place_fits.true ∙ c.place_fits.ensures)
 
-pub returns-in-Bad : goal.returns-in-Bad
-returns-in-Bad c =
-    let e = sym c.name_next.ensures ∙ ap of_utf8_next c.in-Bad.is in
+pub returns-in_default : goal.returns-in_default
+returns-in_default c =
+    let e = sym c.name_next.ensures ∙ ap of_utf8_next c.in_default.is in
     checked-unfit
     c.names.invariant.0
     c.names-test.true

@@ -1,13 +1,12 @@
--- `plus_all` meets its contract. The invariant: the total and the lengths from i on give the whole sum. The measure is what is left of the lengths.
-use Prim.Native.Nat.{◌-◌}
-use Rattle.export_size.proofs.Sums.{Adding}
-use lib.ListN.{length}
+-- The invariant: the total is within the limit, and with the lengths from the index on it gives the whole sum.
+use Prim.Native.Nat.{◌+◌, ◌*◌, ◌≤◌}
+use mathlib.Core.Path.{◌≡◌}
+use lib.ListN.{drop}
+use Rattle.export_size.specs.Size.{sum}
 use Rattle.export_size.proofs.plus_all.Given as goal
 
-abbrev pub invariant-loop-i : goal.invariant-loop-i
-invariant-loop-i l =
-    Adding l.max l.initial.total l.times l.lens l.total l.i
-
-abbrev pub decreases-loop-i : goal.decreases-loop-i
-decreases-loop-i l =
-    length l.lens - l.i
+abbrev pub invariant-loop-len : goal.invariant-loop-len
+invariant-loop-len l = record {
+  held : l.total ≤ l.max;
+  rest : l.total + l.times * sum (drop l.len-index l.lens) ≡ l.start + l.times * sum l.lens;
+}

@@ -1,9 +1,8 @@
--- `edges_of` meets its contract. The invariant: the roots before i lie in the lent list, as edges. The measure is what is left of the length.
+-- `edges_of` meets its contract. The invariant: the roots before i lie in the lent list, as edges.
 use native.Mathlib.Omega.{arith}
-use lib.ListN.{get_or}
+use Rattle.std.proofs.Common.{rules}
 use mir.Syntax.{w64}
 use Rattle.edges.specs.Width.{edge_width}
-use lib.IntN.{pos}
 use Rattle.file_roots.proofs.RootEdges.{edged-start, edged-more, edged-past, edged-end, edge-read}
 use Rattle.file_roots.proofs.edges_of.Goals as goal
 use Rattle.file_roots.proofs.edges_of.Goals.{then-i-dst, else-i-dst}
@@ -15,7 +14,8 @@ loop-i-init c =
 pub loop-i-preserved : goal.loop-i-preserved
 loop-i-preserved c =
     elim c.if-i-dst.branch [
-      | then-i-dst w ↦ rw w.dst-is (edged-more _ _ _ _ c.loop-i.invariant c.loop-i-test.true (edge-read w64 edge_width (get_or c.args.roots.now c.loop-i.i (pos 0)) (record { sfits = w.edge_of-arg-1.given }) (omega arith) w.edge_of.ensures))
+      | then-i-dst w ↦ rw w.dst-is
+          (edged-more _ _ _ _ c.loop-i.invariant c.loop-i-test.true (edge-read w64 edge_width _ (search rules) (omega arith) w.edge_of.ensures))
       | else-i-dst w ↦ rw w.dst-is (edged-past _ _ _ _ c.loop-i.invariant c.loop-i-test.true w.if-i-dst.false)
     ]
 

@@ -8,7 +8,4 @@ shape_of-work c =
 
 pub returns : goal.returns
 returns c =
-    record {
-      answer = rw (c.evaluate_answer.ensures, c.evaluate.ensures.answer, to_z-of_z c.ranges.root);
-      work_left = c.evaluate.ensures.work_left;
-    }
+    record { answer = rw (c.from.ensures, c.evaluate.ensures.answer, to_z-of_z c.ranges.root); work_left = c.evaluate.ensures.work_left }

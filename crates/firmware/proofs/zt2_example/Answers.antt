@@ -1,9 +1,5 @@
 -- `zt2_example` meets its contract: it hands everything on, the wanted answer by its byte, and gives the answer in C's form.
-use mathlib.Core.Path.{ap, ◌∙◌}
-use Rattle.c_answers.specs.Answers.{of_example}
-use Rattle.example_walk.specs.Example.{left_setting}
-use Rattle.example_walk.specs.Promises.{told}
-use Rattle.example_walk.proofs.Calling.{example-read}
+use mir.Facts.{to_z-of_z}
 use Rattle.firmware.proofs.zt2_example.Goals as goal
 
 pub shape_of-setting : goal.shape_of-setting
@@ -16,10 +12,9 @@ shape_of-work c =
 
 pub returns : goal.returns
 returns c =
-    let o = c.example.ensures in
-    let r = example-read _ c.args.root c.ranges.root c.wanted_of.ensures _ in
+    let e = c.example.ensures in
     record {
-      answer = c.example_answer.ensures ∙ ap of_example (o.answer ∙ ap told r);
-      setting_left = o.setting_left ∙ ap (left_setting _) r;
-      work_left = o.work_left;
+      answer = rw (c.from.ensures, e.answer, to_z-of_z c.ranges.root, c.wanted_of-wanted.ensures);
+      setting_left = rw (e.setting_left, to_z-of_z c.ranges.root, c.wanted_of-wanted.ensures);
+      work_left = e.work_left;
     }

@@ -1,6 +1,7 @@
 -- `zt2_export` meets its contract: the export is that of the settings that the bytes stand for.
 use mathlib.Core.Path.{ap, ◌∙◌}
 use lib.ListN.{length}
+use Rattle.store.specs.Held.{held}
 use Rattle.store.specs.Store.{store}
 use Rattle.c_answers.specs.Answers.{of_length}
 use Rattle.c_answers.specs.Settings.{settings_of}
@@ -32,7 +33,7 @@ returns c =
     (store a.levels a.count a.level.now a.then.now a.els.now a.next.now a.heads.now)
     (settings_of a.version a.text a.ddstart a.ddlen) c.settings_of-settings.ensures in
     record {
-      answer = c.export_answer.ensures ∙ ap of_length (c.export.ensures.answer ∙ ap (λ l. l.answer) e);
+      answer = c.from.ensures ∙ ap of_length (c.export.ensures.answer ∙ ap (λ l. l.answer) e);
       out_left = c.export.ensures.out_left ∙ ap (λ l. l.out) e;
       slots_left = c.export.ensures.slots_left;
       numbers_left = c.export.ensures.numbers_left;

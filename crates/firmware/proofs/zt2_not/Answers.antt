@@ -1,7 +1,5 @@
 -- `zt2_not` meets its contract: it hands everything on, and gives the answer in C's form.
-use mathlib.Core.Path.{ap, ◌∙◌}
-use Rattle.joins.proofs.Calling.{opposite-read}
-use Rattle.c_answers.specs.Answers.{of_root}
+use mir.Facts.{to_z-of_z}
 use Rattle.firmware.proofs.zt2_not.Goals as goal
 
 pub shape_of-work : goal.shape_of-work
@@ -10,9 +8,4 @@ shape_of-work c =
 
 pub returns : goal.returns
 returns c =
-    let o = c in
-    let s = o in
-    record {
-      answer = c.join_answer.ensures ∙ ap of_root (o.opposite.ensures.answer ∙ opposite-read _ s.args.root s.ranges.root);
-      work_left = o.opposite.ensures.work_left;
-    }
+    record { answer = rw (c.from.ensures, c.opposite.ensures.answer, to_z-of_z c.ranges.root); work_left = c.opposite.ensures.work_left }

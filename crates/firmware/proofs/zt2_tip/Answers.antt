@@ -8,7 +8,4 @@ shape_of-work c =
 
 pub returns : goal.returns
 returns c =
-    record {
-      answer = rw (c.tip_answer.ensures, c.tip.ensures.answer, to_z-of_z c.ranges.root);
-      work_left = c.tip.ensures.work_left;
-    }
+    record { answer = rw (c.from.ensures, c.tip.ensures.answer, to_z-of_z c.ranges.root); work_left = c.tip.ensures.work_left }

@@ -1,33 +1,22 @@
 -- `zt2_widen` meets its contract: it hands everything on, and gives the answer in C's form.
-use mathlib.Core.Path.{ap, ◌∙◌}
+use mathlib.Core.Path.{sym, ap, ◌∙◌}
 use Rattle.c_answers.specs.Answers.{of_turn}
+use Rattle.firmware.proofs.Handed.{handed-back, turned-levels}
 use Rattle.firmware.proofs.zt2_widen.Goals as goal
-
-pub shape_of-level : goal.shape_of-level
-shape_of-level c =
-    c.widen.auto.level
-
-pub shape_of-then : goal.shape_of-then
-shape_of-then c =
-    c.widen.auto.then
-
-pub shape_of-els : goal.shape_of-els
-shape_of-els c =
-    c.widen.auto.els
-
-pub shape_of-next : goal.shape_of-next
-shape_of-next c =
-    c.widen.auto.next
-
-pub shape_of-heads : goal.shape_of-heads
-shape_of-heads c =
-    c.widen.auto.heads
 
 pub shape_of-work : goal.shape_of-work
 shape_of-work c =
-    c.widen.auto.work
+    c.widen-answer.auto.work
 
 pub returns : goal.returns
 returns c =
-    let o = c.widen.ensures in
-    record { answer = c.widen_answer.ensures ∙ ap of_turn o.answer; store = o.store; work_left = o.work_left }
+    let e = c.widen-answer.ensures.turned in
+    let same = c.widen-answer.ensures.same in
+    record {
+      answer = c.from.ensures ∙ ap of_turn e.answer;
+      store = handed-back c.widen-answer.new.new c.args.levels _ _ _ _ _ (turned-levels _ _ _ e.store)
+          (c.level-1.given.1.1 (sym same.level)) (c.then-1.given.1.1 (sym same.then))
+          (c.els-1.given.1.1 (sym same.els)) (c.next-1.given.1.1 (sym same.next)) (c.heads-1.given.1.1 (sym same.heads))
+          ∙ e.store;
+      work_left = e.work_left;
+    }

@@ -7,12 +7,6 @@ use Rattle.writers.proofs.Sets.{wrote_then}
 use Rattle.heading.proofs.Places.{name-at}
 use Rattle.head_names.proofs.put_name.Goals as goal
 
-pub put_place-requires-clause-len_in_bounds : goal.put_place-requires-clause-len_in_bounds
-put_place-requires-clause-len_in_bounds c =
-    let s = c in
-    let p = s.requires.inside in
-    p.0.within s.args.i p.1
-
 pub put_place-requires-clause-fits_out : goal.put_place-requires-clause-fits_out
 put_place-requires-clause-fits_out c =
     let s = c in

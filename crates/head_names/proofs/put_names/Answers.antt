@@ -1,4 +1,4 @@
--- `put_names` meets its contract. The loop's invariant: the names from i on are left to write. The measure is their number.
+-- `put_names` meets its contract.
 use Rattle.export_names.specs.Names.{names_at}
 use Rattle.heading.proofs.Writing.{words-start, words-as, writing-room, writing_more, writing-end}
 use Rattle.heading.proofs.Places.{name-next, names-end}
@@ -8,11 +8,6 @@ pub loop-i-init : goal.loop-i-init
 loop-i-init c =
     let s = c in
     words-start s.args.out.now s.args.at (names_at s.args.bytes.now s.args.starts.now s.args.lens.now) s.requires.fits_out
-
-pub put_name-next-requires-clause-inside : goal.put_name-next-requires-clause-inside
-put_name-next-requires-clause-inside c =
-    let s = c in
-    (s.requires.inside, c.loop-i-test.true)
 
 pub put_name-next-requires-clause-fits_out : goal.put_name-next-requires-clause-fits_out
 put_name-next-requires-clause-fits_out c =
@@ -24,10 +19,6 @@ loop-i-preserved c =
     let s = c in
     writing_more (words-as (name-next s.requires.inside c.loop-i-test.true) c.loop-i.invariant)
     c.put_name-next.ensures
-
-pub shape_of-out : goal.shape_of-out
-shape_of-out c =
-    c.loop-i.invariant.long
 
 pub returns : goal.returns
 returns c =

@@ -1,5 +1,4 @@
--- `put_ordered_names` meets its contract. The loop's invariant: the names of the variables at the levels from l on are left to write. The
--- measure is the number of those levels.
+-- `put_ordered_names` meets its contract.
 use native.Mathlib.Omega.{arith}
 use Rattle.export_names.specs.Names.{names_at}
 use Rattle.heading.specs.Heading.{chosen_names}
@@ -12,18 +11,6 @@ loop-l-init c =
     let s = c.args in
     names-as (names_at s.bytes.now s.starts.now s.lens.now) (variables-start s.order.now)
     (words-start s.out.now s.at _ c.requires.room)
-
-pub offset_bounds-vars-l : goal.offset_bounds-vars-l
-offset_bounds-vars-l c =
-    omega (arith, c.requires.vars_long)
-
-pub bounds-vars-l : goal.bounds-vars-l
-bounds-vars-l c =
-    omega (arith, c.requires.vars_long)
-
-pub overflow_cast-variable : goal.overflow_cast-variable
-overflow_cast-variable c =
-    omega (arith, c.shared_slice_known-in-loop-l-1.given c.loop-l.l)
 
 pub overflow_sub-variable : goal.overflow_sub-variable
 overflow_sub-variable c =
@@ -66,10 +53,6 @@ loop-l-preserved c =
     let l = c.loop-l in
     let e = variable-next s.order.now s.vars.now p.is_an_order p.vars_there p.vars_long l.l c.loop-l-test.true in
     writing_more (names-as (names_at s.bytes.now s.starts.now s.lens.now) e l.invariant) c.put_name-next.ensures
-
-pub shape_of-out : goal.shape_of-out
-shape_of-out c =
-    c.loop-l.invariant.long
 
 pub returns : goal.returns
 unfolding chosen_names

@@ -1,6 +1,4 @@
--- `put_ordered_names` meets its contract. The loop's invariant: the names of the variables at the levels from l on are left to write. The
--- measure is the number of those levels.
-use Prim.Native.Nat.{◌-◌}
+-- The invariant: the names of the variables at the levels from l on are left to write.
 use lib.ListN.{length}
 use Rattle.writers.specs.Words.{spaced}
 use Rattle.export_names.specs.Names.{names_at}
@@ -13,7 +11,3 @@ abbrev pub invariant-loop-l : goal.invariant-loop-l
 invariant-loop-l l =
     Writing l.initial.out l.at (spaced (chosen_names (variables_from (length l.order) 0 l.order) (names_at l.bytes l.starts l.lens))) l.out l.next
     (words (chosen_names (variables_left l.order l.l) (names_at l.bytes l.starts l.lens)))
-
-abbrev pub decreases-loop-l : goal.decreases-loop-l
-decreases-loop-l l =
-    length l.order - l.l

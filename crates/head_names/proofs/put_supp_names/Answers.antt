@@ -1,7 +1,5 @@
--- `put_supp_names` meets its contract. The loop's invariant: the names of the support variables from v on are left to write. The measure is
--- the number of variables that are left.
+-- `put_supp_names` meets its contract.
 use mathlib.Core.Path.{sym, ◌∙◌}
-use native.Mathlib.Omega.{arith}
 use Rattle.export_names.specs.Names.{names_at}
 use Rattle.heading.specs.Heading.{chosen_names}
 use Rattle.heading.specs.Tables.{seated_levels}
@@ -13,20 +11,6 @@ use Rattle.head_names.proofs.put_supp_names.Goals as goal
 pub loop-v-init : goal.loop-v-init
 loop-v-init c =
     let s = c.args in words-start s.out.now s.at _ c.requires.room
-
-pub in_support-requires : goal.in_support-requires
-in_support-requires c =
-    (c.requires.seatable, c.loop-v-test.true)
-
-pub put_name-next-requires-clause-inside : goal.put_name-next-requires-clause-inside
-unfolding chosen_names
-put_name-next-requires-clause-inside c =
-    let s = c.args in
-    let p = c.requires in
-    let l = c.loop-v in
-    let t = c.loop-v-test.true in
-    let e = id_next (seated_levels s.seats.now) s.order.now l.v t (sym c.in_support.ensures ∙ c.if-in_support.true) in
-    (p.inside, omega (arith, p.named, t))
 
 pub put_name-next-requires-clause-fits_out : goal.put_name-next-requires-clause-fits_out
 unfolding chosen_names
@@ -52,10 +36,6 @@ loop-v-preserved c =
       | else-in_support w ↦ rw (w.out-is, w.next-is)
           (names-as names (id-passed (seated_levels s.seats.now) s.order.now l.v t (e ∙ w.if-in_support.false)) l.invariant)
     ]
-
-pub shape_of-out : goal.shape_of-out
-shape_of-out c =
-    c.loop-v.invariant.long
 
 pub returns : goal.returns
 unfolding chosen_names

@@ -1,7 +1,4 @@
--- `put_supp_names` meets its contract. The loop's invariant: the names of the support variables from v on are left to write. The measure is
--- the number of variables that are left.
-use Prim.Native.Nat.{◌-◌}
-use lib.ListN.{length}
+-- The invariant: the names of the support variables from v on are left to write.
 use Rattle.writers.specs.Words.{spaced}
 use Rattle.export_names.specs.Names.{names_at}
 use Rattle.heading.specs.Heading.{ids_from, chosen_names}
@@ -14,7 +11,3 @@ abbrev pub invariant-loop-v : goal.invariant-loop-v
 invariant-loop-v l =
     Writing l.initial.out l.at (spaced (chosen_names (ids_from (seated_levels l.seats) 0 l.order) (names_at l.bytes l.starts l.lens))) l.out l.next
     (words (chosen_names (remaining_ids (seated_levels l.seats) l.order l.v) (names_at l.bytes l.starts l.lens)))
-
-abbrev pub decreases-loop-v : goal.decreases-loop-v
-decreases-loop-v l =
-    length l.order - l.v

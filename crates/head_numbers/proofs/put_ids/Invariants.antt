@@ -1,8 +1,5 @@
--- `put_ids` meets its contract. The loop's invariant: the support variables from v on are left to write. The measure is the number of variables
--- that are left.
+-- The invariant: the support variables from v on are left to write.
 use mathlib.Core.List.{map}
-use Prim.Native.Nat.{◌-◌}
-use lib.ListN.{length}
 use Rattle.writers.specs.Decimal.{decimal}
 use Rattle.writers.specs.Words.{spaced}
 use Rattle.heading.specs.Heading.{ids_from}
@@ -13,8 +10,5 @@ use Rattle.head_numbers.proofs.put_ids.Given as goal
 
 abbrev pub invariant-loop-v : goal.invariant-loop-v
 invariant-loop-v l =
-    Writing l.initial.out l.at (spaced (map decimal (ids_from (seated_levels l.seats) 0 l.order))) l.out l.next (words (map decimal (remaining_ids (seated_levels l.seats) l.order l.v)))
-
-abbrev pub decreases-loop-v : goal.decreases-loop-v
-decreases-loop-v l =
-    length l.order - l.v
+    Writing l.initial.out l.at (spaced (map decimal (ids_from (seated_levels l.seats) 0 l.order))) l.out l.next
+    (words (map decimal (remaining_ids (seated_levels l.seats) l.order l.v)))

@@ -1,8 +1,6 @@
--- `put_permids` meets its contract. The loop's invariant: the levels of the support variables from v on are left to write. The measure is the
--- number of variables that are left.
+-- `put_permids` meets its contract.
 use mathlib.Core.Path.{sym, ap, ◌∙◌}
 use mathlib.Core.List.{map}
-use native.Mathlib.Omega.{arith}
 use Rattle.writers.specs.Decimal.{decimal}
 use Rattle.heading.specs.Heading.{permids_of}
 use Rattle.heading.specs.Tables.{seated_levels}
@@ -15,14 +13,6 @@ pub loop-v-init : goal.loop-v-init
 loop-v-init c =
     let s = c.args in
     words-start s.out.now s.at (map decimal (permids_of (seated_levels s.seats.now) s.order.now)) c.requires.fits_out
-
-pub in_support-requires : goal.in_support-requires
-in_support-requires c =
-    (c.requires.seatable, c.loop-v-test.true)
-
-pub overflow_cast-order : goal.overflow_cast-order
-overflow_cast-order c =
-    omega (arith, c.shared_slice_known-then-in_support-1.given c.loop-v.v)
 
 pub put_spaced-next-requires : goal.put_spaced-next-requires
 put_spaced-next-requires c =
@@ -40,14 +30,11 @@ loop-v-preserved c =
     let e = sym c.in_support.ensures in
     elim c.if-in_support.branch [
       | then-in_support w ↦ rw (w.out-is, w.next-is) (writing_more
-          (words-as (ap (map decimal) (level-next (seated_levels s.seats.now) s.order.now l.v t (e ∙ w.if-in_support.true))) l.invariant) w.put_spaced-next.ensures)
+          (words-as (ap (map decimal) (level-next (seated_levels s.seats.now) s.order.now l.v t (e ∙ w.if-in_support.true))) l.invariant)
+          w.put_spaced-next.ensures)
       | else-in_support w ↦ rw (w.out-is, w.next-is)
           (words-as (ap (map decimal) (level-passed (seated_levels s.seats.now) s.order.now l.v t (e ∙ w.if-in_support.false))) l.invariant)
     ]
-
-pub shape_of-out : goal.shape_of-out
-shape_of-out c =
-    c.loop-v.invariant.long
 
 pub returns : goal.returns
 returns c =

@@ -1,8 +1,5 @@
--- `put_permids` meets its contract. The loop's invariant: the levels of the support variables from v on are left to write. The measure is the
--- number of variables that are left.
+-- The invariant: the levels of the support variables from v on are left to write.
 use mathlib.Core.List.{map}
-use Prim.Native.Nat.{◌-◌}
-use lib.ListN.{length}
 use Rattle.writers.specs.Decimal.{decimal}
 use Rattle.writers.specs.Words.{spaced}
 use Rattle.heading.specs.Heading.{permids_of}
@@ -13,8 +10,5 @@ use Rattle.head_numbers.proofs.put_permids.Given as goal
 
 abbrev pub invariant-loop-v : goal.invariant-loop-v
 invariant-loop-v l =
-    Writing l.initial.out l.at (spaced (map decimal (permids_of (seated_levels l.seats) l.order))) l.out l.next (words (map decimal (levels_left (seated_levels l.seats) l.order l.v)))
-
-abbrev pub decreases-loop-v : goal.decreases-loop-v
-decreases-loop-v l =
-    length l.order - l.v
+    Writing l.initial.out l.at (spaced (map decimal (permids_of (seated_levels l.seats) l.order))) l.out l.next
+    (words (map decimal (levels_left (seated_levels l.seats) l.order l.v)))

@@ -10,7 +10,7 @@ returns c =
     c.varinfo_in.ensures
     c.dd_in.result
     c.dd_in.ensures
-    c.u64_in.ensures
-    c.u32_in.ensures
-    c.u32_in-2.ensures
-    c.u64_in-2.ensures
+    c.number_in.ensures
+    c.number_in-2.ensures
+    c.number_in-3.ensures
+    c.number_in-4.ensures

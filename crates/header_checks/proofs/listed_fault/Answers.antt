@@ -1,33 +1,49 @@
-use mathlib.Core.Path.{ap}
-use lib.ListN.{length}
-use Rattle.header_values.specs.Values.{spans}
-use Rattle.header_checks.specs.Whole.{IdsRead}
-use Rattle.header_checks.proofs.Supporting.{CountsPass, ids-wrong, permids-wrong, counted, auxids-wrong, counts-pass}
-use Rattle.header_checks.proofs.Supporting.{ids-unfit, permids-unfit, support-passes}
+-- `listed_fault` meets its contract: how many ids, permids and auxids there are, then the ids, then the permids.
 use mathlib.Core.Bool.{not}
+use mathlib.Core.Path.{ap}
+use Rattle.std.proofs.lemmas.Result.{err_from_is_err_and}
+use Rattle.header_checks.proofs.Supporting.{ids-wrong, permids-wrong, auxids-wrong, counts-pass, ids-unfit, permids-unfit, support-passes}
 use Rattle.header_checks.proofs.listed_fault.Goals as goal
 
-pub returns-then-ids-want : goal.returns-then-ids-want
-returns-then-ids-want c =
-    ids-wrong _ _ c.u32_in-want.ensures (ap length c.requires.ids_listed.ids_are) c.if-ids-want.true
+pub returns-in_err-count_fault : goal.returns-in_err-count_fault
+returns-in_err-count_fault c =
+    let p = err_from_is_err_and c.from_residual.result c.from_residual.ensures.1 in
+    rw (p.1, p.2) (ids-wrong _ _ c.number_in-want.ensures c.requires.ids_listed _ c.in_err-count_fault.ensures)
 
-pub returns-then-permids-want : goal.returns-then-permids-want
-returns-then-permids-want c =
-    permids-wrong _ _ c.u32_in-want.ensures (ap length c.requires.ids_listed.ids_are) c.if-ids-want.false (ap length c.requires.ids_listed.permids_are) c.if-permids-want.true
+pub returns-in_err-count_fault-2 : goal.returns-in_err-count_fault-2
+returns-in_err-count_fault-2 c =
+    let p = err_from_is_err_and c.from_residual-in_err-count_fault-2.result c.from_residual-in_err-count_fault-2.ensures.1 in
+    rw (p.1, p.2) (permids-wrong _ _ c.number_in-want.ensures c.requires.ids_listed c.in_ok-count_fault.ensures _ c.in_err-count_fault-2.ensures)
 
-pub returns-then-fault-ne0 : goal.returns-then-fault-ne0
-returns-then-fault-ne0 c =
-    auxids-wrong _ _ (let h : IdsRead c.args.f.now (spans c.args.starts.now c.args.ends.now) c.args.ids.now c.args.permids.now = let l = c.requires.ids_listed in counted _ _ c.u32_in-want.ensures (ap length l.ids_are) c.if-ids-want.false (ap length l.permids_are) c.if-permids-want.false l in h) c.u32_in-want.ensures
-    c.read_u32s-aux.ensures.answer c.given_fault-fault.ensures c.if-fault-ne0.true
+pub returns-in_err-given_fault : goal.returns-in_err-given_fault
+returns-in_err-given_fault c =
+    let p = err_from_is_err_and c.from_residual-in_err-given_fault.result c.from_residual-in_err-given_fault.ensures.1 in
+    rw (p.1, p.2)
+    (auxids-wrong _ _ c.number_in-want.ensures c.requires.ids_listed c.in_ok-count_fault.ensures c.in_ok-count_fault-2.ensures
+    c.read_u32s-aux.ensures.answer _ c.in_err-given_fault.ensures)
 
 pub returns-then-not-ids_fit : goal.returns-then-not-ids_fit
 returns-then-not-ids_fit c =
-    ids-unfit _ _ (let h : CountsPass c.args.f.now (spans c.args.starts.now c.args.ends.now) = counts-pass _ _ (let h : IdsRead c.args.f.now (spans c.args.starts.now c.args.ends.now) c.args.ids.now c.args.permids.now = let l = c.requires.ids_listed in counted _ _ c.u32_in-want.ensures (ap length l.ids_are) c.if-ids-want.false (ap length l.permids_are) c.if-permids-want.false l in h) c.u32_in-want.ensures c.read_u32s-aux.ensures.answer c.given_fault-fault.ensures c.if-fault-ne0.false in h) (let h : IdsRead c.args.f.now (spans c.args.starts.now c.args.ends.now) c.args.ids.now c.args.permids.now = let l = c.requires.ids_listed in counted _ _ c.u32_in-want.ensures (ap length l.ids_are) c.if-ids-want.false (ap length l.permids_are) c.if-permids-want.false l in h) c.u32_in-nvars.ensures c.ids_fit.ensures (ap not c.if-not-ids_fit.true)
+    let l = c.requires.ids_listed in
+    let pass =
+    counts-pass _ _ c.number_in-want.ensures l c.in_ok-count_fault.ensures c.in_ok-count_fault-2.ensures c.read_u32s-aux.ensures.answer
+    c.in_ok-given_fault.ensures in
+    ids-unfit _ _ pass l c.number_in-nvars.ensures c.ids_fit.ensures (ap not c.if-not-ids_fit.true)
 
 pub returns-then-not-permids_fit : goal.returns-then-not-permids_fit
 returns-then-not-permids_fit c =
-    permids-unfit _ _ (let h : CountsPass c.args.f.now (spans c.args.starts.now c.args.ends.now) = counts-pass _ _ (let h : IdsRead c.args.f.now (spans c.args.starts.now c.args.ends.now) c.args.ids.now c.args.permids.now = let l = c.requires.ids_listed in counted _ _ c.u32_in-want.ensures (ap length l.ids_are) c.if-ids-want.false (ap length l.permids_are) c.if-permids-want.false l in h) c.u32_in-want.ensures c.read_u32s-aux.ensures.answer c.given_fault-fault.ensures c.if-fault-ne0.false in h) (let h : IdsRead c.args.f.now (spans c.args.starts.now c.args.ends.now) c.args.ids.now c.args.permids.now = let l = c.requires.ids_listed in counted _ _ c.u32_in-want.ensures (ap length l.ids_are) c.if-ids-want.false (ap length l.permids_are) c.if-permids-want.false l in h) c.u32_in-nvars.ensures c.ids_fit.ensures (ap not c.if-not-ids_fit.false) c.permids_fit.ensures (ap not c.if-not-permids_fit.true)
+    let l = c.requires.ids_listed in
+    let pass =
+    counts-pass _ _ c.number_in-want.ensures l c.in_ok-count_fault.ensures c.in_ok-count_fault-2.ensures c.read_u32s-aux.ensures.answer
+    c.in_ok-given_fault.ensures in
+    permids-unfit _ _ pass l c.number_in-nvars.ensures c.ids_fit.ensures (ap not c.if-not-ids_fit.false) c.permids_fit.ensures
+    (ap not c.if-not-permids_fit.true)
 
 pub returns : goal.returns
 returns c =
-    support-passes _ _ (let h : CountsPass c.args.f.now (spans c.args.starts.now c.args.ends.now) = counts-pass _ _ (let h : IdsRead c.args.f.now (spans c.args.starts.now c.args.ends.now) c.args.ids.now c.args.permids.now = let l = c.requires.ids_listed in counted _ _ c.u32_in-want.ensures (ap length l.ids_are) c.if-ids-want.false (ap length l.permids_are) c.if-permids-want.false l in h) c.u32_in-want.ensures c.read_u32s-aux.ensures.answer c.given_fault-fault.ensures c.if-fault-ne0.false in h) (let h : IdsRead c.args.f.now (spans c.args.starts.now c.args.ends.now) c.args.ids.now c.args.permids.now = let l = c.requires.ids_listed in counted _ _ c.u32_in-want.ensures (ap length l.ids_are) c.if-ids-want.false (ap length l.permids_are) c.if-permids-want.false l in h) c.u32_in-nvars.ensures c.ids_fit.ensures (ap not c.if-not-ids_fit.false) c.permids_fit.ensures (ap not c.if-not-permids_fit.false)
+    let l = c.requires.ids_listed in
+    let pass =
+    counts-pass _ _ c.number_in-want.ensures l c.in_ok-count_fault.ensures c.in_ok-count_fault-2.ensures c.read_u32s-aux.ensures.answer
+    c.in_ok-given_fault.ensures in
+    support-passes _ _ pass l c.number_in-nvars.ensures c.ids_fit.ensures (ap not c.if-not-ids_fit.false) c.permids_fit.ensures
+    (ap not c.if-not-permids_fit.false)

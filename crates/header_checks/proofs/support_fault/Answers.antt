@@ -19,14 +19,6 @@ pub slice_bounds-listed_fault-end-4 : goal.slice_bounds-listed_fault-end-4
 slice_bounds-listed_fault-end-4 c =
     read-long _ _ Permids c.requires.var_limit_in_bounds.1 c.u32s_in-m.ensures.answer c.u32s_in-m.ensures.list
 
-pub listed_fault-requires-clause-table : goal.listed_fault-requires-clause-table
-listed_fault-requires-clause-table c =
-    c.requires.table
-
-pub listed_fault-requires-clause-ends_bound : goal.listed_fault-requires-clause-ends_bound
-listed_fault-requires-clause-ends_bound c =
-    c.requires.ends_bound
-
 pub listed_fault-requires-clause-ids_listed : goal.listed_fault-requires-clause-ids_listed
 listed_fault-requires-clause-ids_listed c =
     record {

@@ -1,92 +1,93 @@
-use mathlib.Core.Path.{sym, ◌∙◌}
+-- `whole_fault` meets its contract: the numbers, the support variables, the names, the roots.
+use mathlib.Core.Path.{refl, sym, ◌∙◌}
+use Rattle.std.proofs.lemmas.Result.{err_from_is_err_and}
+use Rattle.codes.proofs.Numbered.{refuses-with, number-not-none, passes-on}
 use Rattle.header_keys.specs.declared.Key.TheVariants.{Ids, Permids}
 use Rattle.header_checks.proofs.Numbered.{few_vars}
 use Rattle.header_checks.proofs.Supporting.{read_fits, read_is, read-long, ids-number, permids-number}
-use Rattle.header_checks.proofs.Checked.{whole-found, whole-first, number-refused, support-refused, named-roots}
+use Rattle.header_checks.proofs.Checked.{whole-found, whole-refused, whole-passes, number-refused, support-refused, named-roots}
 use Rattle.header_checks.proofs.whole_fault.Goals as goal
 
 pub returns-then-found-ne0 : goal.returns-then-found-ne0
 returns-then-found-ne0 c =
-    record { answer = whole-found _ _ _ _ c.if-found-ne0.true; ids_left = λ z. absurd (c.if-found-ne0.true z); permids_left = λ z. absurd (c.if-found-ne0.true z) }
+    record { answer = whole-found _ _ _ _ c.if-found-ne0.true; ids_left = λ z. cc; permids_left = λ z. cc }
 
-pub returns-then-number-ne0 : goal.returns-then-number-ne0
-returns-then-number-ne0 c =
-    record {
-      answer = whole-first _ _ _ c.if-found-ne0.false (number-refused _ _ _ c.numbers_fault-number.ensures c.if-number-ne0.true);
-      ids_left = λ z. absurd (c.if-number-ne0.true z);
-      permids_left = λ z. absurd (c.if-number-ne0.true z);
-    }
+pub returns-in_err-numbers_fault : goal.returns-in_err-numbers_fault
+returns-in_err-numbers_fault c =
+    let p = err_from_is_err_and c.from_residual.result c.from_residual.ensures.1 in
+    let w = whole-refused _ _ _ c.if-found-ne0.false _ (number-refused _ _ _ c.in_err-numbers_fault.ensures (number-not-none _)) in
+    record { answer = rw (p.1, p.2) w; ids_left = λ z. cc; permids_left = λ z. cc }
 
-pub support_fault-support-requires-clause-table : goal.support_fault-support-requires-clause-table
-support_fault-support-requires-clause-table c =
-    c.requires.table
+pub support_fault-requires-clause-ends_bound : goal.support_fault-requires-clause-ends_bound
+support_fault-requires-clause-ends_bound c =
+    few_vars _ _ _ _ (sym c.in_ok-numbers_fault.ensures)
 
-pub support_fault-support-requires-clause-ends_bound : goal.support_fault-support-requires-clause-ends_bound
-support_fault-support-requires-clause-ends_bound c =
-    few_vars _ _ _ _
-    (sym c.numbers_fault-number.ensures ∙ c.if-number-ne0.false)
-
-pub support_fault-support-requires-clause-var_limit_in_bounds : goal.support_fault-support-requires-clause-var_limit_in_bounds
-support_fault-support-requires-clause-var_limit_in_bounds c = (
-  (c.requires.long_after c.if-found-ne0.false).ids_long,
-  (c.requires.long_after c.if-found-ne0.false).permids_long,
-)
-
-pub returns-then-support-ne0 : goal.returns-then-support-ne0
-returns-then-support-ne0 c =
-    record {
-      answer = whole-first _ _ _ c.if-found-ne0.false
-          (support-refused _ _ _ (sym c.numbers_fault-number.ensures ∙ c.if-number-ne0.false) c.support_fault-support.ensures.answer c.if-support-ne0.true);
-      ids_left = λ z. absurd (c.if-support-ne0.true z);
-      permids_left = λ z. absurd (c.if-support-ne0.true z);
-    }
+pub returns-in_err-support_fault : goal.returns-in_err-support_fault
+returns-in_err-support_fault c =
+    let p = err_from_is_err_and c.from_residual-in_err-support_fault.result c.from_residual-in_err-support_fault.ensures.1 in
+    let e = support-refused _ _ _ (sym c.in_ok-numbers_fault.ensures) c.in_err-support_fault.ensures.answer (number-not-none _) in
+    let w = whole-refused _ _ _ c.if-found-ne0.false _ e in
+    record { answer = rw (p.1, p.2) w; ids_left = λ z. cc; permids_left = λ z. cc }
 
 pub slice_bounds-name_fault-end : goal.slice_bounds-name_fault-end
 slice_bounds-name_fault-end c =
-    read_fits _ _ Ids (c.requires.long_after c.if-found-ne0.false).ids_long (c.u32_in-n.ensures ∙ sym (ids-number _ _ (sym c.support_fault-support.ensures.answer ∙ c.if-support-ne0.false))) c.support_fault-support.ensures.ids_left
+    let s = c.in_ok-support_fault.ensures in
+    read_fits _ _ Ids (c.requires.long_after c.if-found-ne0.false).ids_long (c.number_in-n.ensures ∙ sym (ids-number _ _ (sym s.answer))) s.ids_left
 
 pub slice_bounds-name_fault-end-2 : goal.slice_bounds-name_fault-end-2
 slice_bounds-name_fault-end-2 c =
-    read-long _ _ Ids (c.requires.long_after c.if-found-ne0.false).ids_long (c.u32_in-n.ensures ∙ sym (ids-number _ _ (sym c.support_fault-support.ensures.answer ∙ c.if-support-ne0.false))) c.support_fault-support.ensures.ids_left
+    let s = c.in_ok-support_fault.ensures in
+    read-long _ _ Ids (c.requires.long_after c.if-found-ne0.false).ids_long (c.number_in-n.ensures ∙ sym (ids-number _ _ (sym s.answer))) s.ids_left
 
 pub slice_bounds-name_fault-end-3 : goal.slice_bounds-name_fault-end-3
 slice_bounds-name_fault-end-3 c =
-    read_fits _ _ Permids (c.requires.long_after c.if-found-ne0.false).permids_long (c.u32_in-n.ensures ∙ sym (permids-number _ _ (sym c.support_fault-support.ensures.answer ∙ c.if-support-ne0.false))) c.support_fault-support.ensures.permids_left
+    let s = c.in_ok-support_fault.ensures in
+    read_fits _ _ Permids (c.requires.long_after c.if-found-ne0.false).permids_long (c.number_in-n.ensures ∙ sym (permids-number _ _ (sym s.answer)))
+    s.permids_left
 
 pub slice_bounds-name_fault-end-4 : goal.slice_bounds-name_fault-end-4
 slice_bounds-name_fault-end-4 c =
-    read-long _ _ Permids (c.requires.long_after c.if-found-ne0.false).permids_long (c.u32_in-n.ensures ∙ sym (permids-number _ _ (sym
-    c.support_fault-support.ensures.answer ∙ c.if-support-ne0.false)))
-    c.support_fault-support.ensures.permids_left
+    let s = c.in_ok-support_fault.ensures in
+    read-long _ _ Permids (c.requires.long_after c.if-found-ne0.false).permids_long (c.number_in-n.ensures ∙ sym (permids-number _ _ (sym s.answer)))
+    s.permids_left
 
-pub name_fault-name-requires-clause-table : goal.name_fault-name-requires-clause-table
-name_fault-name-requires-clause-table c =
-    c.requires.table
-
-pub name_fault-name-requires-clause-ids_read : goal.name_fault-name-requires-clause-ids_read
-name_fault-name-requires-clause-ids_read c =
+pub name_fault-requires-clause-ids_read : goal.name_fault-requires-clause-ids_read
+name_fault-requires-clause-ids_read c =
+    let l = c.requires.long_after c.if-found-ne0.false in
+    let s = c.in_ok-support_fault.ensures in
+    let n = ids-number _ _ (sym s.answer) in
+    let m = permids-number _ _ (sym s.answer) in
     record {
       listed = record {
-        ids_are = read_is _ _ Ids (c.requires.long_after
-            c.if-found-ne0.false).ids_long (c.u32_in-n.ensures ∙ sym (ids-number _ _ (sym c.support_fault-support.ensures.answer ∙ c.if-support-ne0.false))) c.support_fault-support.ensures.ids_left;
-        permids_are = read_is _ _ Permids (c.requires.long_after c.if-found-ne0.false).permids_long (c.u32_in-n.ensures ∙ sym (permids-number _ _ (sym c.support_fault-support.ensures.answer ∙ c.if-support-ne0.false))) c.support_fault-support.ensures.permids_left;
+        ids_are = read_is _ _ Ids l.ids_long (c.number_in-n.ensures ∙ sym n) s.ids_left;
+        permids_are = read_is _ _ Permids l.permids_long (c.number_in-n.ensures ∙ sym m) s.permids_left;
       };
-      ids_counted = ids-number _ _ (sym c.support_fault-support.ensures.answer ∙ c.if-support-ne0.false);
-      permids_counted = permids-number _ _ (sym c.support_fault-support.ensures.answer ∙ c.if-support-ne0.false);
+      ids_counted = n;
+      permids_counted = m;
     }
 
-pub name_fault-name-requires-clause-long_names : goal.name_fault-name-requires-clause-long_names
-name_fault-name-requires-clause-long_names c =
-    (c.requires.long_after c.if-found-ne0.false).others_long
+pub returns-in_err-name_fault : goal.returns-in_err-name_fault
+returns-in_err-name_fault c =
+    let p = err_from_is_err_and c.from_residual-in_err-name_fault.result c.from_residual-in_err-name_fault.ensures.1 in
+    let e =
+    named-roots _ _ _ (sym c.in_ok-numbers_fault.ensures) c.in_ok-support_fault.ensures.answer refl c.in_err-name_fault.ensures.answer
+    (refuses-with _ _ refl) in
+    let w = whole-refused _ _ _ c.if-found-ne0.false _ e in
+    record { answer = rw (p.1, p.2) w; ids_left = λ z. cc; permids_left = λ z. cc }
 
-pub root_fault-requires : goal.root_fault-requires
-root_fault-requires c =
-    c.requires.table
+pub returns-in_err-root_fault : goal.returns-in_err-root_fault
+returns-in_err-root_fault c =
+    let p = err_from_is_err_and c.from_residual-in_err-root_fault.result c.from_residual-in_err-root_fault.ensures.1 in
+    let e =
+    named-roots _ _ _ (sym c.in_ok-numbers_fault.ensures) c.in_ok-support_fault.ensures.answer refl c.in_ok-name_fault.ensures.answer
+    (c.in_err-root_fault.ensures ∙ passes-on _ refl) in
+    let w = whole-refused _ _ _ c.if-found-ne0.false _ e in
+    record { answer = rw (p.1, p.2) w; ids_left = λ z. cc; permids_left = λ z. cc }
 
 pub returns : goal.returns
 returns c =
-    record {
-      answer = whole-first _ _ _ c.if-found-ne0.false (named-roots _ _ _ (sym c.numbers_fault-number.ensures ∙ c.if-number-ne0.false) c.support_fault-support.ensures.answer c.if-support-ne0.false c.name_fault-name.ensures.answer c.root_fault.ensures);
-      ids_left = λ z. c.support_fault-support.ensures.ids_left;
-      permids_left = λ z. c.support_fault-support.ensures.permids_left;
-    }
+    let s = c.in_ok-support_fault.ensures in
+    let e =
+    named-roots _ _ _ (sym c.in_ok-numbers_fault.ensures) s.answer refl c.in_ok-name_fault.ensures.answer
+    (c.in_ok-root_fault.ensures ∙ passes-on _ refl) in
+    record { answer = whole-passes _ _ _ c.if-found-ne0.false e; ids_left = λ z. s.ids_left; permids_left = λ z. s.permids_left }

@@ -1,97 +1,63 @@
 -- `sweep` meets its contract: before each line the two lists hold the last values of the lines read, and what is left decides.
 use native.Mathlib.Omega.{arith}
-use mathlib.Core.Path.{sym, ap, ◌∙◌}
-use lib.ListN.{length}
-use Rattle.header_lines.proofs.Progress.{progress_start, progress-value, progress-less, progress-nodes, progress-refused, progress-cut}
+use mathlib.Core.Path.{◌≡◌, ap, ◌∙◌}
+use Rattle.std.specs.Prelude.{Ok}
+use Rattle.std.proofs.lemmas.Result.{err_from_is_err_and}
+use Rattle.header_lines.specs.Sweep.{at_nodes, refused_at}
+use Rattle.header_lines.proofs.Progress.{Outcome, progress_start, progress-value, progress-nodes, progress-fault, progress-cut}
 use Rattle.header_lines.proofs.sweep.Goals as goal
+use Rattle.header_lines.proofs.sweep.Goals.{In_err-slot, In-Nodes}
 
 pub loop-at-init : goal.loop-at-init
 loop-at-init c =
     progress_start _ _ _ c.requires.starts_value c.requires.ends_value
 
-pub step_at-requires : goal.step_at-requires
-step_at-requires c =
-    (c.loop-at-test.true, c.requires.f_len_bound)
-
-pub overflow_add-line : goal.overflow_add-line
-overflow_add-line c =
-    omega (arith, c.loop-at.invariant.counted, c.loop-at.invariant.inside, c.requires.f_len_bound)
-
-pub loop-at-smaller : goal.loop-at-smaller
-loop-at-smaller c =
-    progress-less c.loop-at.invariant c.loop-at-test.true c.step_at.ensures.value c.step_at.ensures.step_within c.in-Value.is
-
 pub loop-at-preserved : goal.loop-at-preserved
 loop-at-preserved c =
-    rw (c.put_u32.ensures, c.put_u32-in-Value.ensures) (progress-value c.loop-at.invariant c.loop-at-test.true c.step_at.ensures.value c.step_at.ensures.step_within c.in-Value.is)
+    let e : c.step_at.result ≡ Ok c.in_ok-slot.field-0 = grind arith in
+    let v = e ∙ ap Ok c.in-Value.is in
+    rw (c.put.ensures, c.put-in-Value.ensures) (progress-value c.loop-at.invariant c.loop-at-test.true (rw v at c.step_at.ensures.value) (rw v at c.step_at.ensures.step_within))
 
-pub shape_of-starts-in-Nodes : goal.shape_of-starts-in-Nodes
-shape_of-starts-in-Nodes c =
-    c.loop-at.invariant.table.starts_long ∙ sym (ap length c.requires.starts_value)
+-- the line has a fault
+refused : (c : In_err-slot) → Outcome c.args.f.now c.loop-at.starts c.loop-at.ends (refused_at c.in_err-slot.field-0.0.number c.in_err-slot.field-0.0.line)
+refused c =
+    progress-fault c.loop-at.invariant c.loop-at-test.true c.step_at.ensures.value (grind arith)
 
-pub shape_of-ends-in-Nodes : goal.shape_of-ends-in-Nodes
-shape_of-ends-in-Nodes c =
-    c.loop-at.invariant.table.ends_long ∙ sym (ap length c.requires.ends_value)
+-- it is that of `.nodes`
+ended : (c : In-Nodes) → Outcome c.args.f.now c.loop-at.starts c.loop-at.ends (at_nodes c.in-Nodes.next c.loop-at.line)
+ended c =
+    let e : c.step_at.result ≡ Ok c.in_ok-slot.field-0 = grind arith in
+    let v = e ∙ ap Ok c.in-Nodes.is in
+    progress-nodes c.loop-at.invariant c.loop-at-test.true (rw v at c.step_at.ensures.value) (rw v at c.step_at.ensures.step_within)
+
+pub returns-in_err-slot-clause-result_value : goal.returns-in_err-slot-clause-result_value
+returns-in_err-slot-clause-result_value c =
+    let p = err_from_is_err_and c.from_residual.result c.from_residual.ensures.1 in
+    rw (p.1, p.2) (refused (goal.at.returns-in_err-slot-clause-result_value c).In_err-slot).0
+
+pub returns-in_err-slot-clause-starts_after : goal.returns-in_err-slot-clause-starts_after
+returns-in_err-slot-clause-starts_after c =
+    (refused (goal.at.returns-in_err-slot-clause-starts_after c).In_err-slot).1.0
+
+pub returns-in_err-slot-clause-ends_after : goal.returns-in_err-slot-clause-ends_after
+returns-in_err-slot-clause-ends_after c =
+    (refused (goal.at.returns-in_err-slot-clause-ends_after c).In_err-slot).1.1.0
 
 pub returns-in-Nodes-clause-result_value : goal.returns-in-Nodes-clause-result_value
 returns-in-Nodes-clause-result_value c =
-    (progress-nodes c.loop-at.invariant c.loop-at-test.true c.step_at.ensures.value c.step_at.ensures.step_within c.in-Nodes.is).0
+    (ended (goal.at.returns-in-Nodes-clause-result_value c).In-Nodes).0
 
 pub returns-in-Nodes-clause-starts_after : goal.returns-in-Nodes-clause-starts_after
 returns-in-Nodes-clause-starts_after c =
-    (progress-nodes c.loop-at.invariant c.loop-at-test.true c.step_at.ensures.value c.step_at.ensures.step_within c.in-Nodes.is).1.0
+    (ended (goal.at.returns-in-Nodes-clause-starts_after c).In-Nodes).1.0
 
 pub returns-in-Nodes-clause-ends_after : goal.returns-in-Nodes-clause-ends_after
 returns-in-Nodes-clause-ends_after c =
-    (progress-nodes c.loop-at.invariant c.loop-at-test.true c.step_at.ensures.value c.step_at.ensures.step_within c.in-Nodes.is).1.1.0
-
-pub returns-in-Nodes-clause-end_within : goal.returns-in-Nodes-clause-end_within
-returns-in-Nodes-clause-end_within c =
-    (progress-nodes c.loop-at.invariant c.loop-at-test.true c.step_at.ensures.value c.step_at.ensures.step_within c.in-Nodes.is).1.1.1.0
-
-pub returns-in-Nodes-clause-table : goal.returns-in-Nodes-clause-table
-returns-in-Nodes-clause-table c =
-    (progress-nodes c.loop-at.invariant c.loop-at-test.true c.step_at.ensures.value c.step_at.ensures.step_within c.in-Nodes.is).1.1.1.1
-
-pub shape_of-starts-in-Refused : goal.shape_of-starts-in-Refused
-shape_of-starts-in-Refused c =
-    c.loop-at.invariant.table.starts_long ∙ sym (ap length c.requires.starts_value)
-
-pub shape_of-ends-in-Refused : goal.shape_of-ends-in-Refused
-shape_of-ends-in-Refused c =
-    c.loop-at.invariant.table.ends_long ∙ sym (ap length c.requires.ends_value)
-
-pub returns-in-Refused-clause-result_value : goal.returns-in-Refused-clause-result_value
-returns-in-Refused-clause-result_value c =
-    (progress-refused c.loop-at.invariant c.loop-at-test.true c.step_at.ensures.value c.step_at.ensures.step_within c.in-Refused.is).0
-
-pub returns-in-Refused-clause-starts_after : goal.returns-in-Refused-clause-starts_after
-returns-in-Refused-clause-starts_after c =
-    (progress-refused c.loop-at.invariant c.loop-at-test.true c.step_at.ensures.value c.step_at.ensures.step_within c.in-Refused.is).1.0
-
-pub returns-in-Refused-clause-ends_after : goal.returns-in-Refused-clause-ends_after
-returns-in-Refused-clause-ends_after c =
-    (progress-refused c.loop-at.invariant c.loop-at-test.true c.step_at.ensures.value c.step_at.ensures.step_within c.in-Refused.is).1.1.0
-
-pub returns-in-Refused-clause-end_within : goal.returns-in-Refused-clause-end_within
-returns-in-Refused-clause-end_within c =
-    (progress-refused c.loop-at.invariant c.loop-at-test.true c.step_at.ensures.value c.step_at.ensures.step_within c.in-Refused.is).1.1.1.0
-
-pub returns-in-Refused-clause-table : goal.returns-in-Refused-clause-table
-returns-in-Refused-clause-table c =
-    (progress-refused c.loop-at.invariant c.loop-at-test.true c.step_at.ensures.value c.step_at.ensures.step_within c.in-Refused.is).1.1.1.1
-
-pub shape_of-starts : goal.shape_of-starts
-shape_of-starts c =
-    c.loop-at.invariant.table.starts_long ∙ sym (ap length c.requires.starts_value)
-
-pub shape_of-ends : goal.shape_of-ends
-shape_of-ends c =
-    c.loop-at.invariant.table.ends_long ∙ sym (ap length c.requires.ends_value)
+    (ended (goal.at.returns-in-Nodes-clause-ends_after c).In-Nodes).1.1.0
 
 pub returns-clause-result_value : goal.returns-clause-result_value
 returns-clause-result_value c =
-    (progress-cut c.loop-at.invariant c.loop-at-test.false).0
+    rw c.at.ensures (progress-cut c.loop-at.invariant c.loop-at-test.false).0
 
 pub returns-clause-starts_after : goal.returns-clause-starts_after
 returns-clause-starts_after c =
@@ -100,11 +66,3 @@ returns-clause-starts_after c =
 pub returns-clause-ends_after : goal.returns-clause-ends_after
 returns-clause-ends_after c =
     (progress-cut c.loop-at.invariant c.loop-at-test.false).1.1.0
-
-pub returns-clause-end_within : goal.returns-clause-end_within
-returns-clause-end_within c =
-    (progress-cut c.loop-at.invariant c.loop-at-test.false).1.1.1.0
-
-pub returns-clause-table : goal.returns-clause-table
-returns-clause-table c =
-    (progress-cut c.loop-at.invariant c.loop-at-test.false).1.1.1.1

@@ -1,5 +1,4 @@
 use mathlib.Core.Path.{◌∙◌}
-use native.Mathlib.Omega.{arith}
 use Rattle.header_keys.specs.declared.Key.TheVariants.{Ids, Permids, Auxids}
 use Rattle.support.specs.Support.{support_order}
 use Rattle.header_values.specs.Values.{spans, nvars_in, u32s_in}
@@ -8,61 +7,35 @@ use Rattle.header_lists.proofs.fill_lists.Goals as goal
 
 pub slice_bounds-fill_names-end : goal.slice_bounds-fill_names-end
 slice_bounds-fill_names-end c =
-    held-long _ _ Ids c.requires.held_list c.requires.table.1.ids_counted c.u32_in-n.ensures
+    held-long _ _ Ids c.requires.held_list c.requires.table.1.ids_counted c.number_in-n.ensures
 
 pub slice_bounds-fill_names-end-2 : goal.slice_bounds-fill_names-end-2
 slice_bounds-fill_names-end-2 c =
-    held-long _ _ Permids c.requires.held_list_2 c.requires.table.1.permids_counted c.u32_in-n.ensures
-
-pub fill_names-requires-clause-table : goal.fill_names-requires-clause-table
-fill_names-requires-clause-table c =
-    c.requires.table
+    held-long _ _ Permids c.requires.held_list_2 c.requires.table.1.permids_counted c.number_in-n.ensures
 
 pub fill_names-requires-clause-ids_listed : goal.fill_names-requires-clause-ids_listed
 fill_names-requires-clause-ids_listed c =
     record {
-      ids_are = (held-is _ _ Ids c.requires.held_list c.requires.table.1.ids_counted c.u32_in-n.ensures);
-      permids_are = (held-is _ _ Permids c.requires.held_list_2 c.requires.table.1.permids_counted c.u32_in-n.ensures);
+      ids_are = (held-is _ _ Ids c.requires.held_list c.requires.table.1.ids_counted c.number_in-n.ensures);
+      permids_are = (held-is _ _ Permids c.requires.held_list_2 c.requires.table.1.permids_counted c.number_in-n.ensures);
     }
-
-pub fill_names-requires-clause-lists_room : goal.fill_names-requires-clause-lists_room
-fill_names-requires-clause-lists_room c =
-    c.requires.lists_room
 
 pub slice_bounds-fill_order-end : goal.slice_bounds-fill_order-end
 slice_bounds-fill_order-end c =
-    held-long _ _ Ids c.requires.held_list c.requires.table.1.ids_counted c.u32_in-n.ensures
+    held-long _ _ Ids c.requires.held_list c.requires.table.1.ids_counted c.number_in-n.ensures
 
 pub slice_bounds-fill_order-end-2 : goal.slice_bounds-fill_order-end-2
 slice_bounds-fill_order-end-2 c =
-    held-long _ _ Permids c.requires.held_list_2 c.requires.table.1.permids_counted c.u32_in-n.ensures
-
-pub fill_order-requires-clause-table : goal.fill_order-requires-clause-table
-fill_order-requires-clause-table c =
-    c.requires.table.0
+    held-long _ _ Permids c.requires.held_list_2 c.requires.table.1.permids_counted c.number_in-n.ensures
 
 pub fill_order-requires-clause-ids_listed : goal.fill_order-requires-clause-ids_listed
 fill_order-requires-clause-ids_listed c =
     record {
       ids_are = (held-is _ _
-          Ids c.requires.held_list c.requires.table.1.ids_counted c.u32_in-n.ensures);
+          Ids c.requires.held_list c.requires.table.1.ids_counted c.number_in-n.ensures);
       permids_are =
-          (held-is _ _ Permids c.requires.held_list_2 c.requires.table.1.permids_counted c.u32_in-n.ensures);
+          (held-is _ _ Permids c.requires.held_list_2 c.requires.table.1.permids_counted c.number_in-n.ensures);
     }
-
-pub fill_order-requires-clause-ends_in_bounds : goal.fill_order-requires-clause-ends_in_bounds
-fill_order-requires-clause-ends_in_bounds c =
-    omega (
-      arith,
-      c.requires.lists_room.sizes_seats,
-      c.fill_names.auto.sizes,
-    )
-
-pub u32s_in-requires : goal.u32s_in-requires
-u32s_in-requires c = (
-  c.requires.table.0,
-  omega arith,
-)
 
 pub returns : goal.returns
 returns c =

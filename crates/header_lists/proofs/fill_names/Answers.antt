@@ -1,4 +1,3 @@
-use native.Mathlib.Omega.{arith}
 use lib.ListN.{length}
 use Rattle.read_text.specs.Text.{start_of, len_of}
 use Rattle.header_values.specs.Values.{spans}
@@ -13,22 +12,6 @@ returns-then-names_in-ne0 c =
       lens_left = filled-varnames _ _ len_of (length c.args.lens.now) c.names_in.ensures.answer c.names_in.ensures.lens_left c.if-names_in-ne0.true;
     }
 
-pub seat_names-key-requires-clause-table : goal.seat_names-key-requires-clause-table
-seat_names-key-requires-clause-table c =
-    c.requires.table
-
-pub seat_names-key-requires-clause-ids_listed : goal.seat_names-key-requires-clause-ids_listed
-seat_names-key-requires-clause-ids_listed c =
-    c.requires.ids_listed
-
-pub seat_names-key-requires-clause-ends_in_bounds : goal.seat_names-key-requires-clause-ends_in_bounds
-seat_names-key-requires-clause-ends_in_bounds c =
-    c.requires.lists_room.from_seats
-
-pub seat_names-key-requires-clause-ends_in_bounds_2 : goal.seat_names-key-requires-clause-ends_in_bounds_2
-seat_names-key-requires-clause-ends_in_bounds_2 c =
-    c.requires.lists_room.sizes_seats
-
 pub gather_names-requires-clause-table : goal.gather_names-requires-clause-table
 gather_names-requires-clause-table c = (
   c.requires.table.0,
@@ -39,21 +22,11 @@ pub gather_names-requires-clause-names_room : goal.gather_names-requires-clause-
 gather_names-requires-clause-names_room c =
     seated-room _ _ _ _ c.seat_names-key.result c.seat_names-key.ensures.seated c.requires.lists_room _ _ c.seat_names-key.auto.seats c.seat_names-key.auto.free
 
-pub gather_names-requires-clause-count_in_bounds : goal.gather_names-requires-clause-count_in_bounds
-gather_names-requires-clause-count_in_bounds c =
-    omega (
-      arith,
-      c.u32_in-count.ensures,
-      c.requires.lists_room.lens_seats,
-      c.seat_names-key.auto.dst,
-      c.names_in.auto.lens,
-    )
-
 pub returns : goal.returns
 returns c =
     let v = c.names_in.ensures in
     let g = c.gather_names.ensures in
     let all = named c.args.f.now (spans c.args.starts.now c.args.ends.now) v.answer c.if-names_in-ne0.false
-    (length c.args.names.now) (length c.args.lens.now) c.u32_in-count.result v.names_left v.lens_left
-    c.u32_in-count.ensures c.requires.lists_room.lens_seats c.seat_names-key.result _ c.seat_names-key.ensures.seated g.names_left g.lens_left in
+    (length c.args.names.now) (length c.args.lens.now) c.number_in-count.result v.names_left v.lens_left
+    c.number_in-count.ensures c.requires.lists_room.lens_seats c.seat_names-key.result _ c.seat_names-key.ensures.seated g.names_left g.lens_left in
     record { names_left = all.0; lens_left = all.1 }

@@ -7,12 +7,7 @@ use Rattle.header_lists.proofs.fill_order.Goals as goal
 
 pub slice_bounds-arrange-end-2 : goal.slice_bounds-arrange-end-2
 slice_bounds-arrange-end-2 c =
-    omega (
-      arith,
-      length-take c.u32_in-n.result c.args.seats.now,
-      c.u32_in-n.ensures,
-      c.requires.ends_in_bounds,
-    )
+    omega (arith, length-take c.number_in-n.result c.args.seats.now)
 
 pub arrange-requires : goal.arrange-requires
 arrange-requires c =
@@ -20,12 +15,8 @@ arrange-requires c =
 
 pub returns : goal.returns
 returns c =
-    let v : length (take c.u32_in-n.result c.args.seats.now) ≡ c.u32_in-n.result = omega (
-      arith,
-      length-take c.u32_in-n.result c.args.seats.now,
-      c.u32_in-n.ensures,
-      c.requires.ends_in_bounds,
-    ) in
+    let v : length (take c.number_in-n.result c.args.seats.now) ≡ c.number_in-n.result = omega (arith, length-take c.number_in-n.result c.args.seats.now) in
     record {
-      list = order-laid _ _ (v ∙ c.u32_in-n.ensures) c.requires.ids_listed _ (length c.args.dst.now) c.clear_numbers.ensures c.arrange.ensures.list;
+      list = order-laid _ _ (v ∙ c.number_in-n.ensures) c.requires.ids_listed _ (length c.args.dst.now)
+          (c.fill.ensures.after (λ y h. h)) c.arrange.ensures.list;
     }

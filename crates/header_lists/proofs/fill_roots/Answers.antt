@@ -15,5 +15,5 @@ pub returns : goal.returns
 returns c =
     record {
       list = roots-laid _ _ _ c.roots_in-n.ensures.answer c.roots_in-n.ensures.front
-          (length c.args.dst.now) c.clear_edges.ensures c.edges_of.ensures;
+          (length c.args.dst.now) (c.fill.ensures.after (λ y h. h)) c.edges_of.ensures;
     }

@@ -7,11 +7,7 @@ use Rattle.header_lists.proofs.gather_names.Goals as goal
 
 pub slice_bounds-gather-end-2 : goal.slice_bounds-gather-end-2
 slice_bounds-gather-end-2 c =
-    omega (
-      arith,
-      length-take c.args.count c.args.lens.now,
-      c.requires.count_in_bounds,
-    )
+    omega (arith, length-take c.args.count c.args.lens.now)
 
 pub slice_bounds-gather-end-4 : goal.slice_bounds-gather-end-4
 slice_bounds-gather-end-4 c =

@@ -9,17 +9,17 @@ read_names-requires-clause-table c =
 
 pub read_names-requires-clause-names_value : goal.read_names-requires-clause-names_value
 read_names-requires-clause-names_value c =
-    cleared-zeros (length c.args.names.now) c.clear_numbers.ensures
+    cleared-zeros (length c.args.names.now) (c.fill.ensures.after (λ y h. h))
 
 pub read_names-requires-clause-lens_value : goal.read_names-requires-clause-lens_value
 read_names-requires-clause-lens_value c =
-    cleared-zeros (length c.args.lens.now) c.clear_numbers-2.ensures
+    cleared-zeros (length c.args.lens.now) (c.fill-2.ensures.after (λ y h. h))
 
 pub returns : goal.returns
 returns c =
     let r = c.read_names.ensures in
     record {
       answer = r.answer;
-      names_left = cleared-pad (length c.args.names.now) c.clear_numbers.ensures _ r.names_left;
-      lens_left = cleared-pad (length c.args.lens.now) c.clear_numbers-2.ensures _ r.lens_left;
+      names_left = cleared-pad (length c.args.names.now) (c.fill.ensures.after (λ y h. h)) _ r.names_left;
+      lens_left = cleared-pad (length c.args.lens.now) (c.fill-2.ensures.after (λ y h. h)) _ r.lens_left;
     }

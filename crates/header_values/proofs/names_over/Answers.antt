@@ -1,17 +1,22 @@
-use Rattle.header_values.specs.Values.{spans}
-use Rattle.header_values.proofs.Filled.{names-over-given, names-over-none}
+-- `names_over` meets its contract: the names that were read are the fronts of the lists.
+use mathlib.Core.Path.{refl, sym, ap, ◌∙◌}
+use mathlib.Core.List.{map}
+use lib.ListN.{length-map}
+use Rattle.read_text.specs.Text.{start_of, len_of}
+use Rattle.header_values.specs.Values.{value_or, names_in}
+use Rattle.header_values.proofs.Counted.{names-count}
+use Rattle.header_values.proofs.Filled.{unwrapped, given-front}
 use Rattle.header_values.proofs.names_over.Goals as goal
 
-pub returns-in_default : goal.returns-in_default
-returns-in_default c =
-    let p = c.parse_str_list.ensures in
-    let l = names-over-none c.args.f.now (spans c.args.starts.now c.args.ends.now) c.args.key c.span_in-span.result c.span_in-span.ensures.result_value
-    c.args.max c.args.names.now c.args.lens.now p.starts_after p.lens_after c.requires.key_in_bounds c.requires.key_in_bounds_2 (rw c.in_default.is at p.result_value) in
-    record { answer = l.0; names_front = l.1.0; lens_front = l.1.1 }
-
 pub returns : goal.returns
+unfolding names_in
 returns c =
+    let v = c.value_in-at.ensures in
     let p = c.parse_str_list.ensures in
-    let l = names-over-given c.args.f.now (spans c.args.starts.now c.args.ends.now) c.args.key c.span_in-span.result c.span_in-span.ensures.result_value
-    c.args.max c.args.names.now c.args.lens.now p.starts_after p.lens_after c.requires.key_in_bounds c.requires.key_in_bounds_2 (rw c.in-Entries.is at p.result_value) in
-    record { answer = l.0; names_front = l.1.0; lens_front = l.1.1 }
+    let e = rw (v.start, v.value) at p.result_value in
+    let n = c.unwrap_or.ensures ∙ unwrapped c.parse_str_list.result ∙ ap (value_or 0) e ∙ sym (names-count _ _ c.args.max c.args.key) in
+    record {
+      answer = n;
+      names_front = given-front (map start_of) refl (λ es. length-map es start_of) _ _ n (rw (v.start, v.value) at p.starts_after) c.requires.key_in_bounds;
+      lens_front = given-front (map len_of) refl (λ es. length-map es len_of) _ _ n (rw (v.start, v.value) at p.lens_after) c.requires.key_in_bounds_2;
+    }

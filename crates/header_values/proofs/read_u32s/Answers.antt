@@ -1,19 +1,26 @@
 -- `read_u32s` meets its contract: the list is zeros, and cleared where the numbers are refused.
-use Rattle.header_values.proofs.Filled.{u32s-given, u32s-none}
-use Rattle.header_values.specs.Values.{spans}
-use lib.ListN.{length}
+use mathlib.Core.Path.{refl, sym, ap, ◌∙◌}
+use Rattle.header_values.specs.Values.{value_or, u32s_in}
+use Rattle.header_values.proofs.Counted.{u32s-count}
+use Rattle.header_values.proofs.Filled.{given-pad, emptied-pad}
 use Rattle.header_values.proofs.read_u32s.Goals as goal
 
 pub returns-in_default : goal.returns-in_default
+unfolding u32s_in
 returns-in_default c =
-    let p = c.parse_u32_list.ensures in
-    let l = u32s-none c.args.f.now (spans c.args.starts.now c.args.ends.now) c.args.key c.span_in-span.result c.span_in-span.ensures.result_value
-    (length c.args.dst.now) c.requires.dst_value p.dst_after (rw c.in_default.is at p.result_value) c.clear_numbers.ensures in
-    record { answer = l.0; list = l.1 }
+    let v = c.value_in.ensures.value in
+    let e = rw v at c.in_default.ensures.result_value in
+    record {
+      answer = ap (value_or 0) e ∙ sym (u32s-count _ _ c.args.key);
+      list = emptied-pad _ (λ es. es) _ c.requires.dst_value (rw v at c.parse_u32_list.ensures.dst_after) refl e (c.fill.ensures.after (λ y h. h));
+    }
 
 pub returns : goal.returns
+unfolding u32s_in
 returns c =
-    let p = c.parse_u32_list.ensures in
-    let l = u32s-given c.args.f.now (spans c.args.starts.now c.args.ends.now) c.args.key c.span_in-span.result c.span_in-span.ensures.result_value
-    (length c.args.dst.now) c.requires.dst_value p.dst_after (rw c.in-Entries.is at p.result_value) in
-    record { answer = l.0; list = l.1 }
+    let v = c.value_in.ensures.value in
+    let e = rw v at c.in-Ok.ensures.result_value in
+    record {
+      answer = ap (value_or 0) e ∙ sym (u32s-count _ _ c.args.key);
+      list = given-pad _ (λ es. es) _ c.requires.dst_value (rw v at c.parse_u32_list.ensures.dst_after) e;
+    }

@@ -1,24 +1,17 @@
 -- `roots_in` meets its contract: the roots lie over the front of the list, and the rest of it is as it was.
-use Rattle.header_values.proofs.Filled.{roots-given, roots-none, roots-read}
-use Rattle.header_values.specs.Values.{spans}
+use mathlib.Core.Path.{refl, sym, ap, ◌∙◌}
+use native.Mathlib.Omega.{arith}
+use Rattle.header_values.specs.Values.{spans, value_or, roots_in, roots_read}
+use Rattle.header_values.proofs.Counted.{roots-count, roots-most}
+use Rattle.header_values.proofs.Filled.{unwrapped, given-front}
 use Rattle.header_values.proofs.roots_in.Goals as goal
 
-pub returns-in_default : goal.returns-in_default
-returns-in_default c =
-    let p = c.parse_edge_list.ensures in
-    let f = c.args.f.now in
-    let t = spans c.args.starts.now c.args.ends.now in
-    let found = c.span_in-span.result in
-    let at = c.span_in-span.ensures.result_value in
-    let l = roots-none f t found at (rw c.in_default.is at p.result_value) in
-    record { answer = l.0; front = l.1; list = roots-read f t found at c.args.dst.now p.dst_after }
-
 pub returns : goal.returns
+unfolding roots_in roots_read
 returns c =
-    let p = c.parse_edge_list.ensures in
-    let f = c.args.f.now in
     let t = spans c.args.starts.now c.args.ends.now in
-    let found = c.span_in-span.result in
-    let at = c.span_in-span.ensures.result_value in
-    let l = roots-given f t found at c.args.dst.now c.requires.1 p.dst_after (rw c.in-Entries.is at p.result_value) in
-    record { answer = l.0; front = l.1; list = roots-read f t found at c.args.dst.now p.dst_after }
+    let v = c.value_in.ensures.value in
+    let p = c.parse_edge_list.ensures in
+    let n = c.unwrap_or.ensures ∙ unwrapped c.parse_edge_list.result ∙ ap (value_or 0) (rw v at p.result_value) ∙ sym (roots-count c.args.f.now t) in
+    let d = rw v at p.dst_after in
+    record { answer = n; front = given-front (λ es. es) refl (λ es. refl) _ _ n d (omega (arith, roots-most c.args.f.now t)); list = d }

@@ -9,9 +9,9 @@ read_u32s-requires-clause-table c =
 
 pub read_u32s-requires-clause-dst_value : goal.read_u32s-requires-clause-dst_value
 read_u32s-requires-clause-dst_value c =
-    cleared-zeros (length c.args.dst.now) c.clear_numbers.ensures
+    cleared-zeros (length c.args.dst.now) (c.fill.ensures.after (λ y h. h))
 
 pub returns : goal.returns
 returns c =
     let r = c.read_u32s.ensures in
-    record { answer = r.answer; list = cleared-pad (length c.args.dst.now) c.clear_numbers.ensures _ r.list }
+    record { answer = r.answer; list = cleared-pad (length c.args.dst.now) (c.fill.ensures.after (λ y h. h)) _ r.list }

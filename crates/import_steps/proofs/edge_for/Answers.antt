@@ -1,34 +1,20 @@
--- `edge_for` meets its contract: the edge of the line is found, and turned over under a minus.
-use Rattle.imported.proofs.ChildEdge.{Found, number-some, found-there, found-beyond, found-edge, found-minus, found_plain}
-use Rattle.import_steps.proofs.edge_for.Goals.{then-i-edges, else-i-edges}
+-- `edge_for` meets its contract: the edge of the line is read from the list, 1 beyond it, and turned over under a minus.
+use mathlib.Core.Path.{ap, ◌∙◌}
+use native.Mathlib.Omega.{arith}
+use lib.IntN.{ℤ, pos}
+use Rattle.std.specs.Option.{unwrap_or}
+use Rattle.std.proofs.Common.{Option}
+use Rattle.imported.proofs.ChildEdge.{edge-minus, edge_plain}
 use Rattle.import_steps.proofs.edge_for.Goals as goal
-
-pub overflow_sub-i : goal.overflow_sub-i
-overflow_sub-i c = number-some c.args.edges.now _ c.ranges.c c.magnitude.ensures c.requires.1
-
-pub negate-requires : goal.negate-requires
-negate-requires c =
-    let found : Found c.args.edges.now c.args.c c.if-i-edges.e-bits =
-    elim c.if-i-edges.branch [
-      | then-i-edges w ↦ found-there c.args.edges.now c.args.c c.ranges.c c.magnitude.ensures c.requires.0 w.if-i-edges.true w.e-is-bits
-      | else-i-edges w ↦ found-beyond c.args.edges.now c.args.c c.ranges.c c.magnitude.ensures w.if-i-edges.false w.e-is-bits
-    ] in
-    found-edge c.args.edges.now c.args.c c.ranges.c c.if-i-edges.e-bits c.requires.0 found
 
 pub returns-then-is_minus : goal.returns-then-is_minus
 returns-then-is_minus c =
-    let found : Found c.args.edges.now c.args.c c.if-i-edges.e-bits =
-    elim c.if-i-edges.branch [
-      | then-i-edges w ↦ found-there c.args.edges.now c.args.c c.ranges.c c.magnitude.ensures c.requires.0 w.if-i-edges.true w.e-is-bits
-      | else-i-edges w ↦ found-beyond c.args.edges.now c.args.c c.ranges.c c.magnitude.ensures w.if-i-edges.false w.e-is-bits
-    ] in
-    found-minus c.args.edges.now c.args.c c.ranges.c c.if-i-edges.e-bits c.requires.0 found c.is_minus.ensures c.if-is_minus.true c.negate.ensures
+    edge-minus c.args.edges.now c.args.c c.ranges.c c.requires.0 c.magnitude.ensures
+    (c.unwrap_or-e.ensures ∙ ap (λ (o : Option ℤ). unwrap_or o (pos 1)) c.copied.ensures ∙ c.get.ensures.lookup.4 (omega arith) (pos 1))
+    c.is_minus.ensures c.if-is_minus.true c.negate.ensures
 
-pub returns : goal.returns
-returns c =
-    let found : Found c.args.edges.now c.args.c c.if-i-edges.e-bits =
-    elim c.if-i-edges.branch [
-      | then-i-edges w ↦ found-there c.args.edges.now c.args.c c.ranges.c c.magnitude.ensures c.requires.0 w.if-i-edges.true w.e-is-bits
-      | else-i-edges w ↦ found-beyond c.args.edges.now c.args.c c.ranges.c c.magnitude.ensures w.if-i-edges.false w.e-is-bits
-    ] in
-    found_plain c.args.edges.now c.args.c c.ranges.c c.if-i-edges.e-bits c.requires.0 found c.is_minus.ensures c.if-is_minus.false
+pub returns-else-is_minus : goal.returns-else-is_minus
+returns-else-is_minus c =
+    edge_plain c.args.edges.now c.args.c c.ranges.c c.requires.0 c.magnitude.ensures
+    (c.unwrap_or-e.ensures ∙ ap (λ (o : Option ℤ). unwrap_or o (pos 1)) c.copied.ensures ∙ c.get.ensures.lookup.4 (omega arith) (pos 1))
+    c.is_minus.ensures c.if-is_minus.false

@@ -1,21 +1,18 @@
--- `ends_well` meets its contract.
-use mathlib.Core.Path.{sym}
+-- `ends_well` meets its contract: the bytes at the position are `.end`, or others.
+use mathlib.Core.Path.{refl}
 use native.Mathlib.Omega.{arith}
-use Rattle.import_steps.proofs.FileEnd.{ends-short, ends-other, ends_so}
+use Rattle.import_steps.proofs.FileEnd.{ends-past, ends-other, ends_so}
 use Rattle.import_steps.proofs.ends_well.Goals as goal
 
-pub returns-then-f-lt4 : goal.returns-then-f-lt4
-returns-then-f-lt4 c =
-    sym (ends-short _ _ (omega (arith, c.if-f-lt4.true)))
+pub returns-in_default : goal.returns-in_default
+returns-in_default c =
+    ends-past _ _ (omega (arith, c.in_default.ensures.lookup.0))
 
-pub returns-then-f-at : goal.returns-then-f-at
-returns-then-f-at c =
-    sym (ends-short _ _ (omega (arith, c.if-f-lt4.false, c.if-f-at.true)))
-
-pub returns-then-not-same : goal.returns-then-not-same
-returns-then-not-same c =
-    sym (ends-other _ _ c.same.ensures c.if-not-same.true)
+pub returns-in_default-strip_prefix : goal.returns-in_default-strip_prefix
+returns-in_default-strip_prefix c =
+    ends-other _ _ c.in-Some.ensures.lookup.0.2 c.in_default-strip_prefix.ensures.cases refl
 
 pub returns : goal.returns
 returns c =
-    ends_so _ _ c.same.ensures c.if-not-same.false c.blank_all.ensures
+    let p = c.in-Some-strip_prefix.ensures.cases in
+    ends_so _ _ c.in-Some.ensures.lookup.0.2 p.0 refl p.1 c.blank_all.ensures

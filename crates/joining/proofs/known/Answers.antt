@@ -3,14 +3,11 @@ use mathlib.Core.Path.{sym, ◌∙◌}
 use Rattle.joining.proofs.Knowing.{known-short, known-found}
 use Rattle.joining.proofs.known.Goals as goal
 
-pub returns-then-not-same : goal.returns-then-not-same
-returns-then-not-same c =
-    let s = c in
-    known-short _ s.args.op s.args.a s.args.b _ s.requires.edge.0 s.requires.edge.1 c.shortcut-short.ensures
-    (sym c.same.ensures ∙ c.if-not-same.true)
+pub returns-then-is_some : goal.returns-then-is_some
+returns-then-is_some c =
+    known-short _ c.args.op c.args.a c.args.b c.requires.edge.0 c.requires.edge.1 _ c.shortcut-short.ensures (sym c.is_some.ensures ∙ c.if-is_some.true)
 
 pub returns : goal.returns
 returns c =
-    let s = c in
-    known-found _ s.args.op s.args.a s.args.b _ s.requires.edge.0 s.requires.edge.1 c.shortcut-short.ensures
-    (sym c.same.ensures ∙ c.if-not-same.false) _ c.find.ensures
+    known-found _ c.args.op c.args.a c.args.b c.requires.edge.0 c.requires.edge.1 _ c.shortcut-short.ensures (sym c.is_some.ensures ∙ c.if-is_some.false)
+    _ c.find.ensures

@@ -1,6 +1,10 @@
--- `list_fits` meets its contract. The invariant: the list has its length, and the levels before i ascend. The measure is what is left.
+-- `list_fits` meets its contract: its length, the library's test of the neighbours, and what is asked of the last level.
 use mathlib.Core.Path.{sym, ◌∙◌}
-use Rattle.support.proofs.Ascending.{ascended-start, ascended-more, unordered, ordered, none-fit}
+use Rattle.std.proofs.Common.{rules}
+use borrow.Author.Tests.{tests}
+use lib.Dec.{ltb}
+use Rattle.std.proofs.lemmas.List.Sorted.{answers_always}
+use Rattle.support.proofs.Ascending.{last-asked, sorted, unsorted}
 use Rattle.level_list.proofs.LevelLists.{counted, miscounted}
 use Rattle.level_list.proofs.list_fits.Goals as goal
 
@@ -8,25 +12,13 @@ pub returns-then-list-nsuppvars : goal.returns-then-list-nsuppvars
 returns-then-list-nsuppvars c =
     sym (miscounted _ _ _ c.if-list-nsuppvars.true)
 
-pub loop-i-init : goal.loop-i-init
-loop-i-init c =
-    (c.if-list-nsuppvars.false, ascended-start _)
+pub returns-then-is_sorted_by : goal.returns-then-is_sorted_by
+returns-then-is_sorted_by c =
+    sorted _ _ (c.is_sorted_by.ensures.cases ltb (answers_always _ _ _ (λ f a r q k. search (rules, tests)))) c.if-is_sorted_by.true
+    (last-asked _ _ _ c.last.ensures.value c.is_none_or.ensures (λ x h. search (rules, tests)))
+    ∙ sym (counted _ _ _ c.if-list-nsuppvars.false)
 
-pub returns-then-list-i : goal.returns-then-list-i
-returns-then-list-i c =
-    let v = c.loop-i.invariant in
-    sym (counted _ _ _ v.0 ∙ unordered _ _ _ v.1 c.loop-i-test.true c.if-list-i.true)
-
-pub loop-i-preserved : goal.loop-i-preserved
-loop-i-preserved c =
-    let v = c.loop-i.invariant in
-    (v.0, ascended-more _ _ v.1 c.loop-i-test.true c.if-list-i.false)
-
-pub returns-then-list-eq0 : goal.returns-then-list-eq0
-returns-then-list-eq0 c =
-    sym (counted _ _ _ c.loop-i.invariant.0 ∙ none-fit _ _ c.if-list-eq0.true)
-
-pub returns : goal.returns
-returns c =
-    let v = c.loop-i.invariant in
-    sym (counted _ _ _ v.0 ∙ ordered _ _ _ v.1 c.loop-i-test.false c.if-list-eq0.false)
+pub returns-else-is_sorted_by : goal.returns-else-is_sorted_by
+returns-else-is_sorted_by c =
+    unsorted _ _ (c.is_sorted_by.ensures.cases ltb (answers_always _ _ _ (λ f a r q k. search (rules, tests)))) c.if-is_sorted_by.false
+    ∙ sym (counted _ _ _ c.if-list-nsuppvars.false)

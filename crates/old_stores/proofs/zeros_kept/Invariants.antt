@@ -1,13 +1,9 @@
--- `zeros_kept` meets its contract: slot 1 is zero, and the answer so far is that of the unused slots up to the one looked at.
-use Prim.Native.Nat.{◌-◌}
-use lib.ListN.{length}
-use Rattle.rules.proofs.Zeros.{Looked}
+-- `zeros_kept` meets its contract: the answer so far is that of slot 1 and of the unused slots up to the one looked at.
+use Rattle.old_stores.specs.Promises.{held_old}
+use Rattle.old_stores.proofs.Judging.{ZerosTo}
+use Rattle.store.specs.Keeps.{Decides}
 use Rattle.old_stores.proofs.zeros_kept.Given as goal
 
-abbrev pub invariant-loop-used : goal.invariant-loop-used
-invariant-loop-used l =
-    Looked l.count l.level l.then l.els l.next l.zero l.used
-
-abbrev pub decreases-loop-used : goal.decreases-loop-used
-decreases-loop-used l =
-    length l.level - l.used
+abbrev pub invariant-loop-i : goal.invariant-loop-i
+invariant-loop-i l =
+    Decides l.zero (ZerosTo (held_old l.old) l.i)

@@ -10,10 +10,11 @@ use Rattle.reached.specs.Meet.{meet}
 use Rattle.reached.proofs.NodeWalk.{Walking}
 use Rattle.reached.proofs.meet.Given as goal
 
-abbrev pub invariant-loop-marks : goal.invariant-loop-marks
-invariant-loop-marks l =
-    Walking (store 0 0 [] l.then l.els [] []) (meet (store 0 0 [] l.then l.els [] []) (take l.at l.initial.met) l.first) l.initial.met (length l.initial.marks) l.initial.next l.met l.marks l.next l.n
+abbrev pub invariant-loop-child : goal.invariant-loop-child
+invariant-loop-child l =
+    Walking (store 0 0 [] l.then l.els [] []) (meet (store 0 0 [] l.then l.els [] []) (take l.at l.initial.met) l.first)
+    l.initial.met (length l.initial.marks) l.initial.next l.met l.marks l.next l.n
 
-abbrev pub decreases-loop-marks : goal.decreases-loop-marks
-decreases-loop-marks l =
+abbrev pub decreases-loop-child : goal.decreases-loop-child
+decreases-loop-child l =
     (length l.initial.met - l.next) * suc node_limit + (node_limit - l.n)

@@ -1,5 +1,4 @@
 -- `line_at` meets its contract: the two searches are those of `line_of`.
-use native.Mathlib.Omega.{arith}
 use Rattle.read_lines.proofs.Searches.{line-ended, line-last}
 use Rattle.read_lines.proofs.line_at.Goals as goal
 
@@ -7,24 +6,6 @@ pub returns-then-feed-f-clause-value : goal.returns-then-feed-f-clause-value
 returns-then-feed-f-clause-value c =
     line-ended _ _ _ _ c.forward-feed.ensures.value c.backward-end.ensures.value c.if-feed-f.true
 
-pub returns-then-feed-f-clause-line_within : goal.returns-then-feed-f-clause-line_within
-returns-then-feed-f-clause-line_within c =
-    record {
-      end_after = omega arith;
-      end_before = omega arith;
-      next_before = omega arith;
-      next_after = λ h. omega arith;
-    }
-
 pub returns-else-feed-f-clause-value : goal.returns-else-feed-f-clause-value
 returns-else-feed-f-clause-value c =
     line-last _ _ _ _ c.forward-feed.ensures.value c.backward-end.ensures.value c.if-feed-f.false
-
-pub returns-else-feed-f-clause-line_within : goal.returns-else-feed-f-clause-line_within
-returns-else-feed-f-clause-line_within c =
-    record {
-      end_after = omega arith;
-      end_before = omega arith;
-      next_before = omega arith;
-      next_after = λ h. omega arith;
-    }

@@ -1,34 +1,45 @@
 -- `write_refusal` meets its contract: zeros, and the line's parts one after another over their front.
 use mathlib.Core.Path.{◌≡◌, ◌∙◌}
 use native.Mathlib.Omega.{arith}
-use lib.ListN.{drop, replicate}
+use lib.ListN.{replicate}
 use Rattle.heading.proofs.Writing.{Writing, writing-room, writing_more, writing-end}
 use Rattle.recode_text.specs.Text.{refusal_text}
 use Rattle.recode_text.proofs.RefusalLine.{refusal_parts, refusal-start, refusal-end}
+use Rattle.recode_text.proofs.write_refusal.Goals.{After-fill}
 use Rattle.recode_text.proofs.write_refusal.Goals as goal
 
-pub put_bytes-number_at-requires : goal.put_bytes-number_at-requires
-put_bytes-number_at-requires c =
-    writing-room (let h : (let s = c in Writing c.clear_bytes.new.bytes 0 (refusal_text s.args.n s.args.line) c.clear_bytes.new.bytes 0 (drop 0 (refusal_parts s.args.n s.args.line))) = let s = c in refusal-start s.args.n s.args.line (let h : c.clear_bytes.new.bytes ≡ replicate 64 0 = c.clear_bytes.ensures ∙ rw c.clear_bytes-arg-1.given.0.1 in h) in h)
+-- All is zeros at first.
+zeros : (c : After-fill) → c.fill.new.self ≡ replicate 64 0
+zeros c = c.fill.ensures.after (λ y h. h) ∙ rw c.told-out
+
+-- Then the parts of the line are left to write.
+begun : (c : After-fill)
+    → Writing c.fill.new.self 0 (refusal_text c.args.n c.args.line) c.fill.new.self 0 (refusal_parts c.args.n c.args.line)
+begun c = refusal-start c.args.n c.args.line (zeros c)
 
 pub put_decimal-word_at-requires : goal.put_decimal-word_at-requires
-put_decimal-word_at-requires c =
-    writing-room (let h : (let s = c in Writing c.clear_bytes.new.bytes 0 (refusal_text s.args.n s.args.line) c.put_bytes-number_at.new.out c.put_bytes-number_at.result (drop 1 (refusal_parts s.args.n s.args.line))) = writing_more (let h : (let s = c in Writing c.clear_bytes.new.bytes 0 (refusal_text s.args.n s.args.line) c.clear_bytes.new.bytes 0 (drop 0 (refusal_parts s.args.n s.args.line))) = let s = c in refusal-start s.args.n s.args.line (let h : c.clear_bytes.new.bytes ≡ replicate 64 0 = c.clear_bytes.ensures ∙ rw c.clear_bytes-arg-1.given.0.1 in h) in h) c.put_bytes-number_at.ensures in h)
+put_decimal-word_at-requires c = writing-room (writing_more (begun (goal.at.put_decimal-word_at-requires c).After-fill) c.put_bytes-number_at.ensures)
 
 pub put_bytes-line_at-requires : goal.put_bytes-line_at-requires
 put_bytes-line_at-requires c =
-    writing-room (let h : (let s = c in Writing c.clear_bytes.new.bytes 0 (refusal_text s.args.n s.args.line) c.put_decimal-word_at.new.out c.put_decimal-word_at.result (drop 2 (refusal_parts s.args.n s.args.line))) = writing_more (let h : (let s = c in Writing c.clear_bytes.new.bytes 0 (refusal_text s.args.n s.args.line) c.put_bytes-number_at.new.out c.put_bytes-number_at.result (drop 1 (refusal_parts s.args.n s.args.line))) = writing_more (let h : (let s = c in Writing c.clear_bytes.new.bytes 0 (refusal_text s.args.n s.args.line) c.clear_bytes.new.bytes 0 (drop 0 (refusal_parts s.args.n s.args.line))) = let s = c in refusal-start s.args.n s.args.line (let h : c.clear_bytes.new.bytes ≡ replicate 64 0 = c.clear_bytes.ensures ∙ rw c.clear_bytes-arg-1.given.0.1 in h) in h) c.put_bytes-number_at.ensures in h) c.put_decimal-word_at.ensures in h)
+    let w = writing_more (begun (goal.at.put_bytes-line_at-requires c).After-fill) c.put_bytes-number_at.ensures in
+    writing-room (writing_more w c.put_decimal-word_at.ensures)
 
 pub put_decimal-end-requires : goal.put_decimal-end-requires
 put_decimal-end-requires c =
-    writing-room (let h : (let s = c in Writing c.clear_bytes.new.bytes 0 (refusal_text s.args.n s.args.line) c.put_bytes-line_at.new.out c.put_bytes-line_at.result (drop 3 (refusal_parts s.args.n s.args.line))) = writing_more (let h : (let s = c in Writing c.clear_bytes.new.bytes 0 (refusal_text s.args.n s.args.line) c.put_decimal-word_at.new.out c.put_decimal-word_at.result (drop 2 (refusal_parts s.args.n s.args.line))) = writing_more (let h : (let s = c in Writing c.clear_bytes.new.bytes 0 (refusal_text s.args.n s.args.line) c.put_bytes-number_at.new.out c.put_bytes-number_at.result (drop 1 (refusal_parts s.args.n s.args.line))) = writing_more (let h : (let s = c in Writing c.clear_bytes.new.bytes 0 (refusal_text s.args.n s.args.line) c.clear_bytes.new.bytes 0 (drop 0 (refusal_parts s.args.n s.args.line))) = let s = c in refusal-start s.args.n s.args.line (let h : c.clear_bytes.new.bytes ≡ replicate 64 0 = c.clear_bytes.ensures ∙ rw c.clear_bytes-arg-1.given.0.1 in h) in h) c.put_bytes-number_at.ensures in h) c.put_decimal-word_at.ensures in h) c.put_bytes-line_at.ensures in h)
+    let w = writing_more (begun (goal.at.put_decimal-end-requires c).After-fill) c.put_bytes-number_at.ensures in
+    writing-room (writing_more (writing_more w c.put_decimal-word_at.ensures) c.put_bytes-line_at.ensures)
 
 pub put_byte-requires : goal.put_byte-requires
 put_byte-requires c =
-    omega (arith, writing-room (let h : (let s = c in Writing c.clear_bytes.new.bytes 0 (refusal_text s.args.n s.args.line) c.put_decimal-end.new.out c.put_decimal-end.result (drop 4 (refusal_parts s.args.n s.args.line))) = writing_more (let h : (let s = c in Writing c.clear_bytes.new.bytes 0 (refusal_text s.args.n s.args.line) c.put_bytes-line_at.new.out c.put_bytes-line_at.result (drop 3 (refusal_parts s.args.n s.args.line))) = writing_more (let h : (let s = c in Writing c.clear_bytes.new.bytes 0 (refusal_text s.args.n s.args.line) c.put_decimal-word_at.new.out c.put_decimal-word_at.result (drop 2 (refusal_parts s.args.n s.args.line))) = writing_more (let h : (let s = c in Writing c.clear_bytes.new.bytes 0 (refusal_text s.args.n s.args.line) c.put_bytes-number_at.new.out c.put_bytes-number_at.result (drop 1 (refusal_parts s.args.n s.args.line))) = writing_more (let h : (let s = c in Writing c.clear_bytes.new.bytes 0 (refusal_text s.args.n s.args.line) c.clear_bytes.new.bytes 0 (drop 0 (refusal_parts s.args.n s.args.line))) = let s = c in refusal-start s.args.n s.args.line (let h : c.clear_bytes.new.bytes ≡ replicate 64 0 = c.clear_bytes.ensures ∙ rw c.clear_bytes-arg-1.given.0.1 in h) in h) c.put_bytes-number_at.ensures in h) c.put_decimal-word_at.ensures in h) c.put_bytes-line_at.ensures in h) c.put_decimal-end.ensures in h))
+    let w = writing_more (begun (goal.at.put_byte-requires c).After-fill) c.put_bytes-number_at.ensures in
+    let v = writing_more w c.put_decimal-word_at.ensures in
+    omega (arith, writing-room (writing_more (writing_more v c.put_bytes-line_at.ensures) c.put_decimal-end.ensures))
 
 pub returns : goal.returns
 returns c =
-    let z = c in
-    let w = refusal-end z.args.n z.args.line (let h : z.clear_bytes.new.bytes ≡ replicate 64 0 = z.clear_bytes.ensures ∙ rw z.clear_bytes-arg-1.given.0.1 in h) (writing-end (writing_more (let h : (let s = c in Writing c.clear_bytes.new.bytes 0 (refusal_text s.args.n s.args.line) c.put_decimal-end.new.out c.put_decimal-end.result (drop 4 (refusal_parts s.args.n s.args.line))) = writing_more (let h : (let s = c in Writing c.clear_bytes.new.bytes 0 (refusal_text s.args.n s.args.line) c.put_bytes-line_at.new.out c.put_bytes-line_at.result (drop 3 (refusal_parts s.args.n s.args.line))) = writing_more (let h : (let s = c in Writing c.clear_bytes.new.bytes 0 (refusal_text s.args.n s.args.line) c.put_decimal-word_at.new.out c.put_decimal-word_at.result (drop 2 (refusal_parts s.args.n s.args.line))) = writing_more (let h : (let s = c in Writing c.clear_bytes.new.bytes 0 (refusal_text s.args.n s.args.line) c.put_bytes-number_at.new.out c.put_bytes-number_at.result (drop 1 (refusal_parts s.args.n s.args.line))) = writing_more (let h : (let s = c in Writing c.clear_bytes.new.bytes 0 (refusal_text s.args.n s.args.line) c.clear_bytes.new.bytes 0 (drop 0 (refusal_parts s.args.n s.args.line))) = let s = c in refusal-start s.args.n s.args.line (let h : c.clear_bytes.new.bytes ≡ replicate 64 0 = c.clear_bytes.ensures ∙ rw c.clear_bytes-arg-1.given.0.1 in h) in h) c.put_bytes-number_at.ensures in h) c.put_decimal-word_at.ensures in h) c.put_bytes-line_at.ensures in h) c.put_decimal-end.ensures in h) c.put_byte.ensures)) in
-    record { value = w.0; out_after = w.1 }
+    let p = (goal.at.returns c).After-fill in
+    let w = writing_more (writing_more (begun p) c.put_bytes-number_at.ensures) c.put_decimal-word_at.ensures in
+    let v = writing_more (writing_more w c.put_bytes-line_at.ensures) c.put_decimal-end.ensures in
+    let r = refusal-end c.args.n c.args.line (zeros p) (writing-end (writing_more v c.put_byte.ensures)) in
+    record { value = r.0; out_after = r.1 }

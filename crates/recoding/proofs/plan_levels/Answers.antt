@@ -1,49 +1,47 @@
 -- `plan_levels` meets its contract: the header is loaded, and its permids give the level list.
 use mathlib.Core.Path.{refl}
+use Rattle.std.proofs.lemmas.Result.{err_from_is_err_and}
 use Rattle.header.proofs.Lengths.{length-may, zeros-long}
 use Rattle.recoding.proofs.Planned.{permids-fit, permids_long, list-may, count_fits, plans, plans-none}
 use Rattle.recoding.proofs.plan_levels.Goals as goal
 
-pub load-read-requires-clause-may_read : goal.load-read-requires-clause-may_read
-load-read-requires-clause-may_read c =
+pub load-requires-clause-may_read : goal.load-requires-clause-may_read
+load-requires-clause-may_read c =
     length-may 0 c.args.f.now c.length_fault-found.ensures
 
-pub load-read-requires-clause-long_after : goal.load-read-requires-clause-long_after
-load-read-requires-clause-long_after c =
+pub load-requires-clause-long_after : goal.load-requires-clause-long_after
+load-requires-clause-long_after c =
     λ z. record {
       ids_long = zeros-long;
       permids_long = zeros-long;
       others_long = record { names_long = zeros-long; lens_long = zeros-long; names2_long = zeros-long; lens2_long = zeros-long };
     }
 
+pub returns-in_err-h : goal.returns-in_err-h
+returns-in_err-h c =
+    let e = err_from_is_err_and c.from_residual.result c.from_residual.ensures.1 in
+    let p = plans-none _ _ c.length_fault-found.ensures _ c.in_err-h.ensures.answer c.args.list.now in
+    rw (e.1, e.2) (record { value = p.0; list_after = p.1 })
+
 pub slice_bounds-permids-end : goal.slice_bounds-permids-end
 slice_bounds-permids-end c =
-    permids-fit _ _ c.length_fault-found.ensures _ c.load-read.ensures.answer _ c.in-Header.is _ refl _ c.load-read.ensures.permids_left
+    let e = c.in_ok-h.ensures in permids-fit _ _ c.length_fault-found.ensures _ e.answer _ refl _ e.permids_left
 
 pub slice_bounds-level_list-end : goal.slice_bounds-level_list-end
 slice_bounds-level_list-end c =
-    permids_long _ _ c.length_fault-found.ensures _ c.load-read.ensures.answer _
-    c.in-Header.is _ refl _ c.load-read.ensures.permids_left
+    let e = c.in_ok-h.ensures in permids_long _ _ c.length_fault-found.ensures _ e.answer _ refl _ e.permids_left
 
 pub level_list-n-requires : goal.level_list-n-requires
 level_list-n-requires c =
-    list-may _ _ c.length_fault-found.ensures _ c.load-read.ensures.answer _
-    c.in-Header.is _ refl _ c.load-read.ensures.permids_left
+    let e = c.in_ok-h.ensures in list-may _ _ c.length_fault-found.ensures _ e.answer _ refl _ e.permids_left
 
 pub overflow_cast-result : goal.overflow_cast-result
 overflow_cast-result c =
-    record {
-      fits = count_fits _ _ c.length_fault-found.ensures _ c.load-read.ensures.answer _ c.in-Header.is _ refl _ c.load-read.ensures.permids_left;
-    }
+    let e = c.in_ok-h.ensures in record { fits = count_fits _ _ c.length_fault-found.ensures _ e.answer _ refl _ e.permids_left }
 
-pub returns-in-Header : goal.returns-in-Header
-returns-in-Header c =
-    let p = plans _ _ c.length_fault-found.ensures _ c.load-read.ensures.answer _ c.in-Header.is _ refl
-    _ c.load-read.ensures.permids_left
-    _ _ c.args.list.now c.level_list-n.ensures.value c.level_list-n.ensures.list_after in
-    record { value = p.0; list_after = p.1 }
-
-pub returns-in-Refused : goal.returns-in-Refused
-returns-in-Refused c =
-    let p = plans-none _ _ c.length_fault-found.ensures _ c.load-read.ensures.answer _ _ c.in-Refused.is c.args.list.now in
+pub returns : goal.returns
+returns c =
+    let e = c.in_ok-h.ensures in
+    let n = c.level_list-n.ensures in
+    let p = plans _ _ c.length_fault-found.ensures _ e.answer _ refl _ e.permids_left _ _ c.args.list.now n.value n.list_after in
     record { value = p.0; list_after = p.1 }

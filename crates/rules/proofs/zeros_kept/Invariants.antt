@@ -1,13 +1,8 @@
--- `zeros_kept` meets its contract: slot 1 is zero, and the answer so far is that of the unused slots up to the one looked at.
-use Prim.Native.Nat.{◌-◌}
-use lib.ListN.{length}
+-- `zeros_kept` meets its contract: the answer so far is that of slot 1 and the unused slots up to the one looked at.
+use Rattle.store.specs.Held.{held}
 use Rattle.rules.proofs.Zeros.{Looked}
 use Rattle.rules.proofs.zeros_kept.Given as goal
 
 abbrev pub invariant-loop-used : goal.invariant-loop-used
 invariant-loop-used l =
-    Looked l.count l.level l.then l.els l.next l.zero l.used
-
-abbrev pub decreases-loop-used : goal.decreases-loop-used
-decreases-loop-used l =
-    length l.level - l.used
+    Looked (held l.store) l.zero l.used

@@ -2,29 +2,24 @@
 use native.Mathlib.Omega.{arith}
 use Rattle.edges.specs.Width.{edge_width}
 use mir.ValLaws.{to_z-of_z}
-use Rattle.store.specs.Store.{store}
+use Rattle.store.specs.Held.{held_mut}
 use Rattle.store.proofs.Chain.{bucket-under}
 use Rattle.slots.proofs.Placed.{slot-filled}
 use Rattle.slots.proofs.put_node.Goals as goal
 
-pub offset_bounds-heads-b : goal.offset_bounds-heads-b
-offset_bounds-heads-b c =
-    omega (arith, bucket-under _ _ _ _ c.bucket-b.ensures)
+pub offset_bounds-store-b : goal.offset_bounds-store-b
+offset_bounds-store-b c = omega (arith, bucket-under _ _ _ _ c.bucket-b.ensures)
 
-pub bounds-heads-b : goal.bounds-heads-b
-bounds-heads-b c =
-    omega (arith, bucket-under _ _ _ _ c.bucket-b.ensures, c.requires.sizes.heads_long)
+pub bounds-store-b : goal.bounds-store-b
+bounds-store-b c = omega (arith, bucket-under _ _ _ _ c.bucket-b.ensures, c.requires.sizes.heads_long)
 
-pub offset_bounds-heads-b-2 : goal.offset_bounds-heads-b-2
-offset_bounds-heads-b-2 c =
-    omega (arith, bucket-under _ _ _ _ c.bucket-b.ensures)
+pub offset_bounds-store-b-2 : goal.offset_bounds-store-b-2
+offset_bounds-store-b-2 c = omega (arith, bucket-under _ _ _ _ c.bucket-b.ensures)
 
-pub bounds-heads-b-2 : goal.bounds-heads-b-2
-bounds-heads-b-2 c =
-    omega (arith, bucket-under _ _ _ _ c.bucket-b.ensures, c.requires.sizes.heads_long)
+pub bounds-store-b-2 : goal.bounds-store-b-2
+bounds-store-b-2 c = omega (arith, bucket-under _ _ _ _ c.bucket-b.ensures, c.requires.sizes.heads_long)
 
-pub returns : goal.returns
-returns c =
-    let s = c in
-    slot-filled (store s.args.levels s.args.count.now s.args.level.now s.args.then.now s.args.els.now s.args.next.now s.args.heads.now) _ _ s.args.t _ s.args.e _ (to_z-of_z edge_width s.args.t s.ranges.t) (to_z-of_z edge_width s.args.e s.ranges.e)
-    c.bucket-b.ensures
+pub returns-clause-added : goal.returns-clause-added
+returns-clause-added c =
+    slot-filled (held_mut c.args.store.now) _ _ c.args.t _ c.args.e _ (to_z-of_z edge_width c.args.t c.ranges.t)
+    (to_z-of_z edge_width c.args.e c.ranges.e) c.bucket-b.ensures

@@ -1,17 +1,16 @@
--- `at_least` meets its contract. The invariant: the lengths before i are enough, so that the others decide. The measure is what is left of
--- the list.
+-- `at_least` meets its contract. The invariant: the lengths so far are enough, so that the others decide.
 use mathlib.Core.Path.{sym}
 use Rattle.header.proofs.Lengths.{lengths-end, lengths_short, lengths-more}
 use Rattle.stages.proofs.at_least.Goals as goal
 
-pub returns-then-lengths-i : goal.returns-then-lengths-i
-returns-then-lengths-i c =
-    sym (lengths_short _ _ _ c.loop-i.invariant c.loop-i-test.true c.if-lengths-i.true)
+pub returns-then-n-least : goal.returns-then-n-least
+returns-then-n-least c =
+    sym (lengths_short _ _ _ c.loop-n.invariant c.loop-n-test.true c.if-n-least.true)
 
-pub loop-i-preserved : goal.loop-i-preserved
-loop-i-preserved c =
-    lengths-more _ _ _ c.loop-i.invariant c.loop-i-test.true c.if-lengths-i.false
+pub loop-n-preserved : goal.loop-n-preserved
+loop-n-preserved c =
+    lengths-more _ _ _ c.loop-n.invariant c.loop-n-test.true c.if-n-least.false
 
 pub returns : goal.returns
 returns c =
-    sym (lengths-end _ _ _ c.loop-i.invariant c.loop-i-test.false)
+    sym (lengths-end _ _ _ c.loop-n.invariant c.loop-n-test.false)

@@ -8,7 +8,7 @@ returns-then-found-ne0 c =
 
 pub returns-then-len-gt-INPUT_LIMIT : goal.returns-then-len-gt-INPUT_LIMIT
 returns-then-len-gt-INPUT_LIMIT c =
-    length_over _ _ c.if-found-ne0.false c.if-len-gt-INPUT_LIMIT.true
+    rw c.number.ensures (length_over _ _ c.if-found-ne0.false c.if-len-gt-INPUT_LIMIT.true)
 
 pub returns : goal.returns
 returns c =

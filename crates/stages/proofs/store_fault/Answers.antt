@@ -30,7 +30,6 @@ shape_of-work c =
 pub returns : goal.returns
 returns c =
     record {
-      fault = breaks-some _ _ c.if-found-ne0.false c.keeps_rules.ensures.kept
-          c.if-keeps_rules.false;
-      finds = λ q. absurd (let z : ◌≡◌ {A = ℕ} 3 0 = q in omega arith);
+      fault = rw c.number.ensures (breaks-some _ _ c.if-found-ne0.false c.keeps_rules.ensures.kept c.if-keeps_rules.false);
+      finds = λ q. absurd (let z : ◌≡◌ {A = ℕ} 3 0 = rw c.number.ensures at q in omega arith);
     }

@@ -12,14 +12,14 @@ ask-says-requires c =
     let p = c in
     let s = p in
     let q = walk-back s.args.root s.requires.1 in
-    way-start (rw q s.requires.0) (rw q s.requires.1) (length s.args.marks.now) p.clear_marks.ensures
+    way-start (rw q s.requires.0) (rw q s.requires.1) (length s.args.marks.now) (p.fill.ensures.after (λ y h. h))
 
 pub remember-requires-clause-way_asks : goal.remember-requires-clause-way_asks
 remember-requires-clause-way_asks c =
     let p = c in
     let s = p in
     let q = walk-back s.args.root s.requires.1 in
-    way-start (rw q s.requires.0) (rw q s.requires.1) (length s.args.marks.now) p.clear_marks.ensures
+    way-start (rw q s.requires.0) (rw q s.requires.1) (length s.args.marks.now) (p.fill.ensures.after (λ y h. h))
 
 pub remember-requires-clause-says_value : goal.remember-requires-clause-says_value
 remember-requires-clause-says_value c =
@@ -52,17 +52,17 @@ pub overflow_sub-result : goal.overflow_sub-result
 overflow_sub-result c =
     omega (arith, c.loop-n-test.true)
 
-pub offset_bounds-level-n : goal.offset_bounds-level-n
-offset_bounds-level-n c =
+pub offset_bounds-store-n : goal.offset_bounds-store-n
+offset_bounds-store-n c =
     omega (arith, way-small c.loop-n.invariant)
 
-pub bounds-level-n : goal.bounds-level-n
-bounds-level-n c =
+pub bounds-store-n : goal.bounds-store-n
+bounds-store-n c =
     let l = c in way-holds l.loop-n.invariant l.loop-n-test.true
 
 pub shape_of-marks-then-turned-here : goal.shape_of-marks-then-turned-here
 shape_of-marks-then-turned-here c =
-    (let h : length c.loop-n.marks ≡ length c.args.marks.now = let q = c in c.loop-n.invariant.long ∙ q.remember.auto.marks ∙ q.clear_marks.auto.marks in h)
+    let q = c in c.loop-n.invariant.long ∙ q.remember.auto.marks ∙ q.fill.ensures.len
 
 pub returns-then-turned-here : goal.returns-then-turned-here
 returns-then-turned-here c =
@@ -109,7 +109,7 @@ loop-n-preserved c =
 -- node 1
 pub shape_of-marks : goal.shape_of-marks
 shape_of-marks c =
-    (let h : length c.loop-n.marks ≡ length c.args.marks.now = let q = c in c.loop-n.invariant.long ∙ q.remember.auto.marks ∙ q.clear_marks.auto.marks in h)
+    let q = c in c.loop-n.invariant.long ∙ q.remember.auto.marks ∙ q.fill.ensures.len
 
 pub returns : goal.returns
 returns c =

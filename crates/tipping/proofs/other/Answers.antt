@@ -6,12 +6,12 @@ use Rattle.tipping.proofs.other.Goals as goal
 
 pub overflow_cast-l : goal.overflow_cast-l
 overflow_cast-l c =
-    let s = c in omega (arith, (fits s.requires.1 s.requires.0).level_low)
+    omega (arith, (fits c.requires.1 c.requires.0).level_low)
 
 pub bounds-setting-l : goal.bounds-setting-l
 bounds-setting-l c =
-    let s = c in (fits s.requires.1 s.requires.0).level_low
+    omega (arith, (fits c.requires.1 c.requires.0).level_low, c.requires.1.setting_long)
 
 pub returns : goal.returns
 returns c =
-    let s = c in other-read s.requires.1 s.requires.0 c.choose.ensures
+    other-read c.requires.1 c.requires.0 c.choose.ensures

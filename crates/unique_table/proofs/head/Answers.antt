@@ -1,10 +1,8 @@
 -- `head` meets its contract: a mix of 30 bits times a width of at most 2 ^ 34 fits, and so do the numbers of two children.
-use mathlib.Core.Path.{◌≡◌, sym, ap₂, subst, ◌∙◌}
-use Prim.Native.Nat.{ℕ, ◌+◌, ◌^◌, ◌<◌}
-use Rattle.edges.specs.Width.{edge_width}
-use Rattle.edges.proofs.Signed.{abs-back}
+use mathlib.Core.Path.{sym, subst}
+use Prim.Native.Nat.{ℕ, ◌^◌, ◌<◌}
 use mir.ValLaws.{to_z-of_z}
-use Rattle.unique_table.specs.Index.{mix_of}
+use Rattle.edges.specs.Width.{edge_width}
 use Rattle.unique_table.proofs.Mixed.{head-narrow, head-wide, mix-below, part-fits}
 use Rattle.unique_table.proofs.head.Goals as goal
 
@@ -14,10 +12,11 @@ overflow_mul-result c =
 
 pub returns-then-width-le-NARROW : goal.returns-then-width-le-NARROW
 returns-then-width-le-NARROW c =
-    head-narrow _ _ _ _ _ (let h : c.mix-part.result ≡ mix_of c.args.l c.args.t c.args.e = let s = c in c.mix-part.ensures ∙ ap₂ (mix_of s.args.l) (to_z-of_z edge_width s.args.t s.ranges.t) (to_z-of_z edge_width s.args.e s.ranges.e) in h) c.if-width-le-NARROW.true
+    let m = rw (to_z-of_z edge_width c.args.t c.ranges.t, to_z-of_z edge_width c.args.e c.ranges.e) at c.mix-part.ensures in
+    head-narrow _ _ _ _ _ m c.if-width-le-NARROW.true
 
 pub returns : goal.returns
 returns c =
-    let s = c in
-    let a = c.children.ensures.0 ∙ ap₂ ◌+◌ (abs-back edge_width s.args.t s.ranges.t) (abs-back edge_width s.args.e s.ranges.e) in
-    head-wide _ _ _ _ _ _ (let h : c.mix-part.result ≡ mix_of c.args.l c.args.t c.args.e = let s = c in c.mix-part.ensures ∙ ap₂ (mix_of s.args.l) (to_z-of_z edge_width s.args.t s.ranges.t) (to_z-of_z edge_width s.args.e s.ranges.e) in h) a c.if-width-le-NARROW.false
+    let m = rw (to_z-of_z edge_width c.args.t c.ranges.t, to_z-of_z edge_width c.args.e c.ranges.e) at c.mix-part.ensures in
+    let n = rw (to_z-of_z edge_width c.args.t c.ranges.t, to_z-of_z edge_width c.args.e c.ranges.e) at c.children.ensures.0 in
+    head-wide _ _ _ _ _ _ m n c.if-width-le-NARROW.false

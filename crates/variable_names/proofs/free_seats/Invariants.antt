@@ -1,12 +1,7 @@
-use Prim.Native.Nat.{◌-◌}
 use lib.ListN.{length}
 use Rattle.variable_names.proofs.Free.{Freeing}
 use Rattle.variable_names.proofs.free_seats.Given as goal
 
 abbrev pub invariant-loop-p : goal.invariant-loop-p
 invariant-loop-p l =
-    Freeing (length l.seats) l.permids l.initial.dst l.dst l.n l.p
-
-abbrev pub decreases-loop-p : goal.decreases-loop-p
-decreases-loop-p l =
-    length l.seats - l.p
+    Freeing (length l.taken-items) l.permids l.initial.dst l.dst l.n l.p

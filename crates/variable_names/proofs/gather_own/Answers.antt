@@ -12,7 +12,7 @@ bounds-dst-i c =
 
 pub loop-i-preserved : goal.loop-i-preserved
 loop-i-preserved c =
-    rw c.put_u32.ensures (gathering-own c.loop-i.invariant c.loop-i-test.true c.requires c.entry_at.ensures)
+    gathering-own c.loop-i.invariant c.loop-i-test.true c.requires c.entry_at.ensures
 
 pub shape_of-dst : goal.shape_of-dst
 shape_of-dst c =

@@ -1,4 +1,3 @@
-use Prim.Native.Nat.{◌-◌}
 use lib.ListN.{take}
 use Rattle.variable_names.proofs.Gathered.{Gathering}
 use Rattle.variable_names.proofs.gather_own.Given as goal
@@ -6,7 +5,3 @@ use Rattle.variable_names.proofs.gather_own.Given as goal
 abbrev pub invariant-loop-i : goal.invariant-loop-i
 invariant-loop-i l =
     Gathering (take l.n l.initial.dst) l.from l.initial.dst l.dst l.i
-
-abbrev pub decreases-loop-i : goal.decreases-loop-i
-decreases-loop-i l =
-    l.n - l.i

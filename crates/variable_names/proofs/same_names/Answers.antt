@@ -1,5 +1,4 @@
 -- `same_names` meets its contract. The invariant: the first i names are alike, and the rest decides.
-use native.Mathlib.Omega.{arith}
 use Rattle.variable_names.proofs.Alike.{names-start, names_more, names-unlike, names-end}
 use Rattle.variable_names.proofs.same_names.Goals as goal
 
@@ -7,18 +6,6 @@ pub loop-i-init : goal.loop-i-init
 loop-i-init c =
     let r = c.requires in
     names-start r.index2_len r.lens_len r.lens2_len
-
-pub overflow_cast-a : goal.overflow_cast-a
-overflow_cast-a c =
-    omega (arith, c.shared_slice_known-in-loop-i-1.given c.loop-i.i)
-
-pub bounds-index2-i : goal.bounds-index2-i
-bounds-index2-i c =
-    omega (arith, c.loop-i.invariant.even)
-
-pub overflow_cast-b : goal.overflow_cast-b
-overflow_cast-b c =
-    omega (arith, c.shared_slice_known-in-loop-i-2-1.given c.loop-i.i)
 
 pub returns-then-not-same_name : goal.returns-then-not-same_name
 returns-then-not-same_name c =

@@ -8,13 +8,9 @@ use Rattle.variable_names.proofs.Gathered.{laying-length}
 use Rattle.variable_names.proofs.Free.{supporting-start, supporting-more, supporting-end}
 use Rattle.variable_names.proofs.supp_seats.Goals as goal
 
-pub seats-requires-clause-list_len_bound : goal.seats-requires-clause-list_len_bound
-seats-requires-clause-list_len_bound c =
-    c.requires.1
-
 pub seats-requires-clause-dst_value : goal.seats-requires-clause-dst_value
 seats-requires-clause-dst_value c =
-    zeros-counted (length c.args.seats.now) c.clear_numbers.ensures
+    zeros-counted (length c.args.seats.now) (c.fill.ensures.after (λ y h. h))
 
 pub loop-v-init : goal.loop-v-init
 loop-v-init c =
@@ -23,7 +19,7 @@ loop-v-init c =
 pub loop-v-preserved : goal.loop-v-preserved
 loop-v-preserved c =
     let e = c.seats.ensures c.loop-v.v (omega (arith, c.loop-v-test.true)) in
-    rw c.put_u32.ensures (supporting-more c.loop-v.invariant c.loop-v-test.true e)
+    rw c.put.ensures (supporting-more c.loop-v.invariant c.loop-v-test.true e)
 
 pub shape_of-dst : goal.shape_of-dst
 shape_of-dst c =
@@ -34,5 +30,5 @@ returns c =
     let s = c.args in
     record {
       list = supporting-end c.loop-v.invariant c.loop-v-test.false
-          ∙ ap (λ k. laid (supp_seats k s.ids.now) s.dst.now) (c.seats.auto.dst ∙ c.clear_numbers.auto.numbers);
+          ∙ ap (λ k. laid (supp_seats k s.ids.now) s.dst.now) (c.seats.auto.dst ∙ c.fill.ensures.len);
     }

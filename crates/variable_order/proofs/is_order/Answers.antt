@@ -1,5 +1,5 @@
 -- `is_order` meets its contract. The invariant: the first v entries are levels that differ, so that the others decide, and the table has
--- their variables. The measure is what is left of the levels.
+-- their variables.
 use Prim.Native.Nat.{◌≤◌}
 use native.Mathlib.Omega.{arith}
 use lib.ListN.{length}

@@ -1,21 +1,29 @@
-use Rattle.variable_names.specs.Names.{places}
-use Rattle.header_checks.proofs.Agreeing.{places-long, first-missing, second-missing, both-given}
+-- `agree` meets its contract: a list that isn't given says nothing.
+use mathlib.Core.Path.{sym}
+use borrow.Author.Tests.{eqb-true}
+use Rattle.header_checks.proofs.Agreeing.{places-long, not_empty, first-missing, second-missing, both-given}
+use Rattle.header_checks.proofs.names.agree.Goals.{then-is_empty-via-then-is_empty, then-is_empty-via-else-is_empty+then-is_empty-2}
 use Rattle.header_checks.proofs.names.agree.Goals as goal
 
-pub returns-then-starts-eq0 : goal.returns-then-starts-eq0
-returns-then-starts-eq0 c =
-    record {
-      answer = first-missing c.args.f.now (places c.args.starts.now c.args.lens.now) c.args.index.now (places c.args.starts2.now c.args.lens2.now) c.args.index2.now (places-long _ _ c.requires.lens_len) c.if-starts-eq0.true;
-    }
-
-pub returns-then-starts2-eq0 : goal.returns-then-starts2-eq0
-returns-then-starts2-eq0 c =
-    record {
-      answer = second-missing c.args.f.now (places c.args.starts.now c.args.lens.now) c.args.index.now (places c.args.starts2.now c.args.lens2.now) c.args.index2.now (places-long _ _ c.requires.lens_len) c.if-starts-eq0.false (places-long _ _ c.requires.lens2_len) c.if-starts2-eq0.true;
-    }
+pub returns-then-is_empty : goal.returns-then-is_empty
+returns-then-is_empty c =
+    let r = c.requires in
+    elim c.then-is_empty.branch [
+      | then-is_empty-via-then-is_empty w ↦ record {
+        answer = first-missing _ _ _ _ _
+            (places-long _ _ r.lens_len) (eqb-true _ _ (sym w.if-is_empty.ensures));
+      }
+      | then-is_empty-via-else-is_empty+then-is_empty-2 w ↦ record {
+        answer = second-missing _ _ _ _ _
+            (places-long _ _ r.lens_len) (not_empty _ w.if-is_empty.ensures) (places-long _ _ r.lens2_len) (eqb-true _ _ (sym w.if-is_empty-2.ensures));
+      }
+    ]
 
 pub returns : goal.returns
 returns c =
+    let r = c.requires in
     record {
-      answer = both-given c.args.f.now (places c.args.starts.now c.args.lens.now) c.args.index.now (places c.args.starts2.now c.args.lens2.now) c.args.index2.now (places-long _ _ c.requires.lens_len) c.if-starts-eq0.false (places-long _ _ c.requires.lens2_len) c.if-starts2-eq0.false c.same_names.ensures.answer;
+      answer = both-given _ _ _ _ _
+          (places-long _ _ r.lens_len) (not_empty _ c.if-is_empty.ensures) (places-long _ _ r.lens2_len) (not_empty _ c.if-is_empty-2.ensures)
+          c.same_names.ensures.answer;
     }

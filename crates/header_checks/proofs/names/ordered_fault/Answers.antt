@@ -1,11 +1,6 @@
-use native.Mathlib.Omega.{arith}
 use Rattle.header_keys.specs.declared.Key.TheVariants.{Orderedvarnames, Suppvarnames}
 use Rattle.header_checks.proofs.Agreeing.{names-room, starts_fit, lens-fit, starts_long, lens_long, names-held}
 use Rattle.header_checks.proofs.names.ordered_fault.Goals as goal
-
-pub names_over-n-requires-clause-table : goal.names_over-n-requires-clause-table
-names_over-n-requires-clause-table c =
-    (c.requires.table, omega arith)
 
 pub names_over-n-requires-clause-key_in_bounds : goal.names_over-n-requires-clause-key_in_bounds
 names_over-n-requires-clause-key_in_bounds c =
@@ -14,12 +9,6 @@ names_over-n-requires-clause-key_in_bounds c =
 pub names_over-n-requires-clause-key_in_bounds_2 : goal.names_over-n-requires-clause-key_in_bounds_2
 names_over-n-requires-clause-key_in_bounds_2 c =
     names-room _ _ _ c.args.lens.now c.requires.long_names.lens_long
-
-pub names_over-m-requires-clause-table : goal.names_over-m-requires-clause-table
-names_over-m-requires-clause-table c = (
-  c.requires.table,
-  omega arith,
-)
 
 pub names_over-m-requires-clause-key_in_bounds : goal.names_over-m-requires-clause-key_in_bounds
 names_over-m-requires-clause-key_in_bounds c =
@@ -60,10 +49,6 @@ slice_bounds-given_names_fault-end-7 c =
 pub slice_bounds-given_names_fault-end-8 : goal.slice_bounds-given_names_fault-end-8
 slice_bounds-given_names_fault-end-8 c =
     lens_long _ _ Suppvarnames _ _ c.names_over-m.ensures.answer c.names_over-m.ensures.names_front c.names_over-m.ensures.lens_front
-
-pub given_names_fault-requires-clause-table : goal.given_names_fault-requires-clause-table
-given_names_fault-requires-clause-table c =
-    c.requires.table
 
 pub given_names_fault-requires-clause-names_held : goal.given_names_fault-requires-clause-names_held
 given_names_fault-requires-clause-names_held c =

@@ -4,25 +4,15 @@ use Rattle.header_keys.specs.declared.Key.TheVariants.{Varnames, Orderedvarnames
 use Rattle.header_values.specs.Values.{spans}
 use Rattle.header_values.proofs.Counted.{names-most}
 use Rattle.header_checks.proofs.Agreeing.{names-room, starts_fit, lens-fit, starts_long, lens_long, names-held}
-use Rattle.header_checks.proofs.Agreeing.{varnames-found, varnames-missing, varnames-judged}
+use Rattle.header_checks.proofs.Agreeing.{both-like, one-unlike, varnames-missing, varnames-judged}
 use Rattle.header_checks.proofs.names.varnames_fault.Goals as goal
-
-pub returns-then-found-ne0 : goal.returns-then-found-ne0
-returns-then-found-ne0 c =
-    record {
-      answer = varnames-found c.args.found c.args.f.now (spans c.args.starts.now c.args.ends.now) c.args.ids.now
-          c.args.permids.now c.if-found-ne0.true;
-    }
 
 pub returns-then-count_names-eq0 : goal.returns-then-count_names-eq0
 returns-then-count_names-eq0 c =
     record {
-      answer = varnames-missing c.args.found c.args.f.now (spans c.args.starts.now c.args.ends.now) c.args.ids.now c.args.permids.now c.if-found-ne0.false c.count_names.ensures c.if-count_names-eq0.true;
+      answer = varnames-missing c.args.f.now (spans c.args.starts.now c.args.ends.now) c.args.ids.now c.args.permids.now c.count_names.ensures
+          c.if-count_names-eq0.true;
     }
-
-pub names_over-n-requires-clause-table : goal.names_over-n-requires-clause-table
-names_over-n-requires-clause-table c =
-    (c.requires.table, omega arith)
 
 pub names_over-n-requires-clause-key_in_bounds : goal.names_over-n-requires-clause-key_in_bounds
 names_over-n-requires-clause-key_in_bounds c =
@@ -31,12 +21,6 @@ names_over-n-requires-clause-key_in_bounds c =
 pub names_over-n-requires-clause-key_in_bounds_2 : goal.names_over-n-requires-clause-key_in_bounds_2
 names_over-n-requires-clause-key_in_bounds_2 c =
     names-room _ _ _ c.args.lens.now c.requires.long_names.lens_long
-
-pub names_over-m-requires-clause-table : goal.names_over-m-requires-clause-table
-names_over-m-requires-clause-table c = (
-  c.requires.table,
-  omega arith,
-)
 
 pub names_over-m-requires-clause-key_in_bounds : goal.names_over-m-requires-clause-key_in_bounds
 names_over-m-requires-clause-key_in_bounds c =
@@ -78,10 +62,6 @@ pub slice_bounds-agree-end-8 : goal.slice_bounds-agree-end-8
 slice_bounds-agree-end-8 c =
     lens_long _ _ Orderedvarnames _ _ c.names_over-m.ensures.answer c.names_over-m.ensures.names_front c.names_over-m.ensures.lens_front
 
-pub agree-first-requires-clause-index2_len : goal.agree-first-requires-clause-index2_len
-agree-first-requires-clause-index2_len c =
-    c.requires.permids_len
-
 pub agree-first-requires-clause-lens_len : goal.agree-first-requires-clause-lens_len
 agree-first-requires-clause-lens_len c =
     (names-held _ _ Varnames _
@@ -90,13 +70,6 @@ agree-first-requires-clause-lens_len c =
 pub agree-first-requires-clause-lens2_len : goal.agree-first-requires-clause-lens2_len
 agree-first-requires-clause-lens2_len c =
     (names-held _ _ Orderedvarnames _ _ c.names_over-m.ensures.answer c.names_over-m.ensures.names_front c.names_over-m.ensures.lens_front).even
-
-pub names_over-k-requires-clause-table : goal.names_over-k-requires-clause-table
-names_over-k-requires-clause-table c = (
-  c.requires.table,
-  omega
-      arith,
-)
 
 pub names_over-k-requires-clause-key_in_bounds : goal.names_over-k-requires-clause-key_in_bounds
 names_over-k-requires-clause-key_in_bounds c =
@@ -159,17 +132,22 @@ pub supp_agrees-second-requires-clause-lens2_len : goal.supp_agrees-second-requi
 supp_agrees-second-requires-clause-lens2_len c =
     (names-held _ _ Suppvarnames _ _ c.names_over-k.ensures.answer c.names_over-k.ensures.names_front c.names_over-k.ensures.lens_front).even
 
-pub shape_of-names : goal.shape_of-names
-shape_of-names c =
-    c.names_over-n.auto.names
-
-pub shape_of-lens : goal.shape_of-lens
-shape_of-lens c =
-    c.names_over-n.auto.lens
+pub returns-then-second : goal.returns-then-second
+returns-then-second c =
+    record {
+      answer = varnames-judged c.args.f.now (spans c.args.starts.now c.args.ends.now) c.args.ids.now c.args.permids.now
+          (names-held _ _ Varnames _ _ c.names_over-n.ensures.answer c.names_over-n.ensures.names_front c.names_over-n.ensures.lens_front)
+          (names-held _ _ Orderedvarnames _ _ c.names_over-m.ensures.answer c.names_over-m.ensures.names_front c.names_over-m.ensures.lens_front)
+          (names-held _ _ Suppvarnames _ _ c.names_over-k.ensures.answer c.names_over-k.ensures.names_front c.names_over-k.ensures.lens_front)
+          c.agree-first.ensures.answer c.supp_agrees-second.ensures.answer (both-like c.if-first.true c.if-second.true);
+    }
 
 pub returns : goal.returns
 returns c =
     record {
-      answer = varnames-judged c.args.found c.args.f.now (spans c.args.starts.now c.args.ends.now) c.args.ids.now c.args.permids.now c.if-found-ne0.false (names-held _ _ Varnames _ _ c.names_over-n.ensures.answer c.names_over-n.ensures.names_front c.names_over-n.ensures.lens_front) (names-held _ _ Orderedvarnames _ _ c.names_over-m.ensures.answer c.names_over-m.ensures.names_front c.names_over-m.ensures.lens_front) (names-held _ _
-          Suppvarnames _ _ c.names_over-k.ensures.answer c.names_over-k.ensures.names_front c.names_over-k.ensures.lens_front) c.agree-first.ensures.answer c.supp_agrees-second.ensures.answer c.unlike_fault.ensures;
+      answer = varnames-judged c.args.f.now (spans c.args.starts.now c.args.ends.now) c.args.ids.now c.args.permids.now
+          (names-held _ _ Varnames _ _ c.names_over-n.ensures.answer c.names_over-n.ensures.names_front c.names_over-n.ensures.lens_front)
+          (names-held _ _ Orderedvarnames _ _ c.names_over-m.ensures.answer c.names_over-m.ensures.names_front c.names_over-m.ensures.lens_front)
+          (names-held _ _ Suppvarnames _ _ c.names_over-k.ensures.answer c.names_over-k.ensures.names_front c.names_over-k.ensures.lens_front)
+          c.agree-first.ensures.answer c.supp_agrees-second.ensures.answer (one-unlike c.else-first.either);
     }

@@ -1,8 +1,0 @@
--- `put_u32` meets its contract: a store behind the list's end changes nothing.
-use mathlib.Core.Path.{sym}
-use lib.Seq.{set_out}
-use Rattle.read_lists.proofs.put_u32.Goals as goal
-
-pub returns-else-at-dst : goal.returns-else-at-dst
-returns-else-at-dst c =
-    sym (set_out _ _ _ c.if-at-dst.false)

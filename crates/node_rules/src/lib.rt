@@ -66,7 +66,8 @@ pub fn node_fits(store: &StoreRef, n: Index, l: u16, t: Edge, e: Edge) -> bool
 
 // Does every node fit?
 pub fn nodes_fit(store: &StoreRef) -> bool
-    requires { (store.now.count ≤ length store.now.level.now) × ((store.now.count ≤ length store.now.then.now) × (store.now.count ≤ length store.now.els.now)) }
+    requires { (store.now.count ≤ length store.now.level.now)
+        × ((store.now.count ≤ length store.now.then.now) × (store.now.count ≤ length store.now.els.now)) }
     ensures { Decides result (AllFit (held store.now)) }
 {
     for n in 2..=store.count {

@@ -26,7 +26,7 @@ abbrev pub back : ℤ → ℤ
 back e = to_z edge_width (of_z edge_width e)
 
 -- a test for a root
-tested : (σ : Store) (e : ℤ) → SFits edge_width e → {r : Bool} → r ≡ is_root σ (back e) → r ≡ is_root σ e
+pub tested : (σ : Store) (e : ℤ) → SFits edge_width e → {r : Bool} → r ≡ is_root σ (back e) → r ≡ is_root σ e
 tested σ e f q = q ∙ ap (is_root σ) (to_z-of_z edge_width e f)
 
 module _ (σ : Store) (a b : ℤ) (f : SFits edge_width a) (g : SFits edge_width b) {kept : Bool} (k : kept ≡ keeps limits σ) where

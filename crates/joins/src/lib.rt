@@ -75,7 +75,7 @@ fn join_by(
     join_or_back(store, work, &mut own, op, a, b)
 }
 
-// The root of an operation on two roots, with a cache of zeros.
+// The root of an operation on two roots, with a cache of zeros, which ends as zeros.
 fn join_roots(
     store: &mut StoreMut,
     work: &mut [Index],
@@ -86,10 +86,13 @@ fn join_roots(
 ) -> Result<Edge, Refusal>
     requires { cache.old ≡ replicate (length cache.old) (pos 0) }
     ensures joined { RootsPromise (held_mut store.old) (held_mut store.new) op a b result }
+    ensures cache_left { cache.new ≡ replicate (length cache.old) (pos 0) }
     ensures same { SameLists store.old store.new }
 {
     join_fault(&store.as_ref(), a, b, work)?;
-    join_by(store, work, cache, op, a, b).ok_or(Refusal::NoRoom)
+    let made = join_by(store, work, cache, op, a, b);
+    cache.fill(0);
+    made.ok_or(Refusal::NoRoom)
 }
 
 // The root of an operation on two roots. `cache` remembers results while they are joined, and `work` is for the check of the store and for
@@ -107,7 +110,6 @@ pub fn join(
 {
     cache.fill(0);
     let joined = join_roots(store, work, cache, op, a, b);
-    cache.fill(0);
     work.fill(0);
     joined
 }

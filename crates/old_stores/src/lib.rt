@@ -82,7 +82,10 @@ fn zeros_kept(old: &OldStoreRef) -> bool
     requires { Sizes old_limits (held_old old.now) }
     ensures { Decides result (Zeros (held_old old.now)) }
 {
-    let mut zero = slot_zero(old, 1);
+    if !slot_zero(old, 1) {
+        return false;
+    }
+    let mut zero = true;
     for i in usize::from(old.count)..old.level.len() {
         zero &= slot_zero(old, i + 1);
     }

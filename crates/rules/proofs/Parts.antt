@@ -13,12 +13,12 @@ use Rattle.node_rules.specs.Check.{AllFit}
 use Rattle.node_rules.proofs.Decided.{decides-as}
 
 module _ (σ : Store) where
-  nodes-alone : Nodes σ → AllAlone σ σ.count
+  pub nodes-alone : Nodes σ → AllAlone σ σ.count
   nodes-alone N n p h m g l a =
       let z : m ≡ n = N.alone m n g (omega arith) p h a in
       omega arith
 
-  parts-nodes : AllFit σ → AllAlone σ σ.count → Nodes σ
+  pub parts-nodes : AllFit σ → AllAlone σ σ.count → Nodes σ
   parts-nodes F A = record { fits = F; alone = λ m n a b c d x. alone m n a b c d x (dec_lt m n) (dec_lt n m) }
     where
       alone : (m n : ℕ) → 2 ≤ m → m ≤ σ.count → 2 ≤ n → n ≤ σ.count → AlikeNodes σ m n → Dec (m < n) → Dec (n < m) → m ≡ n

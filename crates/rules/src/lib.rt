@@ -73,7 +73,10 @@ pub fn zeros_kept(store: &StoreRef) -> bool
         × ((length store.now.els.now ≡ length store.now.level.now) × (length store.now.next.now ≡ length store.now.level.now)) }
     ensures { Decides result (Zeros (held store.now)) }
 {
-    let mut zero = slot_zero(store, 1);
+    if !slot_zero(store, 1) {
+        return false;
+    }
+    let mut zero = true;
     for used in store.count as usize..store.level.len() {
         zero &= slot_zero(store, used + 1);
     }

@@ -1,18 +1,10 @@
--- `bucket` meets its contract: products and adds that wrap are one sum that wraps.
-use Rattle.std.proofs.Common.{w32}
-use mir.ValLaws.{to_z-of_z}
-use Rattle.edges.proofs.Wrapping.{wrap-sum}
-use Rattle.edges.specs.Edge.{bucket_at}
+-- `bucket` meets its contract: eight adds that wrap are one sum that wraps.
+use Rattle.std.proofs.Common.{◌^◌, ◌+◌, ◌%◌, w32, refl, ap}
+use Rattle.edges.proofs.Wrapping.{wrap-sum, bucket-rest}
 use Rattle.edges.proofs.bucket.Goals as goal
 
 pub returns : goal.returns
-unfolding bucket_at
 returns c =
-    rw (
-      wrap-sum c.from.result c.pattern-thrice.result c.pattern-five_times.result,
-      c.pattern-thrice.ensures,
-      c.pattern-five_times.ensures,
-      c.from.ensures,
-      to_z-of_z w32 c.args.then c.ranges.then,
-      to_z-of_z w32 c.args.els c.ranges.els,
-    )
+    let t = c.pattern-t.result in
+    bucket-rest w32 c.args.level c.args.then c.args.els c.ranges.then c.ranges.els c.pattern-t.ensures c.pattern-e.ensures
+    (wrap-sum (2 ^ 32) c.args.level t c.pattern-e.result (ap (λ l. (l + t) % 2 ^ 32) c.from.ensures) refl refl refl refl refl refl refl)

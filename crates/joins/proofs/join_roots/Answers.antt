@@ -17,8 +17,8 @@ returns-in_err-join_fault-clause-joined c =
     at c.in_err-join_fault.ensures in
     rw (p.1, p.2) (roots-refused c.args.op (held_mut c.args.store.now) _ _ _ f.fault)
 
-pub join_by-requires-clause-settle_asks : goal.join_by-requires-clause-settle_asks
-join_by-requires-clause-settle_asks c =
+pub join_by-made-requires-clause-settle_asks : goal.join_by-made-requires-clause-settle_asks
+join_by-made-requires-clause-settle_asks c =
     let f = rw (c.as_ref.ensures, to_z-of_z edge_width c.args.a c.ranges.a, to_z-of_z edge_width c.args.b c.ranges.b)
     at c.in_ok-join_fault.ensures in
     rw (to_z-of_z edge_width c.args.a c.ranges.a, to_z-of_z edge_width c.args.b c.ranges.b) (record {
@@ -33,5 +33,5 @@ returns-clause-joined c =
     let f = rw (c.as_ref.ensures, to_z-of_z edge_width c.args.a c.ranges.a, to_z-of_z edge_width c.args.b c.ranges.b)
     at c.in_ok-join_fault.ensures in
     rw c.ok_or.ensures.value
-    (roots-joined c.args.op (held_mut c.args.store.now) _ _ f.fault _ c.join_by.result
-    (rw (to_z-of_z edge_width c.args.a c.ranges.a, to_z-of_z edge_width c.args.b c.ranges.b) at c.join_by.ensures.settled))
+    (roots-joined c.args.op (held_mut c.args.store.now) _ _ f.fault _ c.join_by-made.result
+    (rw (to_z-of_z edge_width c.args.a c.ranges.a, to_z-of_z edge_width c.args.b c.ranges.b) at c.join_by-made.ensures.settled))

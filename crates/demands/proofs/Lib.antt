@@ -4,6 +4,5 @@ pub mod ListExample
 pub mod LoadsBack
 pub mod Promised
 pub mod ReadBack
-pub mod Refusals
 pub mod Starred
 pub mod Turns

@@ -10,9 +10,6 @@ use lib.Dec.{eqb, leb}
 use lib.ListN.{length, get_or}
 use lib.IntN.{ℤ, nat_abs}
 use Rattle.codes.proofs.Bytes.{both}
-use Rattle.codes.proofs.Numbered.{number-not-none}
-use Rattle.codes.specs.Refusals.{number_of}
-use Rattle.codes.specs.declared.refusal.Refusal.{Refusal}
 use Rattle.codes.specs.Answer.{Read, value, refused}
 use Rattle.store.specs.Store.{Store}
 use Rattle.codes.specs.Limits.{Limits, limits}
@@ -23,6 +20,7 @@ use Rattle.store.specs.Growth.{is_root, EdgeOf}
 use Rattle.evaluation.specs.Evaluation.{only_bits, is_setting, evaluation_fault, evaluation}
 use Rattle.evaluation.specs.Evaluated.{Walks}
 use Rattle.store.proofs.Growth.{root-edge, edge-root}
+use Rattle.store.proofs.Lower.{nodes-lower}
 
 -- every byte is 00 or 01
 bits-each : (s : List ℕ) → only_bits s ≡ true → (k : ℕ) → k < length s → get_or s k 0 ≤ 1
@@ -57,12 +55,10 @@ rules-walk {σ} r n h l =
     let z = r.sizes in
     record {
       small = omega arith;
-      there = h;
       level_long = omega arith;
       then_long = omega arith;
       els_long = omega arith;
-      nodes = r.nodes;
-      setting_long = l;
+      nodes = rw l (nodes-lower σ n r.nodes h);
     }
 
 -- what the code's tests say
@@ -108,9 +104,9 @@ fault-walks σ e s q =
 
 -- and its answer, or the refusal, is the definition's.
 module _ (σ : Store) (e : ℤ) (s : List ℕ) where
-  pub fault-refuses : (r : Refusal) → number_of r ≡ evaluation_fault limits σ e s → refused (number_of r) ≡ evaluation limits σ e s
+  pub fault-refuses : {n : ℕ} → n ≡ evaluation_fault limits σ e s → (n ≡ 0 → ⊥) → refused n ≡ evaluation limits σ e s
   unfolding evaluation
-  fault-refuses r q = sym (rw q ((judged limits σ e s (value (answer σ (setting_of s) e))).1 (λ z. number-not-none r (q ∙ z))))
+  fault-refuses q h = sym (rw q ((judged limits σ e s (value (answer σ (setting_of s) e))).1 (λ z. h (q ∙ z))))
 
   pub fault-answers : 0 ≡ evaluation_fault limits σ e s → (a : Bool) → a ≡ answer σ (setting_of s) e → value a ≡ evaluation limits σ e s
   unfolding evaluation

@@ -10,9 +10,6 @@ use lib.IntN.{ℤ, nat_abs}
 use mir.Val.{SFits, to_z, of_z}
 use mir.ValLaws.{to_z-of_z}
 use borrow.Author.Tests.{ltb-false, le-ltb}
-use Rattle.codes.proofs.Numbered.{number-not-none}
-use Rattle.codes.specs.Refusals.{number_of}
-use Rattle.codes.specs.declared.refusal.Refusal.{Refusal}
 use Rattle.codes.specs.Answer.{value, refused}
 use Rattle.codes.specs.Limits.{limits}
 use Rattle.edges.specs.Width.{edge_width}
@@ -74,11 +71,11 @@ module _ (σ : Store) (e : ℤ) (wanted : Bool) (long : ℕ) where
   judged = judged-by (ltb long σ.levels) (keeps limits σ) (is_root σ e) (never e wanted) refl refl refl refl
 
   -- A refusal: the setting is zeros.
-  module _ (r : Refusal) (q : number_of r ≡ example_fault limits σ e wanted long) where
-    refused-so : example_of limits σ e wanted long ≡ refused (number_of r)
-    refused-so = rw q (judged.1 (λ z. number-not-none r (q ∙ z)))
+  module _ {n : ℕ} (q : n ≡ example_fault limits σ e wanted long) (h : n ≡ 0 → ⊥) where
+    refused-so : example_of limits σ e wanted long ≡ refused n
+    refused-so = rw q (judged.1 (λ z. h (q ∙ z)))
 
-    pub refused-answer : refused (number_of r) ≡ told (example_of limits σ e wanted long)
+    pub refused-answer : refused n ≡ told (example_of limits σ e wanted long)
     refused-answer = rw refused-so
 
     pub refused-left : {b : List ℕ} → b ≡ replicate long 0 → b ≡ left_setting long (example_of limits σ e wanted long)

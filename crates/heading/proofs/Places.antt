@@ -2,12 +2,12 @@
 use mathlib.Core.Path.{◌≡◌, sym, ap, ◌∙◌}
 use mathlib.Core.Bool.{Bool, true, false, ◌||◌}
 use mathlib.Core.List.{List, [], ◌∷◌}
-use Prim.Native.Nat.{ℕ, zero, suc, ◌+◌, ◌≤◌, ◌<◌}
+use Prim.Native.Nat.{ℕ, zero, suc, ◌+◌, ◌-◌, ◌≤◌, ◌<◌}
 use native.Mathlib.Nat.{suc_inj}
 use native.Mathlib.Numerals.{add-one}
 use native.Mathlib.Omega.{arith}
 use lib.Dec.{eqb}
-use lib.ListN.{length, get_or, drop, drop_of_length-le, get_or-map}
+use lib.ListN.{length, get_or, take, drop, drop_of_length-le, get_or-map}
 use lib.Seq.{drop-cons}
 use borrow.Author.Tests.{leb-true, eqb-true}
 use Rattle.codes.proofs.Bytes.{both}
@@ -17,6 +17,10 @@ use Rattle.variable_names.proofs.Placed.{get_d-places}
 use Rattle.export_names.specs.Names.{counted, inside, name_at, names_at, fit_name, fit_place, fit_places, name_list_fits}
 use Rattle.export_names.proofs.FitLists.{list_length}
 use Rattle.heading.specs.Tables.{Inside}
+
+-- a part of the lent bytes, by its start and its end, is the name at the place
+pub part-name : (bytes : List ℕ) (s n : ℕ) → take (s + n - s) (drop s bytes) ≡ name_at bytes (place s n)
+part-name bytes s n = let e : s + n - s ≡ n = omega arith in rw e
 
 -- the name of an entry is the one at its place
 pub name-at : (bytes starts lens : List ℕ) (i : ℕ) → length lens ≡ length starts

@@ -1,3 +1,4 @@
+pub mod Positions
 pub mod CodeByte
 pub mod Examples
 pub mod Refusals

@@ -1,3 +1,4 @@
+pub mod Tests
 pub mod ReadBack
 pub mod Reading
 pub mod Slotted

@@ -16,7 +16,8 @@ read_back e = to_z edge_width (of_z edge_width e)
 pub read_back-is : (e : ℤ) → IsEdge e → read_back e ≡ e
 read_back-is e h = edge-back edge_width e h
 
-one_of : (x : Bool) (a b : ℤ) → IsEdge a → IsEdge b → IsEdge (cond x a b)
+-- one of two edges
+pub one_of : (x : Bool) (a b : ℤ) → IsEdge a → IsEdge b → IsEdge (cond x a b)
 one_of true a b A B = A
 one_of false a b A B = B
 

@@ -72,7 +72,7 @@ module _ (σ : Store) (a b : ℤ) (f : SFits edge_width a) (g : SFits edge_width
   right-lies : depth σ (nat_abs b) ≡ y
   right-lies = depth-node σ (nat_abs b) Q.right_deep ∙ sym (Y ∙ ap (level_at σ) (abs-back edge_width b g))
 
-  top-is : top σ a b ≡ cond (ltb x y) x y
+  pub top-is : top σ a b ≡ cond (ltb x y) x y
   unfolding top
   top-is = rw (left-lies, right-lies)
 

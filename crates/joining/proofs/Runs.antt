@@ -93,7 +93,7 @@ module _ {width : ℕ} {o : Op} {σ : Store} {a b : ℤ} {τ : Store} {index : L
 
   -- a pair is joined next
   module _ (I : Runs width o σ a b τ index cache w n left right None) where
-    next-pair : Going limits o (join_of limits o σ a b) τ (first_pairs w n) left right
+    pub next-pair : Going limits o (join_of limits o σ a b) τ (first_pairs w n) left right
     next-pair = going_of limits o (join_of limits o σ a b) τ (first_pairs w n) left right None I.stands refl
 
     left-read : back left ≡ left
@@ -129,7 +129,7 @@ module _ {width : ℕ} {o : Op} {σ : Store} {a b : ℤ} {τ : Store} {index : L
 
     -- or it isn't: there is room for one pair more
     module _ (K : Known cache o (back left) (back right) None) where
-      next-apart : Apart left right
+      pub next-apart : Apart left right
       next-apart = (rw (left-read, right-read) at K).none τ I.rules next-pair.left next-pair.right refl
 
       pub next-asks : SplitAsks τ (back left) (back right)
@@ -175,7 +175,7 @@ module _ {width : ℕ} {o : Op} {σ : Store} {a b : ℤ} {τ : Store} {index : L
 
   -- a result comes back
   module _ {x : ℤ} (I : Runs width o σ a b τ index cache w n left right (Some x)) where
-    comes : Coming limits o (join_of limits o σ a b) τ (first_pairs w n) x
+    pub comes : Coming limits o (join_of limits o σ a b) τ (first_pairs w n) x
     comes = coming-of limits o (join_of limits o σ a b) τ (first_pairs w n) left right (Some x) x I.stands refl
 
     result-read : back x ≡ x

@@ -1,3 +1,4 @@
 pub mod LineBytes
+pub mod LineCodes
 pub mod LineLengths
 pub mod Parts

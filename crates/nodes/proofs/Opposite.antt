@@ -18,7 +18,7 @@ use Rattle.insertion.specs.Known.{KnownNodes}
 use Rattle.insertion.specs.Promises.{InsertPromise}
 use Rattle.nodes.specs.Promises.{MakePromise}
 use Rattle.store.specs.Store.{Store}
-use Rattle.codes.specs.Limits.{limits}
+use Rattle.codes.specs.Limits.{Limits, limits}
 use Rattle.store.specs.Rules.{Sizes}
 use Rattle.store.specs.Make.{room_for, find, added, placed_node, insert, negated, turned, make, made, full}
 use Rattle.slots.proofs.Placed.{found-edge, new-edge}
@@ -82,29 +82,41 @@ unfolding Turnable
 insert-edge σ l t e z a q = rw (← q) at (insert-turnable σ l t e z)
 
 -- the ways of `make`
-module _ (σ : Store) (l : ℕ) (t e : ℤ) (ix : List ℕ) (width : ℕ) (x : Bool) (p : x ≡ eq_z t e) where
-  pub made-child : x ≡ true → KnownNodes width σ ix → (a : ℤ) → a ≡ t → MakePromise σ σ ix width l t e (Some a)
+module _ (m : Limits) (σ : Store) (l : ℕ) (t e : ℤ) (x : Bool) (p : x ≡ eq_z t e) where
+  pub make-child : x ≡ true → (a : Read ℤ) → a ≡ value t → (a ≡ (make m σ l t e).answer) × (σ ≡ (make m σ l t e).after)
   unfolding make
-  made-child q K a h = record { answer = ap value h ∙ rw (← p, q); store = rw (← p, q); known = K }
+  make-child q a h = (h ∙ rw (← p, q), rw (← p, q))
 
   module _ (q : x ≡ false) (y : Bool) (g : y ≡ minus t) (a b : ℤ) (c : a ≡ cond y (neg_ℤ t) t) (d : b ≡ cond y (neg_ℤ e) e) where
-    make-by : (z : Bool) → z ≡ y → make limits σ l t e ≡ cond z (turned (insert limits σ l a b)) (insert limits σ l a b)
+    make-by : (z : Bool) → z ≡ y → make m σ l t e ≡ cond z (turned (insert m σ l a b)) (insert m σ l a b)
     unfolding make
     make-by true f = rw (← p, q, ← g, c, d, ← f)
     make-by false f = rw (← p, q, ← g, c, d, ← f)
 
+    pub make-answer : (r v : Read ℤ) → r ≡ (insert m σ l a b).answer → v ≡ cond y (negated r) r → v ≡ (make m σ l t e).answer
+    make-answer r v k h = go y refl h
+      where
+        go : (z : Bool) → z ≡ y → v ≡ cond z (negated r) r → v ≡ (make m σ l t e).answer
+        go true f h = h ∙ ap negated k ∙ ap (λ w. w.answer) (sym (make-by true f))
+        go false f h = h ∙ k ∙ ap (λ w. w.answer) (sym (make-by false f))
+
+    pub make-after : (insert m σ l a b).after ≡ (make m σ l t e).after
+    make-after = go y refl
+      where
+        go : (z : Bool) → z ≡ y → (insert m σ l a b).after ≡ (make m σ l t e).after
+        go true f = ap (λ w. w.after) (sym (make-by true f))
+        go false f = ap (λ w. w.after) (sym (make-by false f))
+
+-- the same, as the code promises it: of the limits of this width, and with an index
+module _ (σ : Store) (l : ℕ) (t e : ℤ) (ix : List ℕ) (width : ℕ) (x : Bool) (p : x ≡ eq_z t e) where
+  pub made-child : x ≡ true → KnownNodes width σ ix → (a : ℤ) → a ≡ t → MakePromise σ σ ix width l t e (Some a)
+  made-child q K a h = let r = make-child limits σ l t e x p q (value a) (ap value h) in record { answer = r.0; store = r.1; known = K }
+
+  module _ (q : x ≡ false) (y : Bool) (g : y ≡ minus t) (a b : ℤ) (c : a ≡ cond y (neg_ℤ t) t) (d : b ≡ cond y (neg_ℤ e) e) where
     pub made-turned : (τ : Store) → (r v : Option ℤ) → InsertPromise σ τ ix width l a b r
         → of_making v ≡ cond y (negated (of_making r)) (of_making r) → MakePromise σ τ ix width l t e v
-    made-turned τ r v i h = go y refl h
-      where
-        go : (z : Bool) → z ≡ y → of_making v ≡ cond z (negated (of_making r)) (of_making r) → MakePromise σ τ ix width l t e v
-        go true f k = record {
-          answer = k ∙ ap negated i.answer ∙ ap (λ w. w.answer) (sym (make-by true f));
-          store = i.store ∙ ap (λ w. w.after) (sym (make-by true f));
-          known = i.known;
-        }
-        go false f k = record {
-          answer = k ∙ i.answer ∙ ap (λ w. w.answer) (sym (make-by false f));
-          store = i.store ∙ ap (λ w. w.after) (sym (make-by false f));
-          known = i.known;
-        }
+    made-turned τ r v i h = record {
+      answer = make-answer limits σ l t e x p q y g a b c d (of_making r) (of_making v) i.answer h;
+      store = i.store ∙ make-after limits σ l t e x p q y g a b c d;
+      known = i.known;
+    }

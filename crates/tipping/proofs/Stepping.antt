@@ -12,15 +12,16 @@ use Rattle.edges.specs.Width.{edge_limit}
 use Rattle.edges.specs.Edge.{minus, turn}
 use Rattle.codes.specs.Answer.{value, refused}
 use Rattle.store.specs.Store.{Store, level_at}
-use Rattle.store.specs.Meaning.{setting_of, node, answer}
+use Rattle.store.specs.Meaning.{setting_of}
 use Rattle.evaluation.specs.Evaluated.{Walks}
 use Rattle.evaluation.proofs.Walk.{walks-lower, edge-under}
 use Rattle.tipping.specs.Tip.{tips, lowest_from}
 use Rattle.tipping.specs.Course.{mark_of, recall_of, open_at, Marked, WayAsks}
+use Rattle.tipping.proofs.Calling.{tips-slots}
 use Rattle.tipping.proofs.Flips.{xor-differ}
 use Rattle.tipping.proofs.Least.{is-lowest, none-lowest}
 use Rattle.tipping.proofs.Marks.{mark-says, recall-none, recalled, open-inside, marked-set, marked-zeros}
-use Rattle.tipping.proofs.Reading.{back, node_in, answer_in, taken_in, other_in, turn-here, taken-some, taken-less, taken_back, other-some, other-less, other-back, node-on, here_on}
+use Rattle.tipping.proofs.Reading.{back, up_to, node_in, answer_in, taken_in, other_in, node-up, answer-up, turn-here, taken-some, taken-less, taken_back, other-some, other-less, other-back, node-on, here_on}
 use Rattle.tipping.proofs.Ways.{Down, down-start, down-found, down-on, down-end}
 
 -- signs, as the code takes them along
@@ -61,8 +62,15 @@ pub record Descending (σ : Store) (setting : List ℕ) (start marks : List ℕ)
   pub long : length marks ≡ length start
   pub marked : Marked σ (setting_of setting) marks
   pub here_is : here ≡ node_in σ setting n
-  pub low : n ≤ nat_abs e
-  pub down : Down σ e (setting_of setting) n
+  pub down : Down (up_to σ setting (nat_abs e)) e (setting_of setting) n
+
+-- what tips is a matter of the lists alone
+tips-up : (σ : Store) (setting : List ℕ) (e : ℤ)
+    → lowest_from (tips σ e (setting_of setting)) 0 (length setting)
+    ≡ lowest_from (tips (up_to σ setting (nat_abs e)) e (setting_of setting)) 0 (length setting)
+tips-up σ setting e =
+    ap (λ f. lowest_from f 0 (length setting))
+    (tips-slots σ e (setting_of setting) ∙ sym (tips-slots (up_to σ setting (nat_abs e)) e (setting_of setting)))
 
 module _ {σ : Store} {setting : List ℕ} where
   pub asking-start : {marks : List ℕ} {e : ℤ} → WayAsks σ setting marks e → {k m : ℕ} {b : Bool} → k ≡ nat_abs e → b ≡ minus e
@@ -170,24 +178,24 @@ module _ {σ : Store} {setting : List ℕ} where
         long = l;
         marked = M;
         here_is = turn-here e (node_in σ setting (nat_abs e));
-        low = le_refl (nat_abs e);
-        down = down-start σ W.nodes e (setting_of setting) (record { some = p; there = W.there });
+        down = down-start (up_to σ setting (nat_abs e)) W.nodes e (setting_of setting) (record { some = p; there = le_refl (nat_abs e) });
       })
 
   module _ {start marks : List ℕ} {e : ℤ} {n : ℕ} {here : Bool} (D : Descending σ setting start marks e n here) where
     pub descending-walks : Walks σ setting n
-    descending-walks = walks-lower D.walks n D.low
+    descending-walks = walks-lower D.walks n D.down.there
 
     pub way-small : n < edge_limit
-    way-small = omega (arith, D.low, D.walks.small)
+    way-small = omega (arith, D.down.there, D.walks.small)
 
     pub way-holds : 2 ≤ n → n - 1 < length σ.level
-    way-holds h = omega (arith, D.low, D.walks.level_long)
+    way-holds h = omega (arith, D.down.there, D.walks.level_long)
 
-    pub end-tipped : n ≤ 1 → {r : ℤ} → e ≡ r → refused 42 ≡ lowest_from (tips σ r (setting_of setting)) 0 σ.levels
+    pub end-tipped : n ≤ 1 → {r : ℤ} → e ≡ r → refused 42 ≡ lowest_from (tips σ r (setting_of setting)) 0 (length setting)
     end-tipped h q =
-        sym (ap (λ x. lowest_from (tips σ x (setting_of setting)) 0 σ.levels) (sym q)
-        ∙ none-lowest (tips σ e (setting_of setting)) σ.levels (down-end σ D.walks.nodes e (setting_of setting) D.down h))
+        let τ = up_to σ setting (nat_abs e) in
+        sym (ap (λ x. lowest_from (tips σ x (setting_of setting)) 0 (length setting)) (sym q) ∙ tips-up σ setting e
+        ∙ none-lowest (tips τ e (setting_of setting)) (length setting) (down-end τ D.walks.nodes e (setting_of setting) D.down h))
 
     module _ (p : 2 ≤ n) where
       -- the other edge is asked
@@ -200,23 +208,23 @@ module _ {σ : Store} {setting : List ℕ} where
           })
 
       module _ {x : ℤ} {turned : Bool} (q : x ≡ other_in σ setting n) (a : turned ≡ answer_in σ setting (back x)) where
-        judged : not (beq turned here) ≡ xor (answer σ (setting_of setting)
-            (other_in σ setting n)) (node σ (setting_of setting) n)
+        judged : not (beq turned here) ≡ xor (answer_in (up_to σ setting (nat_abs e)) setting (other_in σ setting n))
+            (node_in (up_to σ setting (nat_abs e)) setting n)
         judged =
             xor-differ turned here
             ∙ ap₂ xor (a ∙ ap (λ y. answer_in σ setting (back y)) q
             ∙ ap (answer_in σ setting) (other-back descending-walks p)
-            )
-            D.here_is
+            ∙ sym (answer-up σ setting (nat_abs e) (other_in σ setting n)))
+            (D.here_is ∙ sym (node-up σ setting (nat_abs e) n))
 
         -- it answers otherwise than the node: the node's level tips
         pub found-tipped : not (beq turned here) ≡ true → {r : ℤ} → e ≡ r
-            → value (level_at σ n) ≡ lowest_from (tips σ r (setting_of setting)) 0 σ.levels
+            → value (level_at σ n) ≡ lowest_from (tips σ r (setting_of setting)) 0 (length setting)
         found-tipped h v =
-            sym (ap (λ y. lowest_from (tips σ y (setting_of setting)) 0 σ.levels) (sym v)
-            ∙ is-lowest (tips σ e (setting_of setting)) σ.levels (level_at
-            σ n)
-            (down-found σ D.walks.nodes e (setting_of setting) D.down p (sym judged ∙ h)))
+            let τ = up_to σ setting (nat_abs e) in
+            sym (ap (λ y. lowest_from (tips σ y (setting_of setting)) 0 (length setting)) (sym v) ∙ tips-up σ setting e
+            ∙ is-lowest (tips τ e (setting_of setting)) (length setting) (level_at σ n)
+            (down-found τ D.walks.nodes e (setting_of setting) D.down p (sym judged ∙ h)))
 
         -- it answers alike: on to the next node
         module _ (h : not (beq turned here) ≡ false) {t : ℤ} {b : Bool} {k : ℕ} (u : t ≡ taken_in σ setting n) (r : b ≡ minus
@@ -235,7 +243,6 @@ module _ {σ : Store} {setting : List ℕ} where
                 long = l ∙ D.long;
                 marked = M;
                 here_is = here_on descending-walks p u r w D.here_is;
-                low = omega (arith, descending-less, D.low);
-                down = rw next_way (down-on σ D.walks.nodes e (setting_of setting) D.down p
+                down = rw next_way (down-on (up_to σ setting (nat_abs e)) D.walks.nodes e (setting_of setting) D.down p
                     (sym judged ∙ h));
               }

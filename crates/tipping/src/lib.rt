@@ -1,7 +1,7 @@
 // The point that tips the round: the lowest level whose flip alone turns a root's answer over.
 #![tactic(auto)]
 
-ghost use Rattle.std.specs.Prelude.{◌≡◌, cond, ◌≤◌, nat_abs};
+ghost use Rattle.std.specs.Prelude.{◌≡◌, cond, ◌≤◌, length, nat_abs};
 ghost use Rattle.codes.specs.Lent.{borrowed, seen};
 ghost use Rattle.store.specs.Held.{held};
 ghost use Rattle.codes.specs.Refusals.{read_of};
@@ -128,7 +128,7 @@ fn remember(store: &StoreRef, setting: &[u8], marks: &mut [Index], e: Edge, says
 // otherwise than the node. What nodes answer is remembered as far as there are marks, so that no way is gone twice.
 fn lowest(store: &StoreRef, setting: &[u8], root: Edge, marks: &mut [Index]) -> Result<u16, Refusal>
     requires { (1 ≤ nat_abs root) × Walks (held store.now) setting.now (nat_abs root) }
-    ensures { read_of result ≡ lowest_from (tips (held store.now) root (setting_of setting.now)) 0 store.now.levels }
+    ensures { read_of result ≡ lowest_from (tips (held store.now) root (setting_of setting.now)) 0 (length setting.now) }
 {
     marks.fill(0);
     let says = ask(store, setting, marks, root);

@@ -3,6 +3,7 @@ use mathlib.Core.Path.{◌≡◌, ap, ◌∙◌}
 use lib.ListN.{length, replicate}
 use mir.ValLaws.{to_z-of_z}
 use Rattle.std.proofs.lemmas.Result.{err_from_is_err_and}
+use Rattle.codes.proofs.Numbered.{number-not-none}
 use Rattle.edges.specs.Width.{edge_width}
 use Rattle.evaluation.proofs.Evaluating.{fault-walks, fault-refuses, fault-answers}
 use Rattle.evaluation.proofs.evaluate.Goals as goal
@@ -16,7 +17,8 @@ pub returns-in_err-checked : goal.returns-in_err-checked
 returns-in_err-checked c =
     let p = err_from_is_err_and c.from_residual.result c.from_residual.ensures.1 in
     rw (p.1, p.2) (record {
-      answer = fault-refuses _ _ _ _ (rw (to_z-of_z edge_width c.args.root c.ranges.root) at c.in_err-checked.ensures);
+      answer = fault-refuses _ _ _ (rw (to_z-of_z edge_width c.args.root c.ranges.root) at c.in_err-checked.ensures)
+          (number-not-none _);
       work_left = cleared (goal.at.returns-in_err-checked c).After-fill;
     })
 

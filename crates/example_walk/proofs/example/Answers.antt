@@ -3,6 +3,7 @@
 use mathlib.Core.Path.{◌≡◌, ap, ◌∙◌}
 use lib.ListN.{length, replicate}
 use mir.ValLaws.{to_z-of_z}
+use Rattle.codes.proofs.Numbered.{number-not-none}
 use Rattle.edges.specs.Width.{edge_width}
 use Rattle.std.proofs.lemmas.Result.{err_from_is_err_and}
 use Rattle.example_walk.proofs.Calling.{refused-answer, refused-left, walk-asks, found-answer, found_left}
@@ -20,7 +21,11 @@ returns-in_err-checked c =
     let d = (goal.at.returns-in_err-checked c).After-fill-2 in
     let q = rw (to_z-of_z edge_width c.args.root c.ranges.root, c.fill.ensures.len) at c.in_err-checked.ensures in
     let p = err_from_is_err_and c.from_residual.result c.from_residual.ensures.1 in
-    rw (p.1, p.2) (record { answer = refused-answer _ _ _ _ _ q; setting_left = refused-left _ _ _ _ _ q (zeros d); work_left = cleared d })
+    rw (p.1, p.2) (record {
+      answer = refused-answer _ _ _ _ q (number-not-none _);
+      setting_left = refused-left _ _ _ _ q (number-not-none _) (zeros d);
+      work_left = cleared d;
+    })
 
 pub walk-requires : goal.walk-requires
 walk-requires c =

@@ -1,5 +1,5 @@
 -- `lowest` meets its contract: above the node at hand no level tips, so the first that does is the lowest, and at node 1 there is none.
-use mathlib.Core.Path.{◌≡◌, refl, ◌∙◌}
+use mathlib.Core.Path.{refl, ◌∙◌}
 use lib.ListN.{length}
 use native.Mathlib.Omega.{arith}
 use Rattle.evaluation.proofs.Walk.{walk-back}

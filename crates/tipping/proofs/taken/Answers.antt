@@ -10,7 +10,7 @@ overflow_cast-l c =
 
 pub bounds-setting-l : goal.bounds-setting-l
 bounds-setting-l c =
-    omega (arith, (fits c.requires.1 c.requires.0).level_low, c.requires.1.setting_long)
+    (fits c.requires.1 c.requires.0).level_low
 
 pub returns : goal.returns
 returns c =

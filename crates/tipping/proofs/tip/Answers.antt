@@ -3,8 +3,9 @@
 use mathlib.Core.Path.{sym, ap, ◌∙◌}
 use Prim.Native.Nat.{ℕ}
 use lib.ListN.{replicate}
-use lib.Seq.{length-take-le, length_front}
+use lib.Seq.{length_front}
 use mir.Facts.{to_z-of_z}
+use Rattle.codes.proofs.Numbered.{number-not-none}
 use Rattle.codes.specs.Refusals.{fault_of}
 use Rattle.store.specs.Held.{held}
 use Rattle.tipping.proofs.Calling.{tip-refused, tip-asks, tip-found}
@@ -13,8 +14,8 @@ use Rattle.tipping.proofs.tip.Goals as goal
 pub returns-in-Err : goal.returns-in-Err
 returns-in-Err c =
     record {
-      answer = tip-refused (held c.args.store.now) c.args.root c.args.setting.now _
-          (sym (ap fault_of c.in-Err.is) ∙ (rw (to_z-of_z c.ranges.root) at c.evaluation_fault.ensures));
+      answer = tip-refused (held c.args.store.now) c.args.root c.args.setting.now
+          (sym (ap fault_of c.in-Err.is) ∙ (rw (to_z-of_z c.ranges.root) at c.evaluation_fault.ensures)) (number-not-none c.in-Err.refusal);
       work_left = (c.fill.ensures.after (λ y h. h)) ∙ ap (λ n. replicate n 0) c.evaluation_fault.auto.work;
     }
 

@@ -3,7 +3,7 @@
 
 ghost use Rattle.std.specs.Prelude.{◌≡◌, ◌+◌, ◌<◌, ◌^◌, length};
 ghost use Rattle.codes.specs.Refusals.{fault_of as number_of_fault};
-ghost use Rattle.header_faults.specs.Judge.{version_fault, mode_fault, varinfo_fault, text_fault, single_fault, u32_list_fault, root_list_fault, name_list_fault, fault_of};
+ghost use Rattle.header_faults.specs.Judge.{version_fault, mode_fault, varinfo_fault, text_fault, single_fault, u32_list_fault, root_list_fault, name_list_fault, word_fault};
 
 use codes::limits::{ROOT_LIMIT, VAR_LIMIT};
 use codes::refusal::Refusal;
@@ -82,12 +82,15 @@ fn name_list_fault(value: &[u8], base: u32, max: usize) -> Result<(), Refusal>
     Ok(())
 }
 
-// Judges a key's value, whose first byte stands at `base`.
+// Judges a line's key, and its value, whose first byte stands at `base`.
 #[tactic(auto, unfolding(crate::specs::Judge::fault_of))]
-pub fn fault_of(key: Key, value: &[u8], base: u32) -> Result<(), Refusal>
+pub fn fault_of(key: Option<Key>, value: &[u8], base: u32) -> Result<(), Refusal>
     requires { base + length value.now < 2 ^ 32 }
-    ensures { number_of_fault result ≡ fault_of key base value.now }
+    ensures { number_of_fault result ≡ word_fault key base value.now }
 {
+    let Some(key) = key else {
+        return Err(Refusal::UnknownKey);
+    };
     match key {
         Key::Ver => version_fault(value),
         Key::Mode => mode_fault(value),

@@ -43,7 +43,7 @@ pub one_key : (j k : Key) → slot_of j ≡ slot_of k → j ≡ k
 one_key j k q = sym (key-at j) ∙ ap (λ (n : ℕ). get_or all n Ver) q ∙ key-at k
 
 -- and so is a line's, if its word is one
-one-word : (k : Key) (o : Option Key) → slot_of k ≡ entry_of o → o ≡ Some k
+pub one-word : (k : Key) (o : Option Key) → slot_of k ≡ entry_of o → o ≡ Some k
 one-word k (Some j) q = ap Some (sym (one_key k j q))
 one-word k None q = absurd (omega (arith, slot-known k))
 

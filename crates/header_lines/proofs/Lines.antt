@@ -7,7 +7,7 @@ use native.Mathlib.Omega.{arith}
 use lib.Dec.{eqb}
 use lib.ListN.{length}
 use borrow.Author.Tests.{lt-ltb, le-ltb, ne_eqb}
-use Rattle.std.specs.Prelude.{Option, Some, None}
+use Rattle.std.specs.Prelude.{Option, Some}
 use Rattle.codes.specs.Answer.{Read, value, refused}
 use Rattle.read_lines.specs.Line.{line_of, field_of}
 use Rattle.read_lines.specs.declared.Line.{Line}
@@ -17,10 +17,10 @@ use Rattle.header_keys.specs.declared.Key.TheVariants.{Nodes}
 use Rattle.header_lines.specs.declared.Step.{Step}
 use Rattle.header_lines.specs.declared.Step.TheVariants as step
 use Rattle.header_keys.specs.Keys.{key_of, slot_of, entry_of}
-use Rattle.header_faults.specs.Judge.{fault_of}
+use Rattle.header_faults.specs.Judge.{word_fault}
 use Rattle.header_lines.specs.Sweep.{part, span_start, span_end, Said, said_word, field_at, key_at, value_at, step_at}
 use Rattle.header_lines.specs.Sweep.{Lines, cut, nodes, line, lines_from, fault_in, SweepEnd, at_nodes, refused_at, end_from, end_of, all_of, sound}
-use Rattle.header_lines.proofs.LastLines.{one_key}
+use Rattle.header_lines.proofs.LastLines.{one-word}
 
 -- a line before others, of which the law holds
 sound-by : (f : List ℕ) (m : ℕ) (s : Said) (ls : Lines) (next n k : ℕ) → fault_in f s ≡ k
@@ -89,24 +89,18 @@ module _ (f : List ℕ) (at : ℕ) where
     end_read : {t : Bool} → eqb (entry_of o) 8 ≡ t → at_end ≡ t
     end_read e = rw (← key-read) e
 
-    -- the step at a word that is no key
-    pub read-unknown : o ≡ None → refused 11 ≡ step_at f at
-    read-unknown e =
-        let n : key_at f at ≡ None = sym key-read ∙ e in
-        sym (step-refused (end_read (rw e)) (rw n))
-
     -- the step at `.nodes`
     pub read-nodes : o ≡ Some Nodes → value (step.Nodes l.next) ≡ step_at f at
     read-nodes e = rw a (sym (step-nodes (end_read (rw e))))
 
-    -- at another key
-    module _ {key : Key} (e : o ≡ Some key) (h : key ≡ Nodes → ⊥) {n : ℕ} (g : n ≡ fault_of key d.start (part f d.start d.end)) where
+    -- at another word
+    module _ (h : o ≡ Some Nodes → ⊥) {n : ℕ} (g : n ≡ word_fault o d.start (part f d.start d.end)) where
       not-nodes : at_end ≡ false
-      not-nodes = end_read (rw e (ne_eqb (slot_of key) 8 (λ q. h (one_key key Nodes q))))
+      not-nodes = end_read (ne_eqb (entry_of o) 8 (λ q. h (one-word Nodes o (sym q))))
 
       -- the fault is that of the line here
       fault-read : n ≡ fault_in f here
-      fault-read = let m : key_at f at ≡ Some key = sym key-read ∙ e in g ∙ rw (m, field-read)
+      fault-read = g ∙ rw (key-read, field-read)
 
       -- the step at a fault
       pub read-refused : (n ≡ 0 → ⊥) → refused n ≡ step_at f at
@@ -115,10 +109,8 @@ module _ (f : List ℕ) (at : ℕ) where
           ap refused m ∙ sym (step-refused not-nodes (sym fault-read ∙ m))
 
       -- the step at no fault
-      pub read-value : n ≡ 0 → value (step.Value (slot_of key) d.start d.end l.next) ≡ step_at f at
-      read-value u =
-          let m : key_at f at ≡ Some key = sym key-read ∙ e in
-          rw (a, field-read) (sym (step_value not-nodes (sym fault-read ∙ u) ∙ rw m))
+      pub read-value : n ≡ 0 → value (step.Value (entry_of o) d.start d.end l.next) ≡ step_at f at
+      read-value u = rw (a, key-read, field-read) (sym (step_value not-nodes (sym fault-read ∙ u)))
 
   -- the lines from that of `.nodes` on
   lines-nodes : (n : ℕ) → at < length f → at_end ≡ true → lines_from (suc n) f at ≡ nodes (line_of f at).next

@@ -33,8 +33,8 @@ pub fn step_at(f: &[u8], at: usize) -> Result<Step, Refusal>
     let line = read_lines::line_at(f, at);
     let next = line.next;
     let field = read_lines::field_of(f, at, line.end);
-    let key = header_keys::key_of(&f[at..field.key]).ok_or(Refusal::UnknownKey)?;
-    if key == Key::Nodes {
+    let key = header_keys::key_of(&f[at..field.key]);
+    if key == Some(Key::Nodes) {
         return Ok(Step::Nodes(next));
     }
     let start = field.start as u32;

@@ -26,7 +26,7 @@ get_d-spans (s ∷ ss) (e ∷ es) (suc k) h = get_d-spans ss es k (omega arith)
 
 module _ {f starts ends : List ℕ} (t : Table f starts ends) where
   -- the last value of a key stands where its entry says
-  span-at : (i : ℕ) (k : Key) → i ≡ slot_of k → span (get_or starts i 0) (get_or ends i 0) ≡ span_in (spans starts ends) k
+  pub span-at : (i : ℕ) (k : Key) → i ≡ slot_of k → span (get_or starts i 0) (get_or ends i 0) ≡ span_in (spans starts ends) k
   span-at i k e = rw e (sym (get_d-spans starts ends (slot_of k) (t.starts_long ∙ sym t.ends_long)))
 
   -- its bytes, and its start

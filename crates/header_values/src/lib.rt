@@ -22,7 +22,7 @@ fn value_in<'a>(f: &'a [u8], starts: &[u32], ends: &[u32], key: Key) -> (&'a [u8
     ensures start { result.1 ≡ (span_in (spans starts.now ends.now) key).start }
     ensures narrow { result.1 + length result.0.now < 2 ^ 32 }
 {
-    let slot = header_keys::slot_of(key);
+    let slot = header_keys::slot_of(Some(key));
     let start = starts[slot];
     (&f[start as usize..ends[slot] as usize], start)
 }

@@ -2,12 +2,14 @@
 use mathlib.Core.Path.{◌≡◌, refl, ap}
 use mathlib.Core.List.{List, [], ◌∷◌}
 use mathlib.Core.Bool.{Bool, true, false, ◌&&◌}
-use Prim.Native.Nat.{ℕ, suc}
+use Prim.Native.Nat.{ℕ, suc, ◌+◌, ◌≤◌, ◌<◌}
+use native.Mathlib.Numerals.{add-one}
 use native.Mathlib.Omega.{arith}
-use lib.ListN.{length}
+use lib.ListN.{length, get_or, drop, drop_of_length-le}
+use lib.Seq.{drop-cons}
 use lib.Dec.{eqb}
 use lib.Pointwise.{pointwise}
-use borrow.Author.Tests.{eqb-true, eq-eqb}
+use borrow.Author.Tests.{eqb-true, eq-eqb, ne_eqb}
 use Rattle.read_text.specs.Alike.{alike}
 
 -- the library's comparison of two lists of bytes
@@ -30,6 +32,22 @@ alike-lengths [] [] h = absurd (h refl)
 alike-lengths [] (y ∷ ys) h = refl
 alike-lengths (x ∷ xs) [] h = refl
 alike-lengths (x ∷ xs) (y ∷ ys) h = rw (alike-lengths xs ys (λ e. h (ap suc e))) (and-false (eqb x y))
+
+module _ (a b : List ℕ) (i : ℕ) where
+  -- where the bytes at i are one, the rest decides
+  pub alike-more : i < length a → i < length b → get_or a i 0 ≡ get_or b i 0 → alike (drop i a) (drop i b) ≡ alike (drop (i + 1) a) (drop (i + 1) b)
+  unfolding alike
+  alike-more h k e = rw (add-one, drop-cons a i 0, drop-cons b i 0, eq-eqb _ _ e)
+
+  -- where they are two, the texts are unlike
+  pub alike-not : i < length a → i < length b → (get_or a i 0 ≡ get_or b i 0 → ⊥) → alike (drop i a) (drop i b) ≡ false
+  unfolding alike
+  alike-not h k e = rw (drop-cons a i 0, drop-cons b i 0, ne_eqb _ _ e)
+
+  -- where both end, they are the same
+  pub alike_end : length a ≤ i → length b ≤ i → alike (drop i a) (drop i b) ≡ true
+  unfolding alike
+  alike_end h k = rw (drop_of_length-le a h, drop_of_length-le b k)
 
 -- texts that are the same are one,
 pub alike_is : (a b : List ℕ) → alike a b ≡ true → a ≡ b

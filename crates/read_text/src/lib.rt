@@ -29,8 +29,11 @@ pub enum Utf8 {
 fn utf8_lead(b: u8) -> Option<Utf8>
     ensures { of_utf8_next result ≡ utf8_next Utf8.Whole b }
 {
+    // Before the match, which the compiler makes a table of: most bytes are characters of their own and shall not go through it.
+    if b < 0x80 {
+        return Some(Utf8::Whole);
+    }
     match b {
-        0x00..=0x7f => Some(Utf8::Whole),
         0xc2..=0xdf => Some(Utf8::Tail(0, 0x80, 0xbf)),
         0xe0 => Some(Utf8::Tail(1, 0xa0, 0xbf)),
         0xed => Some(Utf8::Tail(1, 0x80, 0x9f)),
@@ -126,9 +129,18 @@ pub fn parse_str_list(
     Ok(n)
 }
 
-// Whether two texts are the same.
+// Whether two texts are the same. Byte by byte, and not by `==`: one of them is a constant wherever this is called, and the compiler then
+// makes a few tests of the loop; of `==` it makes a call.
 pub fn same(a: &[u8], b: &[u8]) -> bool
     ensures { result ≡ alike a.now b.now }
 {
-    a == b
+    if a.len() != b.len() {
+        return false;
+    }
+    for i in 0..b.len() {
+        if a[i] != b[i] {
+            return false;
+        }
+    }
+    true
 }

@@ -1,7 +1,7 @@
 -- The turn by its steps: what is found before a node is looked at, what the copy adds to it, and that what is left in the end is what the definition says.
 use mathlib.Core.Path.{◌≡◌, refl, sym, ap, ◌∙◌}
 use mathlib.Core.Bool.{Bool, true, false, cond}
-use mathlib.Core.List.{List}
+use mathlib.Core.List.{List, [], ◌∷◌}
 use Prim.Native.Nat.{ℕ, zero, suc}
 use native.Mathlib.Omega.{arith}
 use borrow.Author.Tests.{ne_eqb}
@@ -23,12 +23,19 @@ use Rattle.widening.specs.Course.{copy_fault, kept_unless}
 use Rattle.widened.proofs.Old.{old-wider}
 use Rattle.widened.proofs.Widened.{widened-rules, widened-back}
 use Rattle.widened.proofs.Refusals.{takes-true}
-use Rattle.widening.proofs.Turning.{laid-whole}
 
 module _ (l : NewLengths) (σ : Store) where
   fault-none : takes l σ.count ≡ true → keeps old_limits σ ≡ true → widen_fault l σ ≡ 0
   unfolding widen_fault first_fault
   fault-none q k = rw (q, k)
+
+-- the whole of a list, copied into one of its length
+pub laid-whole : (xs : List ℕ) (n : ℕ) → length xs ≡ n → laid (take n xs) (replicate n 0) ≡ xs
+unfolding laid
+laid-whole [] zero h = refl
+laid-whole [] (suc n) h = absurd (omega arith)
+laid-whole (x ∷ xs) zero h = absurd (omega arith)
+laid-whole (x ∷ xs) (suc n) h = ap (λ l. x ∷ l) (laid-whole xs n (omega arith))
 
 -- zeros over a copy
 cleared : {A : Type 0} (d : A) (es : List A) (n : ℕ) → replicate (length (laid es (replicate n d))) d ≡ replicate n d

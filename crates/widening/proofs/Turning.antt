@@ -1,37 +1,25 @@
--- The course of a turn: what is found before a node is looked at, and that the copy, where it is judged, is the store turned.
+-- The course of a turn, as the code goes about it: what refuses it, and what is left then and else, by the steps.
 use mathlib.Core.Path.{◌≡◌, refl, sym, ap, ◌∙◌}
-use mathlib.Core.Bool.{Bool, true, false, true≢false}
-use mathlib.Core.List.{List, [], ◌∷◌}
+use mathlib.Core.Bool.{cond, true, false, true≢false}
+use mathlib.Core.List.{[]}
 use Prim.Native.Nat.{ℕ, zero, suc, ◌≤◌}
 use native.Mathlib.Omega.{arith}
-use lib.ListN.{length, take, replicate, length-replicate}
+use borrow.Author.Tests.{ne_eqb}
+use lib.Dec.{eqb}
+use lib.ListN.{replicate, length-replicate}
+use lib.IntN.{pos}
 use Rattle.codes.proofs.Lent.{length-laid}
 use Rattle.codes.specs.Answer.{refused}
 use Rattle.std.specs.Prelude.{Result, Ok, Err, OnOk, is_err}
-use Rattle.codes.specs.Faults.{first_fault, unless}
 use Rattle.codes.specs.Lent.{laid}
-use Rattle.codes.specs.Limits.{limits}
 use Rattle.codes.specs.Refusals.{number_of, read_of, fault_of}
 use Rattle.codes.specs.declared.refusal.Refusal.{Refusal}
 use Rattle.codes.proofs.Numbered.{number-positive}
 use Rattle.store.specs.Store.{Store, store}
-use Rattle.store.specs.Rules.{Sizes, Zeros}
-use Rattle.store.specs.Keeps.{keeps, keeps-true, keeps-false, is-keeps}
-use Rattle.widened.specs.OldLimits.{old_limits}
-use Rattle.widened.specs.Widen.{NewLengths, lengths_of, takes, widen_fault, widened, zeroed, answer_by, left_by, widen_of}
+use Rattle.widened.specs.Widen.{NewLengths, lengths_of, widen_fault, widened, zeroed, answer_by, left_by, widen_of}
 use Rattle.old_stores.specs.Promises.{Judged, CopyPromise}
-use Rattle.old_stores.proofs.Judging.{fault-broken}
-use Rattle.widened.proofs.Old.{old-wider}
-use Rattle.widened.proofs.Widened.{widened-rules, widened-back}
-use Rattle.widened.proofs.Refusals.{takes-true}
-
--- the whole of a list, copied into one of its length
-pub laid-whole : (xs : List ℕ) (n : ℕ) → length xs ≡ n → laid (take n xs) (replicate n 0) ≡ xs
-unfolding laid
-laid-whole [] zero h = refl
-laid-whole [] (suc n) h = absurd (omega arith)
-laid-whole (x ∷ xs) zero h = absurd (omega arith)
-laid-whole (x ∷ xs) (suc n) h = ap (λ l. x ∷ l) (laid-whole xs n (omega arith))
+use Rattle.widening.specs.Course.{copy_fault, kept_unless}
+use Rattle.widening.proofs.Steps.{steps-fault, steps-left}
 
 -- the lengths stay
 pub copied-lengths : (n k : ℕ) (σ τ υ : Store) → CopyPromise n k σ τ υ → lengths_of υ ≡ lengths_of τ
@@ -60,25 +48,36 @@ widen-levels l σ = go (widen_fault l σ)
     go zero = refl
     go (suc n) = refl
 
--- what holds holds where nothing refuses
-pub whatever : {T E P : Type 0} (r : Result T E) → P → OnOk r P
-whatever (Ok x) p = p
-whatever (Err e) p = tt
+-- where something was found, the other of two,
+otherwise : {A : Type 0} (f : ℕ) (x y : A) → y ≡ cond (eqb (suc f) 0) x y
+otherwise f x y = rw (ne_eqb (suc f) 0 (λ q. omega arith))
+
+-- and zeros in place of a list
+kept-none : {A : Type 0} (f : ℕ) (d : A) (n : ℕ) → replicate n d ≡ kept_unless (suc f) d (laid [] (replicate n d))
+unfolding laid
+kept-none f d n = rw (length-replicate n d) (otherwise f (replicate n d) (replicate n d))
 
 -- σ is the old store, τ the new one as it was lent
 module _ (σ τ : Store) where
   abbrev l : NewLengths
   l = lengths_of τ
 
-  zeroed-by : (n : ℕ) → 1 ≤ n → zeroed l σ.levels ≡ left_by n l σ
-  zeroed-by zero h = absurd (omega arith)
-  zeroed-by (suc n) h = refl
+  -- Whatever refuses the turn, what is left is what would be had it been found before anything was copied.
+  as-found : (f : ℕ) → suc f ≡ widen_fault l σ → Judged l σ (suc f)
+  as-found f q = record { none = λ z. absurd (omega (arith, z)); found = λ h. sym q }
+
+  zeroed-by : (n : ℕ) → 1 ≤ n → n ≡ widen_fault l σ → zeroed l σ.levels ≡ widen_of l σ
+  unfolding zeroed
+  zeroed-by zero h q = absurd (omega arith)
+  zeroed-by (suc f) h q =
+      steps-left l σ (suc f) (as-found f q) {n = 0} {k = 0} {c = 0} {f = suc f} {g = 0} (otherwise f _ _) (otherwise f _ _) (otherwise f _ _)
+      refl refl refl refl refl (otherwise f _ _) (kept-none f 0 l.level) (kept-none f (pos 0) l.then) (kept-none f (pos 0) l.els)
+      (kept-none f 0 l.next) (kept-none f 0 l.heads) (otherwise f _ _)
 
   -- what is left where the turn is refused, and where it isn't
   pub refused-left : (r : Result Unit Refusal) → is_err r ≡ true → fault_of r ≡ widen_fault l σ → zeroed l σ.levels ≡ widen_of l σ
-  unfolding widen_of
   refused-left (Ok u) h q = absurd (true≢false (sym h))
-  refused-left (Err e) h q = rw (← q) (zeroed-by (number_of e) (number-positive e))
+  refused-left (Err e) h q = zeroed-by (number_of e) (number-positive e) q
 
   pub turned-left : (r : Result Unit Refusal) (υ : Store) → is_err r ≡ false → fault_of r ≡ widen_fault l σ → OnOk r (υ ≡ widened l.level σ)
       → υ ≡ widen_of l σ
@@ -86,49 +85,21 @@ module _ (σ τ : Store) where
   turned-left (Ok u) υ h q e = rw (← q) e
   turned-left (Err e) υ h q f = absurd (true≢false h)
 
-  module _ (J : Judged l σ 0) where
-    found : (takes l σ.count ≡ true) × (Sizes old_limits σ × Zeros σ)
-    found = J.none refl
+  whole-left : 0 ≡ widen_fault l σ → widen_of l σ ≡ widened l.level σ
+  unfolding widen_of
+  whole-left q = ap (λ n. left_by n l σ) (sym q)
 
-    -- so many nodes are copied, and counted
-    module _ (n k : ℕ) (N : n ≡ σ.count) (K : k ≡ σ.count) (υ : Store) (P : CopyPromise n 256 σ τ υ) where
-      abbrev copy : Store
-      copy = store σ.levels k υ.level υ.then υ.els υ.next υ.heads
+  -- Nothing was found before. So many nodes are copied, and counted; r is what the check of the copy says.
+  module _ (J : Judged l σ 0) (n k : ℕ) (N : n ≡ σ.count) (K : k ≡ σ.count) (υ : Store) (P : CopyPromise n 256 σ τ υ) (r : Result Unit Refusal)
+      (F : fault_of r ≡ copy_fault 0 (store σ.levels k υ.level υ.then υ.els υ.next υ.heads)) where
+    -- it is what the turn says,
+    pub copy-fault : fault_of r ≡ widen_fault l σ
+    copy-fault =
+        steps-fault l σ 0 J N refl K P.level_left P.then_left P.els_left P.next_left P.heads_left F refl refl refl refl refl refl
 
-      -- the copy is the store turned,
-      pub copy-widened : copy ≡ widened l.level σ
-      unfolding widened
-      copy-widened =
-          let T = takes-true l σ.count found.0 in
-          rw (
-            P.level_left,
-            P.then_left,
-            P.els_left,
-            P.next_left,
-            P.heads_left,
-            N,
-            K,
-            T.then_long,
-            T.els_long,
-            T.next_long,
-            T.heads_long,
-            laid-whole σ.heads 256 found.1.0.heads_long,
-          )
-
-      -- which keeps the rules exactly where the old store keeps the old ones
-      copy-judged : keeps limits copy ≡ keeps old_limits σ
-      copy-judged =
-          let T = takes-true l σ.count found.0 in
-          ap (keeps limits) copy-widened
-          ∙ sym (is-keeps limits (widened l.level σ) (keeps old_limits σ) (record {
-            yes = λ q. widened-rules l.level σ (keeps-true old_limits σ q) T.slots old-wider;
-            no = λ q R. keeps-false old_limits σ q (widened-back l.level σ found.1.0 T.slots found.1.1.unused R);
-          }))
-
-      fault-by : (b : Bool) → keeps old_limits σ ≡ b → unless b 3 ≡ widen_fault l σ
-      unfolding widen_fault first_fault
-      fault-by true q = rw (found.0, q)
-      fault-by false q = sym (fault-broken l σ found.0 q)
-
-      pub copy-refused : unless (keeps limits copy) 3 ≡ widen_fault l σ
-      copy-refused = ap (λ b. unless b 3) copy-judged ∙ fault-by (keeps old_limits σ) refl
+    -- and where it refuses nothing, the copy is what the turn leaves
+    pub copy-left : {u : Unit} (g : ℕ) → g ≡ σ.count → r ≡ Ok u → store σ.levels g υ.level υ.then υ.els υ.next υ.heads ≡ widened l.level σ
+    copy-left g G e =
+        let z : 0 ≡ fault_of r = sym (ap fault_of e) in
+        steps-left l σ 0 J {f = 0} N refl K P.level_left P.then_left P.els_left P.next_left P.heads_left (z ∙ F) refl refl refl refl refl G
+        ∙ whole-left (z ∙ copy-fault)

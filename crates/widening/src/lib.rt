@@ -3,14 +3,12 @@
 #![tactic(auto)]
 
 ghost use Rattle.std.specs.Prelude.{◌≡◌, OnOk, length};
-ghost use Rattle.codes.specs.Faults.{unless};
 ghost use Rattle.codes.specs.Lent.{borrowed};
-ghost use Rattle.codes.specs.Limits.{limits};
 ghost use Rattle.codes.specs.Refusals.{fault_of};
 ghost use Rattle.store.specs.Held.{held, held_mut, SameLists};
-ghost use Rattle.store.specs.Keeps.{keeps};
 ghost use Rattle.old_stores.specs.Promises.{held_old};
 ghost use Rattle.widened.specs.Widen.{lengths_of, widen_fault, widened, zeroed};
+ghost use Rattle.widening.specs.Course.{copy_fault};
 ghost use Rattle.widening.specs.Promises.{WidenPromise};
 
 use codes::refusal::Refusal;
@@ -19,9 +17,9 @@ use node_rules::BUCKETS;
 use old_stores::OldStoreRef;
 use store::{StoreMut, StoreRef};
 
-// The copy judged: 3 where it breaks the rules.
+// The copy judged, where nothing was found before: 3 where it breaks the rules.
 fn copy_fault(copy: &StoreRef, work: &mut [Index]) -> Result<(), Refusal>
-    ensures { fault_of result ≡ unless (keeps limits (held copy.now)) 3 }
+    ensures { fault_of result ≡ copy_fault 0 (held copy.now) }
 {
     if rules::keeps_rules(copy, copy.count, work) {
         Ok(())
@@ -41,9 +39,11 @@ fn turn(old: &OldStoreRef, new: &mut StoreMut, work: &mut [Index]) -> Result<(),
     old_stores::parts_fault(old, &lent)?;
     old_stores::copy_store(usize::from(old.count), BUCKETS, old, new);
     new.levels = old.levels;
+    let mut copy = new.as_ref();
+    copy.count = Index::from(old.count);
+    copy_fault(&copy, work)?;
     new.count = Index::from(old.count);
-    let copy = new.as_ref();
-    copy_fault(&copy, work)
+    Ok(())
 }
 
 // Zeros in the new store, but for its level count.

@@ -1,13 +1,11 @@
 -- Stores one after another.
 use mathlib.Core.Path.{◌≡◌, refl, sym, ap, ◌∙◌}
-use mathlib.Core.List.{List, [], ◌∷◌, ◌++◌, append_assoc}
-use Prim.Native.Nat.{ℕ, suc, ◌+◌, ◌-◌, ◌≤◌}
+use mathlib.Core.List.{List, [], ◌∷◌, ◌++◌}
+use Prim.Native.Nat.{ℕ, suc, ◌+◌, ◌≤◌, ◌<◌}
 use native.Mathlib.Omega.{arith}
-use borrow.Rule.Slice.PartMut.{put_mid}
-use lib.ListN.{length, set, take, length-append}
-use lib.Seq.{sets}
-use Rattle.std.proofs.lemmas.List.Edits.{sets-eq, paste_all}
-use Rattle.std.proofs.lemmas.Slice.{put_mid-paste}
+use native.Mathlib.Numerals.{add-one}
+use lib.ListN.{length, get_or, drop, set, length-append, length-set, drop_of_length-le}
+use lib.Seq.{sets, drop-cons}
 use Rattle.codes.specs.Lent.{laid}
 use Rattle.writers.specs.Written.{Wrote}
 
@@ -48,10 +46,24 @@ wrote_then l at u v p q = record {
 pub wrote-cons : (l : List ℕ) (at a : ℕ) (w : List ℕ) {k : List ℕ} {r : ℕ} → Wrote (set l at a) (at + 1) w r k → Wrote l at (a ∷ w) r k
 wrote-cons l at a w q = wrote_then l at (a ∷ []) w (wrote-byte l at a) q
 
--- Bytes are written by laying them over a part of the list.
-pub wrote-over : (l : List ℕ) (at : ℕ) (w : List ℕ) {v : List ℕ} → at + length w ≤ length l → v ≡ w
-    → Wrote l at w (at + length w) (put_mid at (at + length w - at) l v)
-wrote-over l at w {v} h e = record {
-  next = refl;
-  bytes = put_mid-paste at _ l v w (length w) e (omega arith) refl ∙ paste_all l at w (length w) refl ∙ sym (sets-eq w l at h ∙ append_assoc (take at l) w _);
-}
+-- While a list is stored element by element: what is left to store gives all that is to be stored.
+pub record Storing (old : List ℕ) (at : ℕ) (w out : List ℕ) (i : ℕ) : Type 0 where
+  pub within : i ≤ length w
+  pub long : length out ≡ length old
+  pub left : sets old at w ≡ sets out (at + i) (drop i w)
+
+pub storing-start : (old : List ℕ) (at : ℕ) (w : List ℕ) → Storing old at w old 0
+storing-start old at w = record { within = omega arith; long = refl; left = ap (λ (n : ℕ). sets old n w) (omega arith) }
+
+module _ {old : List ℕ} {at : ℕ} {w out : List ℕ} {i : ℕ} (s : Storing old at w out i) where
+  pub storing-more : i < length w → Storing old at w (set out (at + i) (get_or w i 0)) (i + 1)
+  storing-more h =
+      let next : at + (i + 1) ≡ suc (at + i) = omega arith in
+      record {
+        within = omega arith;
+        long = length-set out (at + i) (get_or w i 0) ∙ s.long;
+        left = s.left ∙ rw (drop-cons w i 0, next, add-one);
+      }
+
+  pub storing-end : length w ≤ i → out ≡ sets old at w
+  storing-end h = sym (s.left ∙ rw (drop_of_length-le w h))

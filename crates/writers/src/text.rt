@@ -15,14 +15,15 @@ pub fn put_byte(out: &mut [u8], at: usize, b: u8) -> usize
     at + 1
 }
 
-// Writes bytes as they are.
+// Writes bytes as they are, one after another: a copy of all at once would be a call of the C library.
 pub fn put_bytes(out: &mut [u8], at: usize, bytes: &[u8]) -> usize
     requires { FitsOut out.old at bytes.now }
     ensures { Written (borrowed out) at bytes.now result }
 {
-    let end = at + bytes.len();
-    out[at..end].copy_from_slice(bytes);
-    end
+    for (i, b) in bytes.iter().enumerate() {
+        out[at + i] = *b;
+    }
+    at + bytes.len()
 }
 
 // The digit of a number below ten.

@@ -1,9 +1,11 @@
 -- The first word of a line, by the searches that find it.
 use mathlib.Core.Path.{◌≡◌, subst, ◌∙◌}
+use mathlib.Core.Bool.{false}
 use mathlib.Core.List.{List, [], ◌∷◌}
 use Prim.Native.Nat.{ℕ, ◌+◌, ◌-◌, ◌≤◌, ◌<◌}
 use native.Mathlib.Omega.{arith}
-use lib.ListN.{length, take, drop}
+use lib.ListN.{length, get_or, take, drop}
+use Rattle.codes.specs.Bytes.{is_blank}
 use Rattle.read_lines.specs.declared.Class.TheVariants.{Blank, NonBlank}
 use Rattle.read_lines.specs.Words.{Word, word, words}
 use Rattle.read_lines.specs.Line.{is_of, seek}
@@ -11,9 +13,16 @@ use Rattle.codes.specs.Answer.{fails}
 use Rattle.read_numbers.specs.Number.{single, ends_at, first}
 use Rattle.read_lines.specs.Each.{Each, each}
 use Rattle.read_lines.proofs.Spaced.{words-inside}
-use Rattle.read_lines.proofs.Searches.{split, seek-end, found}
+use Rattle.read_lines.proofs.Searches.{split, seek-past, seek-end, seek-low, found}
 use Rattle.read_lines.proofs.Found.{from, from_end, part_length, words-start, words-skip, words-next, at-text}
 use mathlib.Core.Logic.{⊎_elim}
+
+-- A search for a blank from a byte that is none ends behind it.
+pub end_after : (s : List ℕ) (at end : ℕ) → at < length s → is_blank (get_or s at 0) ≡ false → end ≡ seek (is_of Blank) s at (length s - at) → at < end
+unfolding is_of
+end_after s at end h e k =
+    let l = seek-low (is_of Blank) s (length s - (at + 1)) (at + 1) in
+    let m = k ∙ seek-past (is_of Blank) s at (length s) h e in omega arith
 
 -- The first number of a line is its first word's, and none where there is no word.
 module _ (lim : ℕ) (s : List ℕ) (at end : ℕ) (a : at ≡ seek (is_of NonBlank) s 0 (length s - 0)) (e : end ≡ seek (is_of Blank) s at (length s - at)) where

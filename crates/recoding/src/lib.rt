@@ -42,7 +42,7 @@ fn plan_levels(f: &[u8], list: &mut [u16]) -> Result<(u16, usize), Fault>
     let mut rootnames = [0u32; limits::ROOT_LIMIT];
     let mut rootlens = [0u32; limits::ROOT_LIMIT];
     let found = stages::length_fault(0, f.len());
-    let h = DumpHeader::load(
+    let h = match DumpHeader::load(
         f,
         found,
         &mut ids,
@@ -54,7 +54,10 @@ fn plan_levels(f: &[u8], list: &mut [u16]) -> Result<(u16, usize), Fault>
         &mut roots,
         &mut rootnames,
         &mut rootlens,
-    )?;
+    ) {
+        Ok(h) => h,
+        Err(fault) => return Err(fault),
+    };
     let n = recode_levels::level_list(&permids[..h.nsuppvars as usize], h.nvars, list);
     Ok((h.nvars as u16, n))
 }

@@ -6,7 +6,7 @@ ghost use Rattle.std.specs.Prelude.{◌+◌, ◌≤◌, ◌≡◌, length, take,
 ghost use Rattle.std.specs.Io.KnownBytes.{Consumes};
 ghost use Rattle.replay.specs.Numbers.{two_at, four_at, eight_at};
 ghost use Rattle.replay.specs.Counting.{one_more, no_cases, tallied, said};
-ghost use Rattle.replay.specs.Reading.{IsPrefixLen};
+ghost use Rattle.replay.specs.Reading.{IsPrefixLen, ConsumesPart};
 
 use std::env::FillError;
 use std::io::Read;
@@ -105,6 +105,7 @@ pub fn fetch<R: Read>(file: &mut R, buf: &mut [u8], n: usize) -> usize
 pub fn head<const N: usize, R: Read>(file: &mut R) -> Result<[u8; N], End>
     ensures bytes { IfOk result (λ h. Consumes (R.remaining file.old) (R.remaining file.new) h) }
     ensures no_more { result ≡ Err End.NoMore → Consumes (R.remaining file.old) (R.remaining file.new) [] }
+    ensures cut { result ≡ Err End.Cut → ConsumesPart N (R.remaining file.old) (R.remaining file.new) }
 {
     let mut head = [0; N];
     match read_full(file, &mut head) {

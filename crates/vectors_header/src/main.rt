@@ -9,5 +9,5 @@ mod case;
 mod lists;
 
 fn main(rt: HostRuntime) {
-    replay::run(&rt, || (), |file, _| case::one(file));
+    replay::run(&rt, || ([0; case::ROOM], [0; case::ROOM]), case::one);
 }

@@ -7,7 +7,7 @@ use replay::End;
 use std::fs::File;
 
 // The length of the longest answer.
-const ANSWER: usize = 70000;
+pub const ANSWER: usize = 70000;
 
 // The number of 32 bits at a position of a case's head.
 fn field(head: &[u8; 21], at: usize) -> usize
@@ -62,12 +62,11 @@ fn left<'a>(head: &[u8; 21], input: &[u8], stored: &'a [u8]) -> Option<&'a [u8]>
     }
 }
 
-// The next case of a file.
-pub fn one(file: &mut File) -> Result<bool, End> {
+// The next case of a file. The rooms, for its input and for its answer, are kept from one case to the next: zeros for each would cost more than the
+// case itself.
+pub fn one(file: &mut File, rooms: &mut ([u8; 65536], [u8; ANSWER])) -> Result<bool, End> {
     let head = replay::head(file)?;
-    let mut input = replay::large_buffer();
-    let mut stored = [0; ANSWER];
-    let input = replay::part(file, &mut input, field(&head, 13))?;
-    let stored = replay::part(file, &mut stored, field(&head, 17))?;
+    let input = replay::part(file, &mut rooms.0, field(&head, 13))?;
+    let stored = replay::part(file, &mut rooms.1, field(&head, 17))?;
     Ok(left(&head, input, stored).is_some_and(|left| left.is_empty()))
 }

@@ -12,5 +12,9 @@ mod numbers;
 mod texts;
 
 fn main(rt: HostRuntime) {
-    replay::run(&rt, || (), |file, _| case::one(file));
+    replay::run(
+        &rt,
+        || (replay::large_buffer(), [0; case::ANSWER]),
+        case::one,
+    );
 }

@@ -42,19 +42,19 @@ names-preserved c =
     let k =
     checked-more
     c.names.invariant.0
-    c.names-test.true
+    (omega arith)
     (reading-end c.loop-k.invariant.0 c.loop-k-test.false ∙ ap utf8_end c.in_default-state.is) in
     (k, c.loop-k.invariant.1 ∙ c.names.invariant.1)
 
 pub returns-after-names : goal.returns-after-names
 returns-after-names c =
-    c.names.invariant.1 ∙ checked-end c.names.invariant.0 c.names-test.false
+    c.names.invariant.1 ∙ checked-end c.names.invariant.0 (omega arith)
 
 pub returns-then-not-place_fits : goal.returns-then-not-place_fits
 returns-then-not-place_fits c =
     checked-outside
     c.names.invariant.0
-    c.names-test.true
+    (omega arith)
     (sym c.if-not-place_fits.true ∙ c.place_fits.ensures)
 
 pub returns-in_default : goal.returns-in_default
@@ -62,12 +62,12 @@ returns-in_default c =
     let e = sym c.name_next.ensures ∙ ap of_utf8_next c.in_default.is in
     checked-unfit
     c.names.invariant.0
-    c.names-test.true
+    (omega arith)
     (reading-stops c.loop-k.invariant.0 c.loop-k-test.true e)
 
 pub returns-in-Tail : goal.returns-in-Tail
 returns-in-Tail c =
     checked-unfit
     c.names.invariant.0
-    c.names-test.true
+    (omega arith)
     (reading-end c.loop-k.invariant.0 c.loop-k-test.false ∙ ap utf8_end c.in-Tail.is)

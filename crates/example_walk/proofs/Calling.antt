@@ -83,7 +83,7 @@ module _ (σ : Store) (e : ℤ) (wanted : Bool) (long : ℕ) where
 
   -- Nothing refuses it: the walk is given what it asks,
   module _ (q : 0 ≡ example_fault limits σ e wanted long) where
-    clear : Clear σ e wanted long
+    pub clear : Clear σ e wanted long
     clear = judged.0 (sym q)
 
     module _ {b : List ℕ} (z : b ≡ replicate long 0) where

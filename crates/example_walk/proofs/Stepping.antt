@@ -1,5 +1,5 @@
 -- One turn of the walk's loop, as the code reads the lists: an edge x as `to_z edge_width (of_z edge_width x)`.
-use Prim.Native.Nat.{ℕ, ◌≤◌, ◌<◌}
+use Prim.Native.Nat.{ℕ, zero, suc, ◌≤◌, ◌<◌}
 use mathlib.Core.Path.{◌≡◌, refl, sym, ap, fun_ext, ◌∙◌}
 use mathlib.Core.Bool.{Bool, true, false, not, xor, beq}
 use mathlib.Core.List.{List, []}
@@ -14,6 +14,8 @@ use Rattle.edges.proofs.Signed.{edge-back}
 use Rattle.codes.specs.Answer.{value}
 use Rattle.store.specs.Store.{Store, store, level_at, then_at, else_at}
 use Rattle.store.specs.Settings.{chosen}
+use Rattle.store.specs.Rules.{depth}
+use Rattle.store.specs.Meaning.{Setting, node, answer}
 use Rattle.evaluation.specs.SettingBytes.{bytes_of}
 use Rattle.evaluation.specs.Evaluated.{Walks}
 use Rattle.evaluation.proofs.Walk.{slots-answer, walks-lower, fits}
@@ -105,3 +107,38 @@ module _ {σ : Store} {e : ℤ} {wanted : Bool} {start : List ℕ} where
     stepping-end h =
         let one : n ≡ 1 = omega (arith, S.walking.taking.some) in
         first-up σ start e wanted (walking-end (walk_store σ start e) e wanted (rw one at S.walking))
+
+-- What the walk has settled in the store of the nodes up to the root's, it has settled in the store itself, where that has the root, and as many
+-- levels as the setting has bytes.
+module _ {σ : Store} {e : ℤ} {wanted : Bool} {start b : List ℕ} {n : ℕ} {asked : Bool} (S : Stepping σ e wanted start b n asked)
+    (there : nat_abs e ≤ σ.count) (long : length start ≡ σ.levels) where
+  answer-whole : (t : Setting) → answer (walk_store σ start e) t e ≡ answer σ t e
+  answer-whole t = slots-answer (walk_store σ start e) t e ∙ sym (slots-answer σ t e)
+
+  node-whole : (t : Setting) → node (walk_store σ start e) t n ≡ node σ t n
+  unfolding turn
+  node-whole t = slots-answer (walk_store σ start e) t (pos n) ∙ sym (slots-answer σ t (pos n))
+
+  depth-whole : depth (walk_store σ start e) n ≡ depth σ n
+  depth-whole = go n
+    where
+      go : (k : ℕ) → depth (walk_store σ start e) k ≡ depth σ k
+      go zero = long
+      go (suc zero) = long
+      go (suc (suc k)) = refl
+
+  pub walking-whole : Walking σ e wanted b n asked
+  walking-whole =
+      let T = S.walking.taking in
+      record {
+        taking = record {
+          some = T.some;
+          there = omega (arith, T.there, there);
+          left = λ t h. rw (answer-whole t, node-whole t) at (T.left t (λ j k. h j (omega (arith, k, depth-whole))));
+          least = λ t a l k. T.least t (answer-whole t ∙ a) l (omega (arith, k, depth-whole));
+          unset = λ l k. T.unset l (omega (arith, k, depth-whole));
+          can = T.can;
+        };
+        long = S.walking.long ∙ long;
+        bits = S.walking.bits;
+      }

@@ -73,7 +73,7 @@ module _ (l : NewLengths) (σ : Store) where
 
   module _ (t : takes l σ.count ≡ true) (z : Sizes old_limits σ) (o : Zeros σ) where
     -- the copy of all nodes is the store turned
-    copy-widened : copy_of σ.count 256 ≡ widened l.level σ
+    pub copy-widened : copy_of σ.count 256 ≡ widened l.level σ
     unfolding widened
     copy-widened =
         let T = takes-true l σ.count t in

@@ -19,7 +19,7 @@ use Rattle.store.specs.Store.{Store, store}
 use Rattle.widened.specs.Widen.{NewLengths, lengths_of, widen_fault, widened, zeroed, answer_by, left_by, widen_of}
 use Rattle.old_stores.specs.Promises.{Judged, CopyPromise}
 use Rattle.widening.specs.Course.{copy_fault, kept_unless}
-use Rattle.widening.proofs.Steps.{steps-fault, steps-left}
+use Rattle.widening.proofs.Steps.{copy-widened as copy-turned, steps-fault, steps-left}
 
 -- the lengths stay
 pub copied-lengths : (n k : ℕ) (σ τ υ : Store) → CopyPromise n k σ τ υ → lengths_of υ ≡ lengths_of τ
@@ -89,17 +89,25 @@ module _ (σ τ : Store) where
   unfolding widen_of
   whole-left q = ap (λ n. left_by n l σ) (sym q)
 
-  -- Nothing was found before. So many nodes are copied, and counted; r is what the check of the copy says.
-  module _ (J : Judged l σ 0) (n k : ℕ) (N : n ≡ σ.count) (K : k ≡ σ.count) (υ : Store) (P : CopyPromise n 256 σ τ υ) (r : Result Unit Refusal)
-      (F : fault_of r ≡ copy_fault 0 (store σ.levels k υ.level υ.then υ.els υ.next υ.heads)) where
-    -- it is what the turn says,
-    pub copy-fault : fault_of r ≡ widen_fault l σ
-    copy-fault =
-        steps-fault l σ 0 J N refl K P.level_left P.then_left P.els_left P.next_left P.heads_left F refl refl refl refl refl refl
+  -- Nothing was found before. So many nodes are copied, and counted.
+  module _ (J : Judged l σ 0) (n k : ℕ) (N : n ≡ σ.count) (K : k ≡ σ.count) (υ : Store) (P : CopyPromise n 256 σ τ υ) where
+    -- The copy is the store turned, whether it keeps the rules or not.
+    pub copy-widened : store σ.levels k υ.level υ.then υ.els υ.next υ.heads ≡ widened l.level σ
+    copy-widened =
+        let w = J.none refl in
+        rw (P.level_left, P.then_left, P.els_left, P.next_left, P.heads_left, N, K) (copy-turned l σ w.0 w.1.0 w.1.1)
 
-    -- and where it refuses nothing, the copy is what the turn leaves
-    pub copy-left : {u : Unit} (g : ℕ) → g ≡ σ.count → r ≡ Ok u → store σ.levels g υ.level υ.then υ.els υ.next υ.heads ≡ widened l.level σ
-    copy-left g G e =
-        let z : 0 ≡ fault_of r = sym (ap fault_of e) in
-        steps-left l σ 0 J {f = 0} N refl K P.level_left P.then_left P.els_left P.next_left P.heads_left (z ∙ F) refl refl refl refl refl G
-        ∙ whole-left (z ∙ copy-fault)
+    -- r is what the check of the copy says:
+    module _ (r : Result Unit Refusal) (F : fault_of r ≡ copy_fault 0 (store σ.levels k υ.level υ.then υ.els υ.next υ.heads)) where
+      -- it is what the turn says,
+      pub copy-fault : fault_of r ≡ widen_fault l σ
+      copy-fault =
+          steps-fault l σ 0 J N refl K P.level_left P.then_left P.els_left P.next_left P.heads_left F refl refl refl refl refl refl
+
+      -- and where it refuses nothing, the copy is what the turn leaves
+      pub copy-left : {u : Unit} (g : ℕ) → g ≡ σ.count → r ≡ Ok u
+          → store σ.levels g υ.level υ.then υ.els υ.next υ.heads ≡ widened l.level σ
+      copy-left g G e =
+          let z : 0 ≡ fault_of r = sym (ap fault_of e) in
+          steps-left l σ 0 J {f = 0} N refl K P.level_left P.then_left P.els_left P.next_left P.heads_left (z ∙ F) refl refl refl refl refl G
+          ∙ whole-left (z ∙ copy-fault)

@@ -14,7 +14,7 @@ use Rattle.edges.specs.Edge.{minus, turn}
 use Rattle.edges.proofs.Signed.{edge-back}
 use Rattle.store.specs.Store.{Store, store, level_at, then_at, else_at, slots}
 use Rattle.store.specs.Meaning.{Setting, setting_of, node_by, node, answer}
-use Rattle.store.specs.Rules.{Fits}
+use Rattle.store.specs.Rules.{depth, Fits}
 use Rattle.evaluation.specs.Evaluated.{Walks}
 use Rattle.store.proofs.Lower.{nodes-lower}
 use Rattle.store.proofs.Meaning.{node-step}
@@ -34,6 +34,20 @@ slots-node σ s n = slots-by n σ s n
 
 pub slots-answer : (σ : Store) (s : Setting) (e : ℤ) → answer σ s e ≡ answer (slots σ.level σ.then σ.els) s e
 slots-answer σ s e = ap (turn e) (slots-node σ s (nat_abs e))
+
+-- So a store with the same lists answers alike, whatever its levels and its count,
+module _ (σ : Store) (levels count : ℕ) where
+  pub lists-node : (s : Setting) (n : ℕ) → node (store levels count σ.level σ.then σ.els [] []) s n ≡ node σ s n
+  lists-node s n = slots-node (store levels count σ.level σ.then σ.els [] []) s n ∙ sym (slots-node σ s n)
+
+  pub lists-answer : (s : Setting) (e : ℤ) → answer (store levels count σ.level σ.then σ.els [] []) s e ≡ answer σ s e
+  lists-answer s e = ap (turn e) (lists-node s (nat_abs e))
+
+  -- and with as many levels its nodes lie as deep.
+  pub lists-depth : levels ≡ σ.levels → (n : ℕ) → depth (store levels count σ.level σ.then σ.els [] []) n ≡ depth σ n
+  lists-depth q zero = q
+  lists-depth q (suc zero) = q
+  lists-depth q (suc (suc k)) = refl
 
 -- Node 1 is yes.
 pub leaf-under : (σ : Store) (s : Setting) (odd : Bool) (n : ℕ) → n ≤ 1 → not odd ≡ xor odd (node σ s n)
@@ -105,13 +119,13 @@ module _ {σ : Store} {s : List ℕ} {n : ℕ} (w : Walks σ s n) where
     below = store (length s) n σ.level σ.then σ.els [] []
 
     same-answer : (e : ℤ) → answer below (setting_of s) e ≡ answer σ (setting_of s) e
-    same-answer e = slots-answer below (setting_of s) e ∙ sym (slots-answer σ (setting_of s) e)
+    same-answer e = lists-answer σ (length s) n (setting_of s) e
 
     -- the node's answer, by the setting's byte for its level
     node-is : node σ (setting_of s) n
         ≡ cond (setting_of s (level_at σ n)) (answer σ (setting_of s) (then_at σ n)) (answer σ (setting_of s) (else_at σ n))
     node-is =
-        slots-node σ (setting_of s) n ∙ sym (slots-node below (setting_of s) n)
+        sym (lists-node σ (length s) n (setting_of s) n)
         ∙ node-step below w.nodes (setting_of s) n h (le_refl n)
         ∙ ap₂ (λ a b. cond (setting_of s (level_at σ n)) a b) (same-answer (then_at σ n)) (same-answer (else_at σ n))
 

@@ -1,5 +1,5 @@
 -- One turn of the walk's loop, as the code reads the lists: an edge x as `to_z edge_width (of_z edge_width x)`.
-use Prim.Native.Nat.{ℕ, zero, suc, ◌≤◌, ◌<◌}
+use Prim.Native.Nat.{ℕ, ◌≤◌, ◌<◌}
 use mathlib.Core.Path.{◌≡◌, refl, sym, ap, fun_ext, ◌∙◌}
 use mathlib.Core.Bool.{Bool, true, false, not, xor, beq}
 use mathlib.Core.List.{List, []}
@@ -15,10 +15,10 @@ use Rattle.codes.specs.Answer.{value}
 use Rattle.store.specs.Store.{Store, store, level_at, then_at, else_at}
 use Rattle.store.specs.Settings.{chosen}
 use Rattle.store.specs.Rules.{depth}
-use Rattle.store.specs.Meaning.{Setting, node, answer}
+use Rattle.store.specs.Meaning.{Setting, answer}
 use Rattle.evaluation.specs.SettingBytes.{bytes_of}
 use Rattle.evaluation.specs.Evaluated.{Walks}
-use Rattle.evaluation.proofs.Walk.{slots-answer, walks-lower, fits}
+use Rattle.evaluation.proofs.Walk.{lists-node, lists-answer, lists-depth, walks-lower, fits}
 use Rattle.example_walk.specs.Example.{settings, first_of, answers_as}
 use Rattle.example_walk.specs.Course.{never, WalkAsks}
 use Rattle.example_walk.proofs.Walked.{Walking, walking_start, walking-no, walking-yes, walking-level, walking-end}
@@ -30,7 +30,7 @@ walk_store σ start e = store (length start) (nat_abs e) σ.level σ.then σ.els
 -- it has the same lists, so an edge answers alike there, and the first setting is the same
 answers-up : (σ : Store) (start : List ℕ) (e : ℤ) (wanted : Bool) → answers_as (walk_store σ start e) e wanted ≡ answers_as σ e wanted
 answers-up σ start e wanted =
-    fun_ext (λ t. ap (λ a. not (xor a wanted)) (slots-answer (walk_store σ start e) (chosen t) e ∙ sym (slots-answer σ (chosen t) e)))
+    fun_ext (λ t. ap (λ a. not (xor a wanted)) (lists-answer σ (length start) (nat_abs e) (chosen t) e))
 
 first-up : (σ : Store) (start : List ℕ) (e : ℤ) (wanted : Bool) {b : List ℕ}
     → (s : List Bool) × (b ≡ bytes_of s) × (first_of (answers_as (walk_store σ start e) e wanted) (settings (length start)) ≡ value s)
@@ -112,30 +112,20 @@ module _ {σ : Store} {e : ℤ} {wanted : Bool} {start : List ℕ} where
 -- levels as the setting has bytes.
 module _ {σ : Store} {e : ℤ} {wanted : Bool} {start b : List ℕ} {n : ℕ} {asked : Bool} (S : Stepping σ e wanted start b n asked)
     (there : nat_abs e ≤ σ.count) (long : length start ≡ σ.levels) where
-  answer-whole : (t : Setting) → answer (walk_store σ start e) t e ≡ answer σ t e
-  answer-whole t = slots-answer (walk_store σ start e) t e ∙ sym (slots-answer σ t e)
-
-  node-whole : (t : Setting) → node (walk_store σ start e) t n ≡ node σ t n
-  unfolding turn
-  node-whole t = slots-answer (walk_store σ start e) t (pos n) ∙ sym (slots-answer σ t (pos n))
-
   depth-whole : depth (walk_store σ start e) n ≡ depth σ n
-  depth-whole = go n
-    where
-      go : (k : ℕ) → depth (walk_store σ start e) k ≡ depth σ k
-      go zero = long
-      go (suc zero) = long
-      go (suc (suc k)) = refl
+  depth-whole = lists-depth σ (length start) (nat_abs e) long n
 
   pub walking-whole : Walking σ e wanted b n asked
   walking-whole =
       let T = S.walking.taking in
+      let answers : (t : Setting) → answer (walk_store σ start e) t e ≡ answer σ t e = λ t. lists-answer σ (length start) (nat_abs e) t e in
       record {
         taking = record {
           some = T.some;
           there = omega (arith, T.there, there);
-          left = λ t h. rw (answer-whole t, node-whole t) at (T.left t (λ j k. h j (omega (arith, k, depth-whole))));
-          least = λ t a l k. T.least t (answer-whole t ∙ a) l (omega (arith, k, depth-whole));
+          left = λ t h.
+              rw (answers t, lists-node σ (length start) (nat_abs e) t n) at (T.left t (λ j k. h j (omega (arith, k, depth-whole))));
+          least = λ t a l k. T.least t (answers t ∙ a) l (omega (arith, k, depth-whole));
           unset = λ l k. T.unset l (omega (arith, k, depth-whole));
           can = T.can;
         };

@@ -1,5 +1,5 @@
 -- One turn of each loop, over the lists that it is lent and as the code reads them: an edge x as `to_z edge_width (of_z edge_width x)`.
-use Prim.Native.Nat.{ℕ, zero, suc, ◌-◌, ◌≤◌, ◌<◌}
+use Prim.Native.Nat.{ℕ, ◌-◌, ◌≤◌, ◌<◌}
 use mathlib.Core.Path.{◌≡◌, refl, sym, ap, ap₂, ◌∙◌}
 use mathlib.Core.Bool.{Bool, true, false, not, xor, beq}
 use mathlib.Core.List.{List}
@@ -13,9 +13,9 @@ use Rattle.edges.specs.Edge.{minus, turn}
 use Rattle.codes.specs.Answer.{value, refused}
 use Rattle.store.specs.Store.{Store, level_at}
 use Rattle.store.specs.Rules.{depth}
-use Rattle.store.specs.Meaning.{Setting, setting_of, node, answer}
+use Rattle.store.specs.Meaning.{setting_of}
 use Rattle.evaluation.specs.Evaluated.{Walks}
-use Rattle.evaluation.proofs.Walk.{slots-answer, walks-lower, edge-under}
+use Rattle.evaluation.proofs.Walk.{lists-node, lists-answer, lists-depth, walks-lower, edge-under}
 use Rattle.tipping.specs.Tip.{flipped, tips, lowest_from}
 use Rattle.tipping.specs.Course.{mark_of, recall_of, open_at, Marked, WayAsks}
 use Rattle.tipping.proofs.Calling.{tips-slots}
@@ -195,23 +195,13 @@ module _ {σ : Store} {setting : List ℕ} where
     -- What the way has settled in the store of the nodes up to the root's, it has settled in the store itself, where that has the root, and as
     -- many levels as the setting has bytes.
     module _ (there : nat_abs e ≤ σ.count) (as_long : length setting ≡ σ.levels) where
-      answer-whole : (s : Setting) → answer (up_to σ setting (nat_abs e)) s e ≡ answer σ s e
-      answer-whole s = slots-answer (up_to σ setting (nat_abs e)) s e ∙ sym (slots-answer σ s e)
-
-      node-whole : (s : Setting) → node (up_to σ setting (nat_abs e)) s n ≡ node σ s n
-      unfolding turn
-      node-whole s = slots-answer (up_to σ setting (nat_abs e)) s (pos n) ∙ sym (slots-answer σ s (pos n))
-
       tips-whole : (l : ℕ) → tips (up_to σ setting (nat_abs e)) e (setting_of setting) l ≡ tips σ e (setting_of setting) l
-      tips-whole l = ap₂ xor (answer-whole (flipped (setting_of setting) l)) (answer-whole (setting_of setting))
+      tips-whole l =
+          ap₂ xor (lists-answer σ (length setting) (nat_abs e) (flipped (setting_of setting) l) e)
+          (lists-answer σ (length setting) (nat_abs e) (setting_of setting) e)
 
       depth-whole : depth (up_to σ setting (nat_abs e)) n ≡ depth σ n
-      depth-whole = go n
-        where
-          go : (k : ℕ) → depth (up_to σ setting (nat_abs e)) k ≡ depth σ k
-          go zero = as_long
-          go (suc zero) = as_long
-          go (suc (suc k)) = refl
+      depth-whole = lists-depth σ (length setting) (nat_abs e) as_long n
 
       pub down-whole : Down σ e (setting_of setting) n
       down-whole =
@@ -220,7 +210,8 @@ module _ {σ : Store} {setting : List ℕ} where
             there = omega (arith, D.down.there, there);
             above = λ l h. sym (tips-whole l) ∙ D.down.above l (omega (arith, h, depth-whole));
             below = λ l h. sym (tips-whole l) ∙ D.down.below l (omega (arith, h, depth-whole))
-                ∙ ap₂ xor (node-whole (flipped (setting_of setting) l)) (node-whole (setting_of setting));
+                ∙ ap₂ xor (lists-node σ (length setting) (nat_abs e) (flipped (setting_of setting) l) n)
+                (lists-node σ (length setting) (nat_abs e) (setting_of setting) n);
           }
 
     pub end-tipped : n ≤ 1 → {r : ℤ} → e ≡ r → refused 42 ≡ lowest_from (tips σ r (setting_of setting)) 0 (length setting)
